@@ -5,7 +5,6 @@
 //! be left out. `prepare FILE` is run on an object.
 #![tactic(auto)]
 
-mod peak;
 mod preparing;
 mod words;
 

@@ -1,6 +1,5 @@
 //! How long an object takes from its file to finished programs.
 
-use crate::peak::peak_kilobytes;
 use crate::words::Sources;
 use bench_types::{BenchError, read_bytes};
 use ebpf_btf::{Btf, Endianness};
@@ -8,9 +7,27 @@ use ebpf_commands::{Failure, prepare_all};
 use ebpf_object::Object;
 use ebpf_object::prepare::SymbolSource;
 use std::fs::{self, File};
-use std::io::BufReader;
+use std::io::{self, BufReader};
 use std::time::Instant;
 use test_bare_calls::{forget, let_go, parsed};
+
+/// The number in a line such as `VmHWM:     1234 kB`, where the line is that one.
+fn most_held(line: &str) -> Option<u64> {
+    let numbers = line.strip_prefix("VmHWM:")?;
+    let number = numbers.split_whitespace().next()?;
+    number.parse().ok()
+}
+
+/// The most memory that the process held so far, in KB, as /proc tells it; 0 where it does not.
+fn peak_kilobytes(rt: &HostRuntime) -> io::Result<u64> {
+    let status = fs::read_to_string(rt, "/proc/self/status")?;
+    for line in status.as_str().lines() {
+        if let Some(number) = most_held(line) {
+            return Ok(number);
+        }
+    }
+    Ok(0)
+}
 
 /// The object of a file.
 fn read_object(rt: &HostRuntime, path: &str) -> Result<Object, BenchError> {

@@ -2,7 +2,7 @@
 
 use crate::error::BenchError;
 use ebpf_btf::{Btf, BtfError, BtfKind, BtfType};
-use ebpf_candidates::TypeIndex;
+use ebpf_core_candidates::TypeIndex;
 use std::alloc::{AllocError, Global};
 
 /// How many candidates the names of each seventh type have together.

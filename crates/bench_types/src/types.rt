@@ -6,7 +6,7 @@ use crate::files::read_bytes;
 use crate::found::{print_counts, print_last};
 use crate::many_types::{KERNEL_GROUPS, many_types};
 use ebpf_btf::{Btf, Endianness};
-use ebpf_candidates::TypeIndex;
+use ebpf_core_candidates::TypeIndex;
 
 /// How often type information is read and indexed, the first time in memory that is new to the process.
 const RUNS: u32 = 6;

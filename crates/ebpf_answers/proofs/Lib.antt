@@ -1,3 +1,2 @@
 pub mod Fills
-pub mod NextRow
 pub mod Texts

@@ -1,14 +1,12 @@
 pub mod Answers
 pub mod Details
 pub mod Entries
-pub mod ExternRows
+pub mod ObjectRows
 pub mod Flags
 pub mod LentResults
 pub mod Listing
 pub mod Loading
 pub mod Numbers
 pub mod ProgramKinds
-pub mod Refusal
-pub mod RefusalRows
-pub mod SectionRows
+pub mod Refusals
 pub mod Told

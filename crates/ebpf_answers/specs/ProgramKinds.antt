@@ -1,6 +1,6 @@
 -- What the name of a program's section says, as numbers.
 use Rattle.std.specs.Prelude.{ℕ, ◌+◌, ◌*◌, Some, None, if◌then◌else◌}
-use Rattle.ebpf_parts.specs.AttachTypes.{attach_type_number, cgroup_skb_attach_type, cgroup_sock_attach_type, cgroup_sock_addr_attach_type, cgroup_sockopt_attach_type, sk_reuseport_attach_type, sk_skb_attach_type, xdp_attach_type}
+use Rattle.ebpf_parts.specs.ProgramTypes.{attach_type_number, cgroup_skb_attach_type, cgroup_sock_attach_type, cgroup_sock_addr_attach_type, cgroup_sockopt_attach_type, sk_reuseport_attach_type, sk_skb_attach_type, xdp_attach_type}
 use Rattle.ebpf_parts.specs.declared.program_section.ProgramSection.{ProgramSection}
 use Rattle.ebpf_parts.specs.declared.program_section.ProgramSection.TheVariants.{KRetProbe, KProbe, UProbe, URetProbe, TracePoint, SocketFilter, Xdp, SkMsg, SkSkbStream, SockOps, SchedClassifier, CgroupSkb, CgroupSockAddr, CgroupSysctl, CgroupSockopt, LircMode2, PerfEvent, RawTracePoint, Lsm, LsmCgroup, BtfTracePoint, FEntry, FExit, FlowDissector, Extension, SkLookup, SkReuseport, CgroupSock, CgroupDevice, Iter, Other}
 use Rattle.ebpf_answers.specs.Flags.{flag}

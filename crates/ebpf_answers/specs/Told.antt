@@ -4,12 +4,11 @@ use Rattle.std.specs.Prelude.{◌≡◌, ℕ, ◌==◌, List, [], ◌++◌, leng
 use Rattle.ebpf_answers.specs.Answers.{FillsList, FillsListing, Listed}
 use Rattle.ebpf_answers.specs.Details.{no_details}
 use Rattle.ebpf_answers.specs.Flags.{flag}
-use Rattle.ebpf_answers.specs.Refusal.{name_of}
-use Rattle.ebpf_answers.specs.RefusalRows.{refusal_row}
+use Rattle.ebpf_answers.specs.Refusals.{name_of, refusal_row}
 use Rattle.ebpf_answers.specs.declared.buffers.ebpf_counts.{ebpf_counts}
 use Rattle.ebpf_answers.specs.declared.codes.TheConstants.{ROOM}
 use Rattle.ebpf_answers.specs.declared.refusal.Refusal.{Refusal}
-use Rattle.ebpf_answers.specs.declared.refusal_row.ebpf_refusal.{ebpf_refusal}
+use Rattle.ebpf_answers.specs.declared.refusal.ebpf_refusal.{ebpf_refusal}
 
 -- a refusal by its number alone
 abbrev pub numbered : {X : Type 0} → Result X Refusal → Result X ℕ

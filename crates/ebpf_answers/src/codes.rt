@@ -1,5 +1,8 @@
 //! The numbers that calls answer.
 
+ghost use Rattle.std.specs.Prelude.{◌≡◌};
+ghost use Rattle.ebpf_answers.specs.Flags.{flag};
+
 /// All is done and written.
 pub const DONE: u32 = 0;
 /// A buffer is too small. Its count says how much is needed.
@@ -22,3 +25,10 @@ pub const NO_EXTERN: u32 = 8;
 pub const WRONG_LENGTH: u32 = 9;
 /// No variable of a map has the name.
 pub const NO_VARIABLE: u32 = 10;
+
+/// 1 where it is true, else 0.
+pub fn flag(is_true: bool) -> u32
+    ensures { result ≡ flag is_true }
+{
+    if is_true { 1 } else { 0 }
+}

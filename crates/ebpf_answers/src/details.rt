@@ -3,7 +3,7 @@
 ghost use Rattle.std.specs.Prelude.{◌≡◌};
 ghost use Rattle.ebpf_answers.specs.Details.{at_address, at_offset, at_section, at_slot, bits_of_counts, bits_of_places, has_of, no_details, of_count, of_index, of_kind, of_relocation, of_size, of_symbol, of_type, two_addresses, two_sizes};
 
-use crate::flags::flag;
+use crate::codes::flag;
 
 /// The numbers that an error states. Each is there where the error has it.
 #[derive(Clone, Copy)]
@@ -59,135 +59,109 @@ impl Details {
     }
 
     /// These, and a slot.
-    pub fn at_slot(self, slot: usize) -> Details
+    pub fn at_slot(mut self, slot: usize) -> Details
         ensures { result ≡ at_slot slot self }
     {
-        Details {
-            slot: Some(slot as u64),
-            ..self
-        }
+        self.slot = Some(slot as u64);
+        self
     }
 
     /// These, and an offset.
-    pub fn at_offset(self, offset: u64) -> Details
+    pub fn at_offset(mut self, offset: u64) -> Details
         ensures { result ≡ at_offset offset self }
     {
-        Details {
-            offset: Some(offset),
-            ..self
-        }
+        self.offset = Some(offset);
+        self
     }
 
     /// These, and a symbol.
-    pub fn of_symbol(self, symbol: usize) -> Details
+    pub fn of_symbol(mut self, symbol: usize) -> Details
         ensures { result ≡ of_symbol symbol self }
     {
-        Details {
-            symbol: Some(symbol as u64),
-            ..self
-        }
+        self.symbol = Some(symbol as u64);
+        self
     }
 
     /// These, and an address.
-    pub fn at_address(self, address: u64) -> Details
+    pub fn at_address(mut self, address: u64) -> Details
         ensures { result ≡ at_address address self }
     {
-        Details {
-            address: Some(address),
-            ..self
-        }
+        self.address = Some(address);
+        self
     }
 
     /// These, and two addresses.
-    pub fn two_addresses(self, first: u64, second: u64) -> Details
+    pub fn two_addresses(mut self, first: u64, second: u64) -> Details
         ensures { result ≡ two_addresses first second self }
     {
-        Details {
-            address: Some(first),
-            other_address: Some(second),
-            ..self
-        }
+        self.address = Some(first);
+        self.other_address = Some(second);
+        self
     }
 
     /// These, and a section.
-    pub fn at_section(self, section: usize) -> Details
+    pub fn at_section(mut self, section: usize) -> Details
         ensures { result ≡ at_section section self }
     {
-        Details {
-            section: Some(section as u64),
-            ..self
-        }
+        self.section = Some(section as u64);
+        self
     }
 
     /// These, and a size.
-    pub fn of_size(self, size: u64) -> Details
+    pub fn of_size(mut self, size: u64) -> Details
         ensures { result ≡ of_size size self }
     {
-        Details {
-            size: Some(size),
-            ..self
-        }
+        self.size = Some(size);
+        self
     }
 
     /// These, and two sizes.
-    pub fn two_sizes(self, first: u64, second: u64) -> Details
+    pub fn two_sizes(mut self, first: u64, second: u64) -> Details
         ensures { result ≡ two_sizes first second self }
     {
-        Details {
-            size: Some(first),
-            other_size: Some(second),
-            ..self
-        }
+        self.size = Some(first);
+        self.other_size = Some(second);
+        self
     }
 
     /// These, and a type.
-    pub fn of_type(self, type_id: u32) -> Details
+    pub fn of_type(mut self, type_id: u32) -> Details
         ensures { result ≡ of_type type_id self }
     {
-        Details {
-            type_id: Some(u64::from(type_id)),
-            ..self
-        }
+        self.type_id = Some(u64::from(type_id));
+        self
     }
 
     /// These, and a relocation.
-    pub fn of_relocation(self, relocation: usize) -> Details
+    pub fn of_relocation(mut self, relocation: usize) -> Details
         ensures { result ≡ of_relocation relocation self }
     {
-        Details {
-            relocation: Some(relocation as u64),
-            ..self
-        }
+        self.relocation = Some(relocation as u64);
+        self
     }
 
     /// These, and an index.
-    pub fn of_index(self, index: usize) -> Details
+    pub fn of_index(mut self, index: usize) -> Details
         ensures { result ≡ of_index index self }
     {
-        Details {
-            index: Some(index as u64),
-            ..self
-        }
+        self.index = Some(index as u64);
+        self
     }
 
     /// These, and how many there are.
-    pub fn of_count(self, count: usize) -> Details
+    pub fn of_count(mut self, count: usize) -> Details
         ensures { result ≡ of_count count self }
     {
-        Details {
-            count: Some(count as u64),
-            ..self
-        }
+        self.count = Some(count as u64);
+        self
     }
 
     /// These, and the number of a kind.
-    pub fn of_kind(self, kind: u32) -> Details
+    pub fn of_kind(mut self, kind: u32) -> Details
         ensures { result ≡ of_kind kind self }
     {
-        Details {
-            kind: Some(u64::from(kind)),
-            ..self
-        }
+        self.kind = Some(u64::from(kind));
+        self
     }
 
     /// Which places there are: `enum ebpf_detail`, added up.

@@ -46,7 +46,7 @@ pub fn add_row<R: Copy>(listing: &mut Listing<R>, row: R, name: &str) -> Result<
 }
 
 /// The rows and the names of things, in their order.
-#[tactic(auto, using(crate::proofs::NextRow::one_row, crate::proofs::NextRow::one_text, ebpf_base::proofs::Walks::rest_none))]
+#[tactic(auto, using(crate::proofs::Fills::one_row, crate::proofs::Fills::one_text, ebpf_base::proofs::Walks::rest_none))]
 pub fn list_all<V, C, R: Rows<V, C>>(
     alloc: Global,
     context: &C,

@@ -4,7 +4,7 @@
 ghost use Rattle.std.specs.Prelude.{◌≡◌};
 ghost use Rattle.ebpf_answers.specs.Loading.{is_multi, loaded_as, loaded_flags};
 
-use crate::flags::flag;
+use crate::codes::flag;
 use crate::program_kind::{NO_ATTACH_TYPE, attach_type, kind_flags, program_type};
 use ebpf_parts::ProgramSection;
 use ebpf_parts::programs::ProgramKind;

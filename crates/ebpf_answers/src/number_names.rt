@@ -1,9 +1,154 @@
 //! What numbers say.
 
-use crate::fault_names::{
-    EXTERN_FAULTS, FILE_FAULTS, GENERAL, INITIAL_SLOT_FAULTS, KCONFIG_FAULTS, KERNEL_TYPES_FAULTS,
-    PARSE_FAULTS, RECORD_FAULTS, SLOT_FAULTS, TYPE_FAULTS,
-};
+/// What is of no stage.
+const GENERAL: [&str; 11] = [
+    "Done",
+    "Room",
+    "OutOfMemory",
+    "Closed",
+    "NoProgram",
+    "NoMap",
+    "BadName",
+    "BadValue",
+    "NoExtern",
+    "WrongLength",
+    "NoVariable",
+];
+
+/// Faults of files.
+const FILE_FAULTS: [&str; 10] = [
+    "TooShort",
+    "BadMagic",
+    "NotElf64",
+    "BadByteOrder",
+    "BadSectionTable",
+    "BadSectionRange",
+    "BadStringTable",
+    "BadSymbolTable",
+    "BadRelocationTable",
+    "ExtendedNumbering",
+];
+
+/// Faults of types.
+const TYPE_FAULTS: [&str; 15] = [
+    "InvalidHeader",
+    "InvalidTypeInfo",
+    "InvalidInfo",
+    "InvalidStringOffset",
+    "InvalidRelocationKind",
+    "UnexpectedBtfType",
+    "UnknownBtfType",
+    "UnknownBtfTypeName",
+    "MaximumTypeDepth",
+    "InvalidDatasec",
+    "InvalidSymbolName",
+    "InnerMapCannotBePinned",
+    "MultiLevelMapInMapNotSupported",
+    "InvalidValuesSpec",
+    "TooLarge",
+];
+
+/// Other faults of parsing.
+const PARSE_FAULTS: [&str; 18] = [
+    "MissingLicenseNullTerminator",
+    "InvalidLicense",
+    "InvalidKernelVersion",
+    "UnsupportedRelocationTarget",
+    "InvalidProgramSection",
+    "InvalidProgramCode",
+    "InvalidMapDefinition",
+    "SymbolTableConflict",
+    "UnknownSymbol",
+    "InvalidSymbol",
+    "InvalidGlobalData",
+    "SymbolNotFound",
+    "MapNotFound",
+    "MapSymbolNameNotFound",
+    "NoSymbolsForSection",
+    "NoBTF",
+    "BigEndianCode",
+    "TooLarge",
+];
+
+/// Faults of a record on types.
+const RECORD_FAULTS: [&str; 10] = [
+    "SectionNotFound",
+    "FunctionNotFound",
+    "InvalidAccessString",
+    "InvalidInstructionIndex",
+    "ConflictingCandidates",
+    "MaximumNestingLevelReached",
+    "InvalidAccessIndex",
+    "InvalidRelocationKindForType",
+    "InvalidInstruction",
+    "MissingTargetDefinition",
+];
+
+/// Faults of slots.
+const SLOT_FAULTS: [&str; 12] = [
+    "UnknownSymbol",
+    "SectionNotFound",
+    "UnknownFunction",
+    "FunctionInfoMismatch",
+    "UnknownProgram",
+    "InvalidRelocationOffset",
+    "ExternNotFound",
+    "UnresolvableSymbol",
+    "UnsupportedTextSymbol",
+    "InvalidLineInfo",
+    "ProgramTooLong",
+    "MapAddressOverflow",
+];
+
+/// Faults of finding externs.
+const EXTERN_FAULTS: [&str; 9] = [
+    "TypedKsymRequiresKernelBtf",
+    "VariableNotFound",
+    "IncompatibleFunctionSignature",
+    "IncompatibleVariableType",
+    "InvalidExternType",
+    "AmbiguousResolution",
+    "KallsymsAccessError",
+    "KallsymsParseError",
+    "FunctionNotFound",
+];
+
+/// Faults of a file's types for the kernel.
+const KERNEL_TYPES_FAULTS: [&str; 5] = [
+    "NoSectionSize",
+    "NotAVariable",
+    "NoSymbol",
+    "UnsupportedExtern",
+    "TooLarge",
+];
+
+/// Faults of the initial values of maps.
+const INITIAL_SLOT_FAULTS: [&str; 11] = [
+    "UnknownSymbol",
+    "OutsideMaps",
+    "UnsupportedMapType",
+    "NotInMaps",
+    "UnsupportedKeySize",
+    "UnknownMap",
+    "UnknownProgram",
+    "NotAnEntryPoint",
+    "NoValues",
+    "OutsideValues",
+    "Misaligned",
+];
+
+/// Faults of externs that the kernel's configuration gives.
+const KCONFIG_FAULTS: [&str; 9] = [
+    "NotAVariable",
+    "UnreadableName",
+    "UnknownName",
+    "UnsupportedType",
+    "NoValue",
+    "WrongSize",
+    "TooLarge",
+    "UnsuitedValue",
+    "ValueOutOfRange",
+];
 
 /// The first number of a stage's faults, the stage, and the names of the faults.
 type Stage = (u32, &'static str, &'static [&'static str]);

@@ -5,9 +5,8 @@ ghost use Rattle.ebpf_answers.specs.Numbers.{parse_refusal};
 
 use crate::codes::MEMORY;
 use crate::details::Details;
-use crate::file_fault::file_fault;
 use crate::refusal::Refusal;
-use crate::type_fault::type_refusal;
+use crate::type_fault::{file_fault, type_refusal};
 use ebpf_parts::ParseError;
 
 /// The refusal for an error of parsing.

@@ -3,7 +3,7 @@
 ghost use Rattle.std.specs.Prelude.{◌≡◌};
 ghost use Rattle.ebpf_answers.specs.ProgramKinds.{attach_type, kind_flags, program_kind_number, program_type};
 
-use crate::flags::flag;
+use crate::codes::flag;
 use ebpf_parts::ProgramSection;
 use ebpf_parts::programs::bpf_attach_type;
 

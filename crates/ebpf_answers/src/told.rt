@@ -5,12 +5,10 @@ ghost use Rattle.ebpf_answers.specs.LentResults.{told_listing};
 ghost use Rattle.ebpf_answers.specs.Told.{LeavesList, LeavesListing, LeavesValue, plain_row};
 
 use crate::buffers::{ebpf_counts, write_list, write_listing};
-use crate::codes::ROOM;
+use crate::codes::{ROOM, flag};
 use crate::details::Details;
-use crate::flags::flag;
 use crate::listing::Listing;
-use crate::refusal::{Refusal, tell};
-use crate::refusal_row::{ebpf_refusal, refusal_row};
+use crate::refusal::{Refusal, ebpf_refusal, refusal_row, tell};
 use ebpf_base::Items;
 use std::alloc::Global;
 

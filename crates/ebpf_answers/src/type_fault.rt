@@ -1,12 +1,32 @@
 //! Why types can't be read.
 
 ghost use Rattle.std.specs.Prelude.{◌≡◌, ◌<◌, ◌≤◌};
-ghost use Rattle.ebpf_answers.specs.Numbers.{type_fault, type_refusal};
+ghost use Rattle.ebpf_answers.specs.Numbers.{file_fault, type_fault, type_refusal};
 
 use crate::codes::MEMORY;
 use crate::details::Details;
 use crate::refusal::Refusal;
 use ebpf_btf::BtfError;
+use ebpf_elf::ElfReadError;
+
+/// The number of a fault among the faults of files.
+pub fn file_fault(error: ElfReadError) -> u32
+    ensures fault { result ≡ file_fault error }
+    ensures few { result < 10 }
+{
+    match error {
+        ElfReadError::TooShort => 0,
+        ElfReadError::BadMagic => 1,
+        ElfReadError::NotElf64 => 2,
+        ElfReadError::BadByteOrder => 3,
+        ElfReadError::BadSectionTable => 4,
+        ElfReadError::BadSectionRange => 5,
+        ElfReadError::BadStringTable => 6,
+        ElfReadError::BadSymbolTable => 7,
+        ElfReadError::BadRelocationTable => 8,
+        ElfReadError::ExtendedNumbering => 9,
+    }
+}
 
 /// The number of a fault of types, the first of which has the number `first`, and the numbers that it states.
 pub fn type_fault(first: u32, error: &BtfError) -> (u32, Details)

@@ -1,12 +1,13 @@
 -- Items one after the other.
-use Rattle.std.proofs.Common.{◌≡◌, ◌+◌, ◌*◌, ◌<◌, ◌≤◌, ℕ, List, [], get_or, sym, ◌∷◌, ◌++◌, drop, add-one, Some, None, length, refl, ap, ◌∙◌, arith}
-use Rattle.std.specs.Prelude.{slice_get, map}
-use Rattle.std.specs.List.{range_with_len}
+use Rattle.std.proofs.Common.{◌≡◌, ◌+◌, ◌*◌, ◌<◌, ◌≤◌, ℕ, List, [], get_or, sym, ◌∷◌, ◌++◌, drop, add-one, Some, None, length, refl, ap, ◌∙◌, arith, Bool, true, false}
+use Rattle.std.specs.Prelude.{slice_get, map, ◌||◌}
+use Rattle.std.specs.List.{range_with_len, list_any}
 use Rattle.std.proofs.lemmas.List.FromFn.{length-map-range_with_len, get_or-map-range_with_len, map-range_with_len_more}
 use Rattle.std.proofs.lemmas.Option.{slice_get-get_or, slice_get_past, slice_get_within, get_or_from_slice_get}
 use Rattle.std.proofs.Math.Seq.{drop-cons}
 use Rattle.std.proofs.Math.ListN.{drop_of_length-le}
 use Rattle.ebpf_btf.specs.Items.{items_at}
+use Rattle.std.proofs.Math.Nat.{mul-le-mul_left}
 
 pub items_length : {X : Type 0} (item : ℕ → X) (size offset n : ℕ) → length (items_at item size offset n) ≡ n
 unfolding items_at
@@ -47,3 +48,23 @@ drop_none xs k past = drop_of_length-le xs past
 -- an item that is got is the one at its offset
 pub item_read : {X : Type 0} (xs : List X) (x : X) (k : ℕ) → slice_get xs k ≡ Some x → x ≡ get_or xs k x
 item_read xs x k is = sym (get_or_from_slice_get xs k x x is)
+
+-- ---- records of a size, one after the other
+
+-- each of them is inside what has all
+pub record_inside : (offset size count k least n : ℕ) → k < count → offset + size * count ≤ n → least ≤ size → offset + size * k + least ≤ n
+record_inside offset size count k least n below whole long =
+    let fits : size * (k + 1) ≤ size * count = mul-le-mul_left size (omega arith) in
+    omega arith
+
+-- ---- whether one of a list passes, looked at one after the other
+
+pub any_here : {X : Type 0} (test : X → Bool) (xs : List X) (k : ℕ) (x : X) → slice_get xs k ≡ Some x → test x ≡ true → list_any test (drop k xs) ≡ true
+any_here test xs k x is passes = ap (list_any test) (drop_some xs x k is) ∙ ap (λ b. b || list_any test (drop (k + 1) xs)) passes
+
+pub any_past : {X : Type 0} (test : X → Bool) (xs : List X) (k : ℕ) (x : X) → slice_get xs k ≡ Some x → test x ≡ false
+    → list_any test (drop k xs) ≡ list_any test (drop (k + 1) xs)
+any_past test xs k x is fails = ap (list_any test) (drop_some xs x k is) ∙ ap (λ b. b || list_any test (drop (k + 1) xs)) fails
+
+pub any_over : {X : Type 0} (test : X → Bool) (xs : List X) (k : ℕ) → length xs ≤ k → list_any test (drop k xs) ≡ false
+any_over test xs k past = ap (list_any test) (drop_none xs k past)

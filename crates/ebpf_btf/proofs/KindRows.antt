@@ -2,8 +2,7 @@
 use Rattle.std.proofs.Common.{◌≡◌, ◌==◌, ℕ, Bool, true, false, cond, Option, Some, None, refl, sym, ap, ◌∙◌, arith}
 use Rattle.std.proofs.lemmas.Bool.Decides.{nat_tests}
 use Rattle.ebpf_btf.specs.declared.kind.BtfKind.TheVariants as kinds
-use Rattle.ebpf_btf.specs.Format.{info_kind, info_kind_number}
-use Rattle.ebpf_btf.specs.KindTables.{KindsByNumber, NumbersOfKinds}
+use Rattle.ebpf_btf.specs.Format.{info_kind, info_kind_number, KindsByNumber, NumbersOfKinds}
 use Rattle.ebpf_btf.specs.Types.{kind_number}
 
 -- a row of a table, and what is known of the rows after it

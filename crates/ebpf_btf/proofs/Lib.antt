@@ -1,5 +1,4 @@
 pub mod Added
-pub mod AnyOf
 pub mod Beside
 pub mod Copies
 pub mod Cut
@@ -18,10 +17,8 @@ pub mod NearTexts
 pub mod OneAfterOther
 pub mod ReadBack
 pub mod ReadableOffsets
-pub mod RecordRanges
 pub mod SameWords
 pub mod Spelling
-pub mod Texts
 pub mod Tiles
 pub mod WordsBehind
 pub mod Written

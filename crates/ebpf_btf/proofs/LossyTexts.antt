@@ -2,14 +2,18 @@
 use Rattle.std.proofs.Common.{◌≡◌, ◌+◌, ◌<◌, ℕ, true, false, List, [], ◌∷◌, ◌++◌, length, take, drop, Option, Some, None, refl, sym, ap, ◌∙◌, drop-drop, arith, length-drop, take_all, ◌-◌}
 use Rattle.std.specs.Prelude.{nat_eq, MatchOption, unwrap_or}
 use Rattle.std.specs.Option.{option_map_or}
-use Rattle.std.specs.Str.{bytes_eq}
+use Rattle.std.specs.Str.{bytes_eq, IsUtf8}
 use Rattle.std.specs.Str.Lossy.{after_first_chunk, replacement_bytes, utf8_error_len, utf8_lossy, utf8_valid_len}
 use Rattle.std.specs.Cmp.Lexicographic.{pointwise}
 use Rattle.std.proofs.lemmas.Bool.Decides.{Decides-eqb, nat_tests}
 use Rattle.std.proofs.lemmas.Slice.Eq.{strip_prefix_is}
-use Rattle.std.proofs.lemmas.Str.{utf8_lossy_step}
+use Rattle.std.proofs.lemmas.Str.{utf8_lossy_step, utf8_lossy-IsUtf8}
 use denote.Ref.{Bor}
 use Rattle.ebpf_base.proofs.ZeroBytes.{no_same}
+
+-- what is UTF-8 stands as it is
+pub lossy_text : (bytes : List ℕ) → IsUtf8 bytes → utf8_lossy bytes ≡ bytes
+lossy_text bytes utf8 = utf8_lossy-IsUtf8 bytes utf8
 
 same_number : (x : ℕ) → nat_eq x x ≡ true
 same_number x = grind (arith, nat_tests)

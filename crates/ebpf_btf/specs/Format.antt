@@ -1,7 +1,7 @@
 -- The bytes of types (the kernel's Documentation/bpf/btf.rst, 2.2 "Type Encoding").
 -- A type is three words, that is numbers of four bytes: the offset of its name, its info, its size or another
 -- type. Then the words of its kind follow.
-use Rattle.std.specs.Prelude.{◌≡◌, ℕ, ◌+◌, ◌*◌, ◌/◌, ◌%◌, ◌^◌, ◌≤◌, Bool, List, [], ◌∷◌, length, Option, Some, None, ◌==◌, if◌then◌else◌}
+use Rattle.std.specs.Prelude.{◌≡◌, ℕ, ◌+◌, ◌*◌, ◌/◌, ◌%◌, ◌^◌, ◌≤◌, Bool, List, [], ◌∷◌, length, Option, Some, None, ◌==◌, if◌then◌else◌, ◌<◌}
 use Rattle.ebpf_base.specs.declared.endianness.Endianness.{Endianness}
 use Rattle.ebpf_btf.specs.declared.kind.BtfKind.{BtfKind}
 use Rattle.ebpf_btf.specs.declared.kind.BtfKind.TheVariants as kinds
@@ -14,7 +14,7 @@ use Rattle.ebpf_btf.specs.declared.types.BtfType.{BtfType}
 use Rattle.ebpf_btf.specs.declared.types.BtfType.TheVariants.{Unknown, Fwd, Const, Volatile, Restrict, Ptr, Typedef, Func, Int, Float, Enum, Array, Struct, Union, FuncProto, Var, DataSec, DeclTag, TypeTag, Enum64}
 use Rattle.ebpf_base.specs.Numbers.{number_at}
 use Rattle.ebpf_btf.specs.Items.{items_at}
-use Rattle.ebpf_btf.specs.Types.{kind_of}
+use Rattle.ebpf_btf.specs.Types.{kind_of, kind_number}
 
 abbrev pub word : Endianness → List ℕ → ℕ → ℕ
 word order bytes offset = number_at order 4 bytes offset
@@ -152,3 +152,13 @@ pub record IsTypeAt (o : Endianness) (bytes : List ℕ) (offset end : ℕ) (t : 
 abbrev pub AreTypesAt : Endianness → List ℕ → ℕ → List BtfType → Type 0
 AreTypesAt o bytes offset [] = offset ≡ length bytes
 AreTypesAt o bytes offset (t ∷ ts) = (next : ℕ) × IsTypeAt o bytes offset next t × (next ≤ length bytes) × AreTypesAt o bytes next ts
+
+-- ---- the tables of kinds and of their numbers, beside each other
+
+-- the kind that an info word has is the one of its number
+abbrev pub KindsByNumber : Type 0
+KindsByNumber = (info : ℕ) (kind : BtfKind) → info_kind info ≡ Some kind → kind_number kind ≡ info_kind_number info
+
+-- each kind but that of void stands in the info words that have its number
+abbrev pub NumbersOfKinds : Type 0
+NumbersOfKinds = (info : ℕ) (kind : BtfKind) → 0 < kind_number kind → info_kind_number info ≡ kind_number kind → info_kind info ≡ Some kind

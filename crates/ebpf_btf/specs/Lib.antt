@@ -3,7 +3,6 @@ pub mod EssentialNames
 pub mod Format
 pub mod Header
 pub mod Items
-pub mod KindTables
 pub mod Memory
 pub mod Next
 pub mod Reading

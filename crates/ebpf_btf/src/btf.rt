@@ -338,7 +338,7 @@ impl Btf {
     }
 
     /// Whether a UNION stands here that was an enumeration of 64 bits.
-    #[tactic(auto, using(crate::proofs::Held::none_has, crate::proofs::AnyOf::any_here, crate::proofs::AnyOf::any_past, crate::proofs::AnyOf::any_over))]
+    #[tactic(auto, using(crate::proofs::Held::none_has, crate::proofs::InOrder::any_here, crate::proofs::InOrder::any_past, crate::proofs::InOrder::any_over))]
     fn has_fallback(&self) -> bool
         ensures { result ≡ list_any has_fallback self.now.types }
     {

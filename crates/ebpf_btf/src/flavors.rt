@@ -1,6 +1,6 @@
 //! Names without their flavor.
 
-ghost use Rattle.std.specs.Prelude.{◌≡◌, ◌≤◌, ◌∷◌, length, drop, nat_eq, is_some, IfSome};
+ghost use Rattle.std.specs.Prelude.{◌≡◌, ◌≤◌, length, drop, nat_eq, is_some, IfSome};
 ghost use Rattle.std.specs.List.{starts_with};
 ghost use Rattle.ebpf_btf.specs.EssentialNames.{essential_name, flavor_mark, flavor_start};
 

@@ -138,7 +138,7 @@ impl<'a, R: ListRow> Rows<'a, R> {
 
     /// The one at an offset from 0 on where there is one.
     #[inline]
-    #[tactic(auto, using(crate::proofs::InOrder::item_some, crate::proofs::InOrder::item_read, crate::proofs::InOrder::items_length, crate::proofs::RecordRanges::record_inside))]
+    #[tactic(auto, using(crate::proofs::InOrder::item_some, crate::proofs::InOrder::item_read, crate::proofs::InOrder::items_length, crate::proofs::InOrder::record_inside))]
     pub fn at(&self, index: usize) -> R
         requires { index < length self.now }
         ensures found { slice_get self.now index ≡ Some result }
@@ -153,7 +153,7 @@ impl<'a, R: ListRow> Rows<'a, R> {
 
     /// The one at an offset from 0 on; None where there are not so many.
     #[inline]
-    #[tactic(auto, using(crate::proofs::InOrder::item_some, crate::proofs::InOrder::item_none, crate::proofs::RecordRanges::record_inside))]
+    #[tactic(auto, using(crate::proofs::InOrder::item_some, crate::proofs::InOrder::item_none, crate::proofs::InOrder::record_inside))]
     pub fn get(&self, index: usize) -> Option<R>
         ensures { result ≡ slice_get self.now index }
     {

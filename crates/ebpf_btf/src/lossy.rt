@@ -13,7 +13,7 @@ const REPLACEMENT: [u8; 3] = [0xef, 0xbf, 0xbd];
 
 /// The text at the front of some bytes, and what follows the wrong sequence that ends it. Without a wrong sequence
 /// all is text.
-#[tactic(auto, using(crate::proofs::Texts::lossy_text, crate::proofs::LossyTexts::lossy_split))]
+#[tactic(auto, using(crate::proofs::LossyTexts::lossy_text, crate::proofs::LossyTexts::lossy_split))]
 fn split_wrong(bytes: &[u8]) -> (&[u8], Option<&[u8]>)
     ensures text { IfNone result.1 (utf8_lossy bytes.now ≡ result.0.now) }
     ensures wrong { IfSome result.1 (λ rest. utf8_lossy bytes.now ≡ result.0.now ++ (replacement_bytes ++ utf8_lossy rest.now)) }

@@ -1,6 +1,6 @@
 //! Names of types.
 
-ghost use Rattle.std.specs.Prelude.{◌≡◌, ◌==◌, IfOk, IfErr, IfSome, Ok};
+ghost use Rattle.std.specs.Prelude.{◌≡◌, ◌==◌, IfOk, IfSome, Ok};
 ghost use Rattle.std.specs.Option.{ok_or};
 ghost use Rattle.std.specs.Cow.{cow_str_bytes};
 ghost use Rattle.ebpf_base.specs.Faults.{Refuses, Gives, fault_of};

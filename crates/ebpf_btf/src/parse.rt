@@ -1,14 +1,13 @@
 //! `.BTF`, read.
 
-ghost use Rattle.std.specs.Prelude.{◌≡◌, ◌+◌, ◌*◌, ◌-◌, ◌<◌, ◌≤◌, ◌^◌, ◌∷◌, List, [], length, slice_get, slice_range, drop, IfOk, Ok, None, Some, option_map};
+ghost use Rattle.std.specs.Prelude.{◌≡◌, ◌+◌, ◌*◌, ◌-◌, ◌<◌, ◌≤◌, ◌^◌, length, IfOk, Ok, Some};
 ghost use Rattle.std.specs.Option.{ok_or};
 ghost use Rattle.ebpf_base.specs.Faults.{Gives, Refuses, fault_of};
 ghost use Rattle.ebpf_btf.specs.Memory.{is_btf_memory};
 ghost use Rattle.ebpf_btf.specs.Offsets.{types_here, HoldsTypes};
-ghost use Rattle.ebpf_btf.specs.Reading.{Spells, header_fault, types_start, types_end, types_part, strings_start, strings_end, strings_in, types_from, types_of, type_info_of, prepend_types};
+ghost use Rattle.ebpf_btf.specs.Reading.{Spells, header_fault, types_start, types_end, types_part, strings_start, strings_end, strings_in, types_of, type_info_of};
 ghost use Rattle.ebpf_btf.specs.TypeInfo.{TypeInfo};
 ghost use Rattle.ebpf_btf.specs.declared.error.BtfError.TheVariants.{InvalidTypeInfo};
-ghost use Rattle.ebpf_btf.specs.declared.types.BtfType.TheVariants.{Unknown};
 
 use crate::btf::Btf;
 use crate::error::BtfError;

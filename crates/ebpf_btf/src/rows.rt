@@ -22,7 +22,7 @@ pub trait Row {
 }
 
 /// The rows from an offset on, `count` of them, each `size` bytes after the one before.
-#[tactic(auto, using(crate::proofs::InOrder::items_none, crate::proofs::InOrder::items_more, crate::proofs::RecordRanges::record_inside))]
+#[tactic(auto, using(crate::proofs::InOrder::items_none, crate::proofs::InOrder::items_more, crate::proofs::InOrder::record_inside))]
 pub fn read_rows<R: Row + Drop>(
     alloc: Global,
     order: Endianness,

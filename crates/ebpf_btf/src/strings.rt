@@ -33,7 +33,7 @@ fn before_zero(bytes: &[u8]) -> Option<&[u8]>
 }
 
 /// The text of some bytes, where each wrong sequence is U+FFFD. It is a copy only where one is wrong.
-#[tactic(auto, using(crate::proofs::Texts::lossy_text))]
+#[tactic(auto, using(crate::proofs::LossyTexts::lossy_text))]
 fn lossy(alloc: Global, bytes: &[u8]) -> Result<CowStr<'_, Global>, AllocError>
     ensures { IfOk result (λ text. cow_str_bytes text ≡ utf8_lossy bytes.now) }
 {

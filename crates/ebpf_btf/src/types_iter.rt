@@ -1,6 +1,6 @@
 //! The types of a `Btf` in turn.
 
-ghost use Rattle.std.specs.Prelude.{◌≡◌, drop, length};
+ghost use Rattle.std.specs.Prelude.{◌≡◌, drop};
 ghost use Rattle.std.specs.Iterator.{YieldsFirst, item_count};
 
 use crate::btf::Btf;

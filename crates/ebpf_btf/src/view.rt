@@ -1,6 +1,6 @@
 //! One type, seen in its bytes.
 
-ghost use Rattle.std.specs.Prelude.{◌≡◌, ◌+◌, ◌*◌, ◌≤◌, ◌<◌, ◌^◌, ℕ, length, IfOk, false, true, Some};
+ghost use Rattle.std.specs.Prelude.{◌≡◌, ◌+◌, ◌*◌, ◌≤◌, ◌<◌, ◌^◌, length, Some};
 ghost use Rattle.std.specs.Prelude.{IfSome, option_map};
 ghost use Rattle.ebpf_btf.specs.Offsets.{kind_here, type_here, end_here};
 ghost use Rattle.ebpf_btf.specs.Reading.{type_before};

@@ -1,7 +1,7 @@
 //! Types as words, and words as bytes.
 
-ghost use Rattle.std.specs.Prelude.{◌≡◌, ◌+◌, ◌*◌, ◌^◌, ◌++◌, ◌<◌, ◌≤◌, ℕ, flat_map, length, slice_index, OnOk, IfOk, true, false};
-ghost use Rattle.ebpf_btf.specs.Words.{count_of, flag_of, further_of, info_word, third_of, word_bytes, words_bytes, words_of};
+ghost use Rattle.std.specs.Prelude.{◌≡◌, ◌+◌, ◌*◌, ◌^◌, ◌++◌, ◌<◌, ℕ, flat_map, length, slice_index, OnOk, IfOk};
+ghost use Rattle.ebpf_btf.specs.Words.{count_of, further_of, info_word, word_bytes, words_bytes, words_of};
 ghost use Rattle.ebpf_btf.specs.Format.{IsTypeAt};
 ghost use Rattle.ebpf_btf.specs.Offsets.{without_fallback};
 ghost use Rattle.ebpf_btf.specs.Types.{kind_of, kind_number, name_off};

@@ -1,9 +1,3 @@
-pub mod DataSets
-pub mod HandleWords
-pub mod HeldPasses
-pub mod LooseWords
+pub mod Handles
+pub mod Texts
 pub mod MappedPrograms
-pub mod NamedMaps
-pub mod Objects
-pub mod RecordTexts
-pub mod Refusing

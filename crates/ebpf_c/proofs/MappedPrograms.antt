@@ -4,19 +4,17 @@ use Rattle.std.specs.Prelude.{Result, Ok, Err, MatchOption}
 use Rattle.std.specs.FinMap.{get}
 use Rattle.ebpf_model.specs.declared.error.EbpfRelocationError.{EbpfRelocationError}
 use Rattle.ebpf_model.specs.declared.program.Program.{Program}
-use Rattle.ebpf_object.specs.LinkedPrograms.{program_value}
-use Rattle.ebpf_object.specs.ProgramMaps.{MapsProgram}
+use Rattle.ebpf_object.specs.LinkedPrograms.{program_value, MapsProgram}
 use Rattle.ebpf_object.specs.declared.object.Object.{Object}
 use Rattle.ebpf_reloc.specs.declared.link_map.LinkMap.{LinkMap}
 use Rattle.ebpf_rows.specs.Descriptors.{text_of}
 use Rattle.ebpf_answers.specs.Entries.{value_by_bytes}
-use Rattle.ebpf_c.specs.LinkMapCalls.{own_parts, CannotMap, HasUnlinkable, IsLinkMapOf, IsUnlinkable}
+use Rattle.ebpf_c.specs.Answers.{own_parts, CannotMap, HasUnlinkable, IsLinkMapOf, IsUnlinkable}
 use Rattle.ebpf_answers.specs.Numbers.{slot_refusal}
-use Rattle.ebpf_answers.specs.Refusal.{plain}
+use Rattle.ebpf_answers.specs.Refusals.{plain}
 use Rattle.ebpf_answers.specs.declared.codes.TheConstants.{MEMORY, NO_PROGRAM}
 use Rattle.ebpf_answers.specs.declared.refusal.Refusal.{Refusal}
-use Rattle.ebpf_rows.proofs.ByText.{value_by_no_text, value_by_text}
-use Rattle.ebpf_rows.proofs.Rows.{text_same}
+use Rattle.ebpf_rows.proofs.Rows.{value_by_no_text, value_by_text, text_same}
 
 -- what is told of a program of a name, where there is one
 abbrev Told : Object → List ℕ → Result (Option LinkMap) EbpfRelocationError → Option Program → Type 0

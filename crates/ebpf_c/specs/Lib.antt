@@ -1,9 +1,4 @@
-pub mod HandleOwnership
-pub mod LinkMapCalls
-pub mod MapDataSettings
-pub mod Opened
-pub mod Passes
-pub mod Preparing
+pub mod Handles
+pub mod Answers
 pub mod Settings
-pub mod TargetAnswers
-pub mod TypesForKernel
+pub mod Passes

@@ -2,16 +2,15 @@
 
 ghost use Rattle.std.specs.Prelude.{◌≡◌, ◌<◌, OnOk, OnErr, IfErr};
 ghost use Rattle.ebpf_rows.specs.Handles.{Changes, IsRefused, WhyHeld};
-ghost use Rattle.ebpf_rows.specs.KconfigDefinitions.{CannotDefine, HasDefined};
+ghost use Rattle.ebpf_rows.specs.Kconfig.{CannotDefine, HasDefined};
 
 use crate::handle::ebpf_handle;
 use ebpf_answers::codes::{BAD_NAME, BAD_VALUE, CLOSED, DONE, MEMORY};
-use ebpf_answers::refusal::{Refusal, answered, tell};
-use ebpf_answers::refusal_row::ebpf_refusal;
+use ebpf_answers::refusal::{Refusal, answered, ebpf_refusal, tell};
 use ebpf_kconfig::define_kconfig;
 use ebpf_object::Object;
-use ebpf_rows::given_rows::given_values;
-use ebpf_rows::kconfig_refusal::kconfig_refusal;
+use ebpf_rows::reads::given_values;
+use ebpf_rows::refusals::kconfig_refusal;
 use ebpf_rows::value_rows::{are_named, ebpf_value, have_values};
 use std::alloc::Global;
 

@@ -4,9 +4,9 @@ ghost use Rattle.std.specs.Prelude.{◌≡◌, Option, Some, None, option_map};
 ghost use Rattle.std.specs.Coded.{coded_option};
 ghost use Rattle.ebpf_object.specs.contracts.object.Object.{the_row as object_row};
 ghost use Rattle.ebpf_object.specs.declared.object.Object.{Object};
-ghost use Rattle.ebpf_c.specs.HandleOwnership.{handle_owns};
+ghost use Rattle.ebpf_c.specs.Handles.{handle_owns};
 
-use crate::loose::Loose;
+use crate::names::Loose;
 use ebpf_object::Object;
 use std::alloc::Global;
 use std::marker::Model;

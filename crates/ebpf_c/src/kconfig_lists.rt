@@ -3,23 +3,22 @@
 ghost use Rattle.std.specs.Prelude.{◌≡◌, MatchResult, Result};
 ghost use Rattle.ebpf_answers.specs.Answers.{Listed};
 ghost use Rattle.ebpf_rows.specs.Handles.{FindsHeld};
-ghost use Rattle.ebpf_rows.specs.KconfigCalls.{CannotListKconfig, IsKconfigList};
+ghost use Rattle.ebpf_rows.specs.Kconfig.{CannotListKconfig, IsKconfigList};
 ghost use Rattle.ebpf_answers.specs.LentResults.{told_listing};
 ghost use Rattle.ebpf_answers.specs.Told.{LeavesListing};
-ghost use Rattle.ebpf_rows.specs.declared.kconfig_rows.ebpf_kconfig_extern.{ebpf_kconfig_extern};
+ghost use Rattle.ebpf_rows.specs.declared.value_rows.ebpf_kconfig_extern.{ebpf_kconfig_extern};
 ghost use Rattle.ebpf_answers.specs.declared.refusal.Refusal.{Refusal};
 
 use crate::handle::ebpf_handle;
 use ebpf_answers::buffers::ebpf_counts;
 use ebpf_answers::codes::{CLOSED, MEMORY};
 use ebpf_answers::listing::{Listing, list_all};
-use ebpf_answers::refusal::Refusal;
-use ebpf_answers::refusal_row::ebpf_refusal;
+use ebpf_answers::refusal::{Refusal, ebpf_refusal};
 use ebpf_answers::told::tell_listing;
 use ebpf_kconfig::kconfig;
 use ebpf_object::Object;
-use ebpf_rows::kconfig_refusal::kconfig_refusal;
-use ebpf_rows::kconfig_rows::ebpf_kconfig_extern;
+use ebpf_rows::refusals::kconfig_refusal;
+use ebpf_rows::value_rows::ebpf_kconfig_extern;
 use std::alloc::Global;
 
 /// Lists the externs of an object.

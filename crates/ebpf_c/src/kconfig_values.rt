@@ -5,20 +5,19 @@ ghost use Rattle.std.specs.List.{find};
 ghost use Rattle.std.specs.Option.{option_copied};
 ghost use Rattle.std.specs.Str.{bytes_eq};
 ghost use Rattle.ebpf_rows.specs.Handles.{FindsHeld};
-ghost use Rattle.ebpf_rows.specs.KconfigCalls.{extern_named, CannotConfigure, CannotFindExtern, CannotNumber, IsConfigured, IsNumbered, IsWanted};
+ghost use Rattle.ebpf_rows.specs.Kconfig.{extern_named, CannotConfigure, CannotFindExtern, CannotNumber, IsConfigured, IsNumbered, IsWanted};
 ghost use Rattle.ebpf_answers.specs.Told.{LeavesList, LeavesValue};
 ghost use Rattle.ebpf_answers.specs.declared.refusal.Refusal.{Refusal};
 
 use crate::handle::ebpf_handle;
 use ebpf_answers::codes::{CLOSED, MEMORY, NO_EXTERN};
-use ebpf_answers::refusal::Refusal;
-use ebpf_answers::refusal_row::ebpf_refusal;
+use ebpf_answers::refusal::{Refusal, ebpf_refusal};
 use ebpf_answers::told::{tell_items, tell_value};
 use ebpf_base::Items;
 use ebpf_kconfig::{KconfigExtern, kconfig, kconfig_number, kconfig_value};
 use ebpf_object::Object;
-use ebpf_rows::descriptors::text_of;
-use ebpf_rows::kconfig_refusal::kconfig_refusal;
+use ebpf_rows::reads::text_of;
+use ebpf_rows::refusals::kconfig_refusal;
 use std::alloc::Global;
 
 /// The first extern of a name.

@@ -1,23 +1,84 @@
-//! The calls that tell what a linked program is made of.
+//! Programs linked, and the maps of their links.
 
-ghost use Rattle.std.specs.Prelude.{◌≡◌, List, Result};
+ghost use Rattle.std.specs.Prelude.{MatchResult, ◌≡◌, List, Result};
 ghost use Rattle.ebpf_answers.specs.Answers.{Listed};
-ghost use Rattle.ebpf_rows.specs.Handles.{FindsHeld};
-ghost use Rattle.ebpf_c.specs.LinkMapCalls.{CannotMap, IsCopyList, IsReferenceList};
+ghost use Rattle.ebpf_answers.specs.LentResults.{told_listing};
 ghost use Rattle.ebpf_answers.specs.Told.{LeavesList, LeavesListing};
-ghost use Rattle.ebpf_rows.specs.declared.link_map_rows.ebpf_code_copy.{ebpf_code_copy};
-ghost use Rattle.ebpf_rows.specs.declared.link_map_rows.ebpf_code_reference.{ebpf_code_reference};
 ghost use Rattle.ebpf_answers.specs.declared.refusal.Refusal.{Refusal};
+ghost use Rattle.ebpf_c.specs.Answers.{CannotMap, IsCopyList, IsLinkMapOf, IsReferenceList};
+ghost use Rattle.ebpf_rows.specs.Handles.{FindsHeld};
+ghost use Rattle.ebpf_rows.specs.declared.record_rows.ebpf_code_copy.{ebpf_code_copy};
+ghost use Rattle.ebpf_rows.specs.declared.record_rows.ebpf_code_reference.{ebpf_code_reference};
 
 use crate::handle::ebpf_handle;
-use crate::link_maps::{copies_of, references_of};
 use ebpf_answers::buffers::ebpf_counts;
-use ebpf_answers::codes::CLOSED;
-use ebpf_answers::refusal::Refusal;
-use ebpf_answers::refusal_row::ebpf_refusal;
+use ebpf_answers::codes::{CLOSED, MEMORY, NO_PROGRAM};
+use ebpf_answers::listing::{Listing, list_all};
+use ebpf_answers::refusal::{Refusal, ebpf_refusal};
+use ebpf_answers::slot_refusal::slot_refusal;
 use ebpf_answers::told::{tell_items, tell_listing};
-use ebpf_rows::link_map_rows::{ebpf_code_copy, ebpf_code_reference};
+use ebpf_base::Items;
+use ebpf_object::Object;
+use ebpf_reloc::LinkMap;
+use ebpf_rows::reads::text_of;
+use ebpf_rows::record_rows::{ebpf_code_copy, ebpf_code_reference, list_references};
 use std::alloc::Global;
+
+/// The number of the first fault of linking.
+const FIRST_FAULT: u32 = 600;
+
+/// The link map of the program that some bytes name.
+#[tactic(auto, using(crate::proofs::MappedPrograms::no_text, crate::proofs::MappedPrograms::mapped, crate::proofs::MappedPrograms::no_program, crate::proofs::MappedPrograms::unlinkable))]
+fn link_map_of(object: &Object, name: &[u8]) -> Result<LinkMap, Refusal>
+    ensures { MatchResult result (IsLinkMapOf name.now object.now) (CannotMap name.now object.now) }
+{
+    let Some(text) = text_of(name) else {
+        return Err(Refusal::plain(NO_PROGRAM));
+    };
+    match object.own_link_map(text) {
+        Ok(Some(map)) => Ok(map),
+        Ok(None) => Err(Refusal::plain(NO_PROGRAM)),
+        Err(error) => Err(slot_refusal(FIRST_FAULT, error)),
+    }
+}
+
+/// The copies that the linked program of a name is made of.
+#[tactic(auto, using(crate::proofs::MappedPrograms::no_memory))]
+pub fn copies_of(
+    alloc: Global,
+    object: &Object,
+    name: &[u8],
+) -> Result<Listing<ebpf_code_copy>, Refusal>
+    ensures { MatchResult (told_listing result) (IsCopyList name.now object.now) (CannotMap name.now object.now) }
+{
+    let map = match link_map_of(object, name) {
+        Ok(map) => map,
+        Err(refusal) => return Err(refusal),
+    };
+    match list_all(alloc, &(), map.copies.as_slice()) {
+        Ok(listing) => Ok(listing),
+        Err(_) => Err(Refusal::plain(MEMORY)),
+    }
+}
+
+/// The references between those copies.
+#[tactic(auto, using(crate::proofs::MappedPrograms::no_memory))]
+pub fn references_of(
+    alloc: Global,
+    object: &Object,
+    name: &[u8],
+) -> Result<Items<ebpf_code_reference>, Refusal>
+    ensures { MatchResult result (IsReferenceList name.now object.now) (CannotMap name.now object.now) }
+{
+    let map = match link_map_of(object, name) {
+        Ok(map) => map,
+        Err(refusal) => return Err(refusal),
+    };
+    match list_references(alloc, map.references.as_slice()) {
+        Ok(rows) => Ok(rows),
+        Err(_) => Err(Refusal::plain(MEMORY)),
+    }
+}
 
 /// Lists what the program with a name is made of once it is linked: a row for each copy of a function, in their order, the
 /// program's own at slot 0, and then each function that its references reach; and the functions' names in `text`, a zero

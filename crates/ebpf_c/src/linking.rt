@@ -6,8 +6,7 @@ ghost use Rattle.ebpf_c.specs.Passes.{CannotLink, HasLinked};
 
 use crate::handle::ebpf_handle;
 use ebpf_answers::codes::{CLOSED, DONE};
-use ebpf_answers::refusal::{Refusal, answered, tell};
-use ebpf_answers::refusal_row::ebpf_refusal;
+use ebpf_answers::refusal::{Refusal, answered, ebpf_refusal, tell};
 use ebpf_answers::slot_refusal::slot_refusal;
 use ebpf_model::EbpfRelocationError;
 use ebpf_object::Object;

@@ -1,18 +1,28 @@
-//! The calls that list what an object has.
+//! Lists of what an object has, and its rows by their names.
 
-ghost use Rattle.std.specs.Prelude.{◌≡◌, Ok};
-ghost use Rattle.ebpf_answers.specs.Answers.{FillsListing, or_memory};
+ghost use Rattle.std.specs.Prelude.{◌≡◌, Ok, MatchResult, Result};
+ghost use Rattle.ebpf_answers.specs.Answers.{FillsListing, or_memory, Listed};
+ghost use Rattle.ebpf_answers.specs.LentResults.{told_listing};
+ghost use Rattle.ebpf_answers.specs.Told.{LeavesListing};
+ghost use Rattle.ebpf_answers.specs.declared.refusal.Refusal.{Refusal};
+ghost use Rattle.ebpf_rows.specs.Handles.{FindsHeld};
+ghost use Rattle.ebpf_rows.specs.InitialSlotRows.{CannotListSlots, IsSlotList};
+ghost use Rattle.ebpf_rows.specs.NamedRows.{answer_row, map_named, program_named, row_after};
 ghost use Rattle.ebpf_rows.specs.Reads.{extern_list, map_list, of_open, program_list, section_list};
+ghost use Rattle.ebpf_rows.specs.declared.programs.ebpf_initial_slot.{ebpf_initial_slot};
 
 use crate::handle::ebpf_handle;
-use ebpf_answers::buffers::ebpf_counts;
-use ebpf_answers::codes::CLOSED;
-use ebpf_answers::externs::ebpf_extern;
-use ebpf_answers::lists::write_all;
-use ebpf_answers::sections::ebpf_section;
+use ebpf_answers::buffers::{ebpf_counts, write_all};
+use ebpf_answers::codes::{CLOSED, MEMORY};
+use ebpf_answers::entries::{ebpf_extern, ebpf_section};
+use ebpf_answers::listing::{Listing, list_all};
+use ebpf_answers::refusal::{Refusal, ebpf_refusal};
+use ebpf_answers::told::tell_listing;
+use ebpf_initial_slots::initial_slots;
 use ebpf_object::Object;
-use ebpf_rows::maps::ebpf_map;
-use ebpf_rows::programs::ebpf_program;
+use ebpf_rows::maps::{ebpf_map, map_named, program_named, write_row};
+use ebpf_rows::programs::{ebpf_initial_slot, ebpf_program};
+use ebpf_rows::refusals::initial_slots_refusal;
 use std::alloc::Global;
 
 /// Lists the programs of an object, as `ebpf_programs` does.
@@ -125,6 +135,104 @@ pub extern "C" fn ebpf_sections(
         return CLOSED;
     };
     let number = write_all(alloc, &(), &object.section_infos, rows, text, counts);
+    handle.put(alloc, object);
+    number
+}
+
+/// Lists the initial values of an object's maps.
+fn list_initial_slots(
+    alloc: Global,
+    file: &[u8],
+    object: &Object,
+) -> Result<Listing<ebpf_initial_slot>, Refusal>
+    ensures { MatchResult (told_listing result) (IsSlotList file.now object.now) (CannotListSlots file.now object.now) }
+{
+    let slots = match initial_slots(alloc, file, object) {
+        Ok(slots) => slots,
+        Err(error) => return Err(initial_slots_refusal(error)),
+    };
+    match list_all(alloc, &(), slots.as_slice()) {
+        Ok(listing) => Ok(listing),
+        Err(_) => Err(Refusal::plain(MEMORY)),
+    }
+}
+
+/// Lists the initial values of an object's maps of maps and arrays of programs: a row each by the maps' names in byte order,
+/// then by index; in `text` the name of each row's map and then that of what stands there, a zero byte behind each. `file`
+/// are the bytes that the object was opened from.
+///
+/// # Answers
+///
+/// 0; 1 where not all fits; 2; 3 where the handle is closed; 800 to 809 where the bytes are no file; 820 to 830 for the
+/// first relocation that can't be told, from 822 on about its map. The buffers are then as they were, and `counts` too but
+/// for 1.
+#[unsafe(no_mangle)]
+pub extern "C" fn ebpf_initial_slots(
+    alloc: Global,
+    file: &[u8],
+    handle: &mut ebpf_handle,
+    rows: &mut [ebpf_initial_slot],
+    text: &mut [u8],
+    counts: &mut ebpf_counts,
+    about: &mut [u8],
+    report: &mut ebpf_refusal,
+) -> u32
+    ensures stays { handle.new.object ≡ handle.old.object }
+    ensures listed { (found : Result (Listed ebpf_initial_slot) Refusal) × FindsHeld (IsSlotList file.now) (CannotListSlots file.now) handle.old.object found × LeavesListing found result rows.old rows.new text.old text.new counts.old counts.new about.old about.new report.old report.new }
+{
+    let Some(object) = handle.take(alloc) else {
+        let closed = Err(Refusal::plain(CLOSED));
+        return tell_listing(closed, rows, text, counts, about, report);
+    };
+    let found = list_initial_slots(alloc, file, &object);
+    handle.put(alloc, object);
+    tell_listing(found, rows, text, counts, about, report)
+}
+
+/// Finds the map with a name: its row is that of `ebpf_maps`, but that its name stands in `name`, at 0.
+///
+/// # Answers
+///
+/// 0; 3 where the handle is closed; 5 where no map has the name. The row is then as it was.
+#[unsafe(no_mangle)]
+pub extern "C" fn ebpf_find_map(
+    alloc: Global,
+    handle: &mut ebpf_handle,
+    name: &[u8],
+    row: &mut ebpf_map,
+) -> u32
+    ensures stays { handle.new.object ≡ handle.old.object }
+    ensures answer { result ≡ answer_row (of_open (map_named name.now) handle.old.object) }
+    ensures row { row.new ≡ row_after (of_open (map_named name.now) handle.old.object) row.old }
+{
+    let Some(object) = handle.take(alloc) else {
+        return CLOSED;
+    };
+    let number = write_row(map_named(&object, name), row);
+    handle.put(alloc, object);
+    number
+}
+
+/// Finds the program with a name: its row is that of `ebpf_programs`, but that its name stands in `name`, at 0.
+///
+/// # Answers
+///
+/// 0; 3 where the handle is closed; 4 where no program has the name. The row is then as it was.
+#[unsafe(no_mangle)]
+pub extern "C" fn ebpf_find_program(
+    alloc: Global,
+    handle: &mut ebpf_handle,
+    name: &[u8],
+    row: &mut ebpf_program,
+) -> u32
+    ensures stays { handle.new.object ≡ handle.old.object }
+    ensures answer { result ≡ answer_row (of_open (program_named name.now) handle.old.object) }
+    ensures row { row.new ≡ row_after (of_open (program_named name.now) handle.old.object) row.old }
+{
+    let Some(object) = handle.take(alloc) else {
+        return CLOSED;
+    };
+    let number = write_row(program_named(&object, name), row);
     handle.put(alloc, object);
     number
 }

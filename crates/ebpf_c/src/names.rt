@@ -1,10 +1,13 @@
 //! The names of numbers.
 
-ghost use Rattle.std.specs.Prelude.{◌++◌, ℕ, List, Ok};
+ghost use Rattle.std.specs.Prelude.{◌++◌, ℕ, List, Ok, ◌≡◌};
+ghost use Rattle.std_alloc.specs.Box.Ownership.{box_owns};
 ghost use Rattle.ebpf_answers.specs.Answers.{FillsList};
 
 use ebpf_answers::codes::{DONE, ROOM};
 use ebpf_answers::number_names::name_of;
+use std::alloc::Allocator;
+use std::marker::Model;
 
 /// Writes two lists, one after the other, to the front of a buffer where they fit, and how much they are.
 fn write_both(first: &[u8], second: &[u8], out: &mut [u8], count: &mut usize) -> u32
@@ -32,4 +35,33 @@ pub extern "C" fn ebpf_number_name(number: u32, text: &mut [u8], len: &mut usize
 {
     let (stage, fault) = name_of(number);
     write_both(stage.as_bytes(), fault.as_bytes(), text, len)
+}
+
+/// A box taken apart: the pointer, which owns what the box owned, and what frees it.
+pub struct Loose<T, A: Allocator> {
+    pub at: *mut T,
+    pub alloc: A,
+    pub ghost value: { T },
+}
+
+impl<T, A: Allocator> Model for Loose<T, A> {
+    ghost also_owns = { λ l. box_owns (A.dealloc_token l.alloc) T.row l.at l.value };
+}
+
+impl<T: Drop, A: Allocator> Loose<T, A> {
+    /// Takes a box apart.
+    pub fn of(owner: Box<T, A>) -> Loose<T, A>
+        ensures { result.value ≡ owner.value }
+    {
+        let (at, alloc) = Box::into_raw_with_allocator(owner);
+        Loose { at, alloc }
+    }
+
+    /// Makes the box again.
+    pub fn into_box(self) -> Box<T, A>
+        ensures { result.value ≡ self.value }
+    {
+        let Loose { at, alloc } = self;
+        unsafe { Box::from_raw(alloc, at) }
+    }
 }

@@ -2,15 +2,14 @@
 
 ghost use Rattle.std.specs.Prelude.{◌≡◌, ◌⊎◌, ◌<◌, IfOk, IfErr, None, Some, MatchOption};
 ghost use Rattle.ebpf_rows.specs.Handles.{IsRefused};
-ghost use Rattle.ebpf_c.specs.Opened.{CannotOpen};
+ghost use Rattle.ebpf_c.specs.Handles.{CannotOpen};
 ghost use Rattle.ebpf_object.specs.Objects.{object_as, object_of, parse_fault, parse_fault_as};
 ghost use Rattle.ebpf_parts.specs.declared.reading.Reading.TheVariants.{Broad, Stated};
 
 use crate::handle::ebpf_handle;
 use ebpf_answers::codes::{CLOSED, DONE, MEMORY};
 use ebpf_answers::parse_refusal::parse_refusal;
-use ebpf_answers::refusal::{Refusal, tell};
-use ebpf_answers::refusal_row::ebpf_refusal;
+use ebpf_answers::refusal::{Refusal, ebpf_refusal, tell};
 use ebpf_object::Object;
 use ebpf_object::obj::Reading;
 use std::alloc::{AllocError, Global};

@@ -2,15 +2,14 @@
 
 ghost use Rattle.std.specs.Prelude.{◌≡◌, ◌<◌, IfOk, IfErr, None, Some};
 ghost use Rattle.ebpf_rows.specs.Handles.{IsRefused};
-ghost use Rattle.ebpf_c.specs.Opened.{CannotOpenWithin, reading_of};
+ghost use Rattle.ebpf_c.specs.Handles.{CannotOpenWithin, reading_of};
 ghost use Rattle.ebpf_limits.specs.Within.{within_fault};
 ghost use Rattle.ebpf_object.specs.Objects.{object_as};
 
 use crate::handle::ebpf_handle;
 use ebpf_answers::codes::{DONE, MEMORY};
 use ebpf_answers::parse_refusal::parse_refusal;
-use ebpf_answers::refusal::{Refusal, tell};
-use ebpf_answers::refusal_row::ebpf_refusal;
+use ebpf_answers::refusal::{Refusal, ebpf_refusal, tell};
 use ebpf_limits::{Limits, parse_within};
 use ebpf_object::Object;
 use ebpf_object::obj::Reading;

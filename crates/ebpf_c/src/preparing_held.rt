@@ -2,16 +2,15 @@
 
 ghost use Rattle.std.specs.Prelude.{◌≡◌, ◌<◌, OnOk, OnErr, IfErr};
 ghost use Rattle.ebpf_rows.specs.Handles.{Changes, IsRefused, WhyHeld};
-ghost use Rattle.ebpf_c.specs.Preparing.{inputs_of, CannotPrepareHeld, HasPreparedHeld};
+ghost use Rattle.ebpf_c.specs.Passes.{inputs_of, CannotPrepareHeld, HasPreparedHeld};
 
 use crate::handle::ebpf_handle;
 use ebpf_answers::codes::{BAD_NAME, CLOSED, DONE, MEMORY};
-use ebpf_answers::refusal::{Refusal, answered, tell};
-use ebpf_answers::refusal_row::ebpf_refusal;
+use ebpf_answers::refusal::{Refusal, answered, ebpf_refusal, tell};
 use ebpf_object::Object;
 use ebpf_object::prepare::{Steps, SymbolText, prepare_in_place};
-use ebpf_rows::descriptors::{descriptors_in, ebpf_descriptor, have_names};
-use ebpf_rows::prepare_refusal::prepare_refusal;
+use ebpf_rows::reads::{descriptors_in, ebpf_descriptor, have_names};
+use ebpf_rows::refusals::prepare_refusal;
 use ebpf_rows::target_types::read_types_if;
 use std::alloc::Global;
 

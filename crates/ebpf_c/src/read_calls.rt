@@ -3,13 +3,12 @@
 ghost use Rattle.std.specs.Prelude.{◌≡◌, MatchOption};
 ghost use Rattle.ebpf_answers.specs.Answers.{FillsList, or_memory};
 ghost use Rattle.ebpf_answers.specs.Flags.{flag};
-ghost use Rattle.ebpf_rows.specs.Info.{info_of, states_license};
+ghost use Rattle.ebpf_rows.specs.FileTypes.{info_of, states_license};
 ghost use Rattle.ebpf_rows.specs.Reads.{read_func_infos, read_license, read_line_infos, read_map_data, of_open, read_section_name, read_slots};
 
 use crate::handle::ebpf_handle;
 use ebpf_answers::buffers::write_list;
-use ebpf_answers::codes::{CLOSED, DONE};
-use ebpf_answers::flags::flag;
+use ebpf_answers::codes::{CLOSED, DONE, flag};
 use ebpf_ext::{bpf_func_info, bpf_line_info};
 use ebpf_object::Object;
 use ebpf_parts::insn::bpf_insn;

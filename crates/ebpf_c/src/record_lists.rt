@@ -4,7 +4,7 @@ ghost use Rattle.std.specs.Prelude.{◌≡◌, IfOk, MatchResult, Result};
 ghost use Rattle.ebpf_answers.specs.Answers.{Listed};
 ghost use Rattle.ebpf_rows.specs.Handles.{FindsHeld};
 ghost use Rattle.ebpf_answers.specs.LentResults.{told_listing};
-ghost use Rattle.ebpf_rows.specs.RecordRows.{outcome_list, CannotListOutcomes, IsOutcomeList};
+ghost use Rattle.ebpf_rows.specs.Records.{outcome_list, CannotListOutcomes, IsOutcomeList};
 ghost use Rattle.ebpf_answers.specs.Told.{LeavesListing};
 ghost use Rattle.ebpf_rows.specs.declared.record_rows.ebpf_record_outcome.{ebpf_record_outcome};
 ghost use Rattle.ebpf_answers.specs.declared.refusal.Refusal.{Refusal};
@@ -13,8 +13,7 @@ use crate::handle::ebpf_handle;
 use ebpf_answers::buffers::ebpf_counts;
 use ebpf_answers::codes::{CLOSED, MEMORY};
 use ebpf_answers::listing::{Listing, list_all};
-use ebpf_answers::refusal::Refusal;
-use ebpf_answers::refusal_row::ebpf_refusal;
+use ebpf_answers::refusal::{Refusal, ebpf_refusal};
 use ebpf_answers::told::tell_listing;
 use ebpf_btf::Btf;
 use ebpf_object::Object;
@@ -23,7 +22,7 @@ use ebpf_rows::target_types::read_types;
 use std::alloc::{AllocError, Global};
 
 /// The rows of an object's records over a kernel's types.
-#[tactic(auto, using(crate::proofs::RecordTexts::listed_alike))]
+#[tactic(auto, using(crate::proofs::Texts::listed_alike))]
 fn rows_over(
     alloc: Global,
     object: &Object,

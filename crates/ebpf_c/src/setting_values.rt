@@ -2,13 +2,12 @@
 
 ghost use Rattle.std.specs.Prelude.{◌≡◌, ◌<◌, OnOk, OnErr, IfErr};
 ghost use Rattle.ebpf_rows.specs.Handles.{Changes, IsRefused, WhyHeld};
-ghost use Rattle.ebpf_rows.specs.Values.{CannotPatchAll, HasPatchedAll};
+ghost use Rattle.ebpf_rows.specs.Variables.{CannotPatchAll, HasPatchedAll};
 
 use crate::handle::ebpf_handle;
 use ebpf_answers::codes::{BAD_NAME, BAD_VALUE, CLOSED, DONE, MEMORY};
 use ebpf_answers::parse_refusal::parse_refusal;
-use ebpf_answers::refusal::{Refusal, answered, tell};
-use ebpf_answers::refusal_row::ebpf_refusal;
+use ebpf_answers::refusal::{Refusal, answered, ebpf_refusal, tell};
 use ebpf_object::Object;
 use ebpf_rows::value_rows::{are_named, ebpf_value, have_values, values_in};
 use std::alloc::Global;

@@ -2,9 +2,8 @@
 
 use crate::session::{Judgement, KernelAnswer, Session};
 use ebpf_base::Text;
-use ebpf_report::json::separate;
 use ebpf_report::kinds::Kind;
-use ebpf_report::names::Quoted;
+use ebpf_report::names::{Quoted, separate, write_value};
 use ebpf_verdict::findings::{At, Found, Location, Rank, Topic};
 use std::collections::{BTreeMap, BTreeSet};
 use std::io::{self, Write};
@@ -12,7 +11,7 @@ use std::io::{self, Write};
 /// Writes the programs that count.
 fn write_programs<W: Write>(out: &mut W, session: &Session) -> io::Result<()> {
     write!(out, "\"programs\":[")?;
-    for (number, program) in session.loaded.programs.iter().enumerate() {
+    for (number, program) in session.loaded.needs.programs.iter().enumerate() {
         separate(out, number == 0)?;
         let name = Quoted(program.name.as_str());
         let section = Quoted(program.section.as_str());
@@ -29,7 +28,7 @@ fn write_breaking<W: Write>(
 ) -> io::Result<()> {
     let mut is_first = true;
     write!(out, "\"breaks\":[")?;
-    for (number, program) in session.loaded.programs.iter().enumerate() {
+    for (number, program) in session.loaded.needs.programs.iter().enumerate() {
         if !kernel.breaks(number) {
             continue;
         }
@@ -94,7 +93,7 @@ fn write_place<W: Write>(
     at: At,
     place: &Location,
 ) -> io::Result<()> {
-    let name = match session.loaded.programs.get(at.0) {
+    let name = match session.loaded.needs.programs.get(at.0) {
         Some(program) => program.name.as_str(),
         None => "",
     };
@@ -171,15 +170,6 @@ fn write_found<W: Write>(
     write!(out, "}}")
 }
 
-/// Writes a value, which may have a sign.
-fn write_value<W: Write>(out: &mut W, is_signed: bool, value: u64) -> io::Result<()> {
-    if is_signed {
-        let value = value.cast_signed();
-        return write!(out, "{value}");
-    }
-    write!(out, "{value}")
-}
-
 /// Writes the values that kernels give.
 fn write_values<W: Write>(
     out: &mut W,
@@ -239,7 +229,7 @@ fn write_rank<W: Write>(out: &mut W, session: &Session, key: &str, rank: Rank) -
 /// Writes the settings of the kernel that the object asks for.
 fn write_settings<W: Write>(out: &mut W, session: &Session) -> io::Result<()> {
     write!(out, "\"wanted\":[")?;
-    for (number, name) in session.loaded.settings.iter().enumerate() {
+    for (number, name) in session.loaded.needs.settings.iter().enumerate() {
         separate(out, number == 0)?;
         let name = Quoted(name.as_str());
         write!(out, "{name}")?;

@@ -3,12 +3,8 @@
 
 mod json;
 mod kernel_files;
-mod kernel_order;
 mod printing;
-mod programs;
 mod run;
 mod session;
-mod words;
 
-pub use run::check;
-pub use words::CheckWords;
+pub use run::{CheckWords, check};

@@ -2,20 +2,13 @@
 
 use crate::session::{Judgement, KernelAnswer, Session};
 use ebpf_report::kinds::Kind;
-use ebpf_report::names::{Shown, last_part};
+use ebpf_report::names::{Shown, last_part, write_value};
 use ebpf_verdict::findings::{At, Found, Location, Rank, Topic};
 use std::collections::{BTreeMap, BTreeSet};
 use std::io::{self, Write};
 
 /// How many kernels a line names where not all are told.
 const NAMED: usize = 3;
-
-/// How the lines are written.
-#[derive(Clone, Copy)]
-pub struct Manner {
-    /// Whether every kernel is named.
-    pub all: bool,
-}
 
 /// Writes the line of a kernel that is done.
 pub fn write_kernel<W: Write>(
@@ -52,14 +45,9 @@ fn write_name<W: Write>(out: &mut W, name: Shown<'_>, is_first: bool) -> io::Res
 }
 
 /// Writes the names of kernels: all, or the first three and how many more there are.
-fn write_names<W: Write>(
-    out: &mut W,
-    session: &Session,
-    manner: Manner,
-    kernels: &[usize],
-) -> io::Result<()> {
+fn write_names<W: Write>(out: &mut W, session: &Session, kernels: &[usize]) -> io::Result<()> {
     let count = kernels.len();
-    let named = if manner.all || count <= NAMED {
+    let named = if session.all || count <= NAMED {
         count
     } else {
         NAMED
@@ -77,12 +65,7 @@ fn write_names<W: Write>(
 }
 
 /// Writes on which kernels something is found.
-fn write_on<W: Write>(
-    out: &mut W,
-    session: &Session,
-    manner: Manner,
-    kernels: &[usize],
-) -> io::Result<()> {
+fn write_on<W: Write>(out: &mut W, session: &Session, kernels: &[usize]) -> io::Result<()> {
     let count = kernels.len();
     let judged = session.judged();
     write!(out, "on {count} of {judged}")?;
@@ -90,7 +73,7 @@ fn write_on<W: Write>(
         return Ok(());
     }
     write!(out, ": ")?;
-    write_names(out, session, manner, kernels)
+    write_names(out, session, kernels)
 }
 
 /// Writes the program of a place, its slot and the function that the slot was copied from.
@@ -100,7 +83,7 @@ fn write_slot<W: Write>(
     at: At,
     place: &Location,
 ) -> io::Result<()> {
-    if let Some(program) = session.loaded.programs.get(at.0) {
+    if let Some(program) = session.loaded.needs.programs.get(at.0) {
         let name = Shown(program.name.as_str());
         write!(out, "{name}")?;
     }
@@ -118,7 +101,6 @@ fn write_slot<W: Write>(
 fn write_place<W: Write>(
     out: &mut W,
     session: &Session,
-    manner: Manner,
     at: At,
     place: &Location,
     kernels: &[usize],
@@ -131,7 +113,7 @@ fn write_place<W: Write>(
     }
     if place.kernels.len() < kernels.len() {
         write!(out, "  (")?;
-        write_on(out, session, manner, &place.kernels)?;
+        write_on(out, session, &place.kernels)?;
         write!(out, ")")?;
     }
     writeln!(out, "")
@@ -141,12 +123,11 @@ fn write_place<W: Write>(
 fn write_places<W: Write>(
     out: &mut W,
     session: &Session,
-    manner: Manner,
     places: &BTreeMap<At, Location>,
     kernels: &[usize],
 ) -> io::Result<()> {
     for (at, place) in places.iter() {
-        write_place(out, session, manner, *at, place, kernels)?;
+        write_place(out, session, *at, place, kernels)?;
     }
     Ok(())
 }
@@ -173,22 +154,20 @@ fn write_reason<W: Write>(out: &mut W, topic: &Topic, kinds: &BTreeSet<Kind>) ->
 fn write_found<W: Write>(
     out: &mut W,
     session: &Session,
-    manner: Manner,
     topic: &Topic,
     found: &Found,
 ) -> io::Result<()> {
     write_reason(out, topic, &found.kinds)?;
     write!(out, "    ")?;
-    write_on(out, session, manner, &found.kernels)?;
+    write_on(out, session, &found.kernels)?;
     writeln!(out, "")?;
-    write_places(out, session, manner, &found.places, &found.kernels)
+    write_places(out, session, &found.places, &found.kernels)
 }
 
 /// Writes the values that kernels give.
 fn write_values<W: Write>(
     out: &mut W,
     session: &Session,
-    manner: Manner,
     is_signed: bool,
     values: &BTreeMap<u64, Vec<usize>>,
 ) -> io::Result<()> {
@@ -196,26 +175,16 @@ fn write_values<W: Write>(
         write!(out, "    ")?;
         write_value(out, is_signed, *value)?;
         write!(out, " on ")?;
-        write_names(out, session, manner, kernels)?;
+        write_names(out, session, kernels)?;
         writeln!(out, "")?;
     }
     Ok(())
-}
-
-/// Writes a value, which may have a sign.
-fn write_value<W: Write>(out: &mut W, is_signed: bool, value: u64) -> io::Result<()> {
-    if is_signed {
-        let value = value.cast_signed();
-        return write!(out, "{value}");
-    }
-    write!(out, "{value}")
 }
 
 /// Writes what has other values: what it is with the object's own value, and those of kernels.
 fn write_changed<W: Write>(
     out: &mut W,
     session: &Session,
-    manner: Manner,
     topic: &Topic,
     found: &Found,
 ) -> io::Result<()> {
@@ -229,7 +198,7 @@ fn write_changed<W: Write>(
         write_value(out, topic.is_signed, own)?;
     }
     writeln!(out, " in the object")?;
-    write_values(out, session, manner, topic.is_signed, &found.values)
+    write_values(out, session, topic.is_signed, &found.values)
 }
 
 /// The line over the findings of a rank.
@@ -242,12 +211,7 @@ fn heading(rank: Rank) -> &'static str {
 }
 
 /// Writes the findings of a rank under its heading, where there are some.
-fn write_rank<W: Write>(
-    out: &mut W,
-    session: &Session,
-    manner: Manner,
-    rank: Rank,
-) -> io::Result<()> {
+fn write_rank<W: Write>(out: &mut W, session: &Session, rank: Rank) -> io::Result<()> {
     if !session.has(rank) {
         return Ok(());
     }
@@ -258,8 +222,8 @@ fn write_rank<W: Write>(
             continue;
         }
         match rank {
-            Rank::Changed => write_changed(out, session, manner, topic, found)?,
-            _ => write_found(out, session, manner, topic, found)?,
+            Rank::Changed => write_changed(out, session, topic, found)?,
+            _ => write_found(out, session, topic, found)?,
         }
     }
     Ok(())
@@ -267,14 +231,14 @@ fn write_rank<W: Write>(
 
 /// Writes the settings of the kernel that the object asks for.
 fn write_settings<W: Write>(out: &mut W, session: &Session) -> io::Result<()> {
-    if session.loaded.settings.is_empty() {
+    if session.loaded.needs.settings.is_empty() {
         return Ok(());
     }
     writeln!(
         out,
         "WANTED (of the kernel's configuration; not looked for)"
     )?;
-    for name in session.loaded.settings.iter() {
+    for name in session.loaded.needs.settings.iter() {
         let name = Shown(name.as_str());
         writeln!(out, "  {name}")?;
     }
@@ -285,7 +249,7 @@ fn write_settings<W: Write>(out: &mut W, session: &Session) -> io::Result<()> {
 fn write_summary<W: Write>(out: &mut W, session: &Session) -> io::Result<()> {
     let file = Shown(session.file.as_str());
     let judged = session.judged();
-    let programs = session.loaded.programs.len();
+    let programs = session.loaded.needs.programs.len();
     let broken = session.broken();
     let breaking = session.breaking_programs();
     if judged == 0 {
@@ -309,13 +273,13 @@ fn write_summary<W: Write>(out: &mut W, session: &Session) -> io::Result<()> {
 }
 
 /// Writes what was found over all kernels, behind the lines of the kernels.
-pub fn write_findings<W: Write>(out: &mut W, session: &Session, manner: Manner) -> io::Result<()> {
+pub fn write_findings<W: Write>(out: &mut W, session: &Session) -> io::Result<()> {
     writeln!(out, "")?;
-    write_rank(out, session, manner, Rank::Breaks)?;
-    write_rank(out, session, manner, Rank::Guarded)?;
-    write_rank(out, session, manner, Rank::Changed)?;
+    write_rank(out, session, Rank::Breaks)?;
+    write_rank(out, session, Rank::Guarded)?;
+    write_rank(out, session, Rank::Changed)?;
     write_settings(out, session)?;
-    if !session.findings.topics.is_empty() || !session.loaded.settings.is_empty() {
+    if !session.findings.topics.is_empty() || !session.loaded.needs.settings.is_empty() {
         writeln!(out, "")?;
     }
     write_summary(out, session)

@@ -2,35 +2,65 @@
 
 use crate::json::write_json;
 use crate::kernel_files::{KernelFile, kernel_files};
-use crate::printing::{Manner, write_findings, write_kernel};
-use crate::programs::counting;
+use crate::printing::{write_findings, write_kernel};
 use crate::session::{Judgement, Session};
-use crate::words::CheckWords;
-use ebpf_base::Text;
+use ebpf_base::{Items, Text};
 use ebpf_object::Object;
 use ebpf_report::kernel_types::read_kernel;
-use ebpf_report::object_file::read_object;
-use ebpf_report::parsed::parsed_object;
-use ebpf_report::programs::{ObjectProgram, object_programs};
+use ebpf_report::object_file::{parsed_object, read_object};
+use ebpf_report::programs::ObjectProgram;
 use ebpf_report::refusal::{READING, Refusal};
-use ebpf_report::refuse::{check_names, tell};
-use ebpf_report::stop::Stop;
+use ebpf_report::refuse::{Stop, chosen_programs, tell};
 use ebpf_verdict::loaded::{Loaded, Needs};
 use std::alloc::{AllocError, Global};
 use std::io::{self, BufWriter, Stdout, Write};
 
-/// The programs of an object that count; a name that no program has is told.
-fn chosen_programs(
+/// Programs without those that are loaded only where someone asks for them.
+fn without_optional(
+    alloc: Global,
+    programs: Vec<ObjectProgram>,
+) -> Result<Vec<ObjectProgram>, AllocError> {
+    let mut counted = Vec::new(alloc);
+    for program in programs {
+        if program.is_optional() {
+            continue;
+        }
+        counted.push(program)?;
+    }
+    Ok(counted)
+}
+
+/// What `ebpf check` is to do.
+#[derive(Drop)]
+pub struct CheckWords {
+    /// The object's file.
+    pub file: Text,
+    /// Which of the objects in the file, where it holds several.
+    pub object: Option<usize>,
+    /// The kernels: files and folders.
+    pub kernels: Items<Text>,
+    /// The programs that count, where they are named.
+    pub programs: Items<Text>,
+    /// Whether all is told: every kernel by name, and each value that moved.
+    pub all: bool,
+    /// Whether it is told as JSON.
+    pub json: bool,
+}
+
+/// The programs of an object that count: those of the names or, without a name, those that are loaded unasked; a name that
+/// no program has is told.
+fn counting(
     rt: &HostRuntime,
     words: &CheckWords,
     file: &[u8],
     object: &Object,
 ) -> Result<Vec<ObjectProgram>, Stop> {
-    let alloc = rt.alloc();
-    let names = words.programs.as_slice();
-    let programs = object_programs(alloc, file, object)?;
-    check_names(rt, words.json, words.file.as_str(), &programs, names)?;
-    Ok(counting(alloc, programs, names)?)
+    let (path, names) = (words.file.as_str(), words.programs.as_slice());
+    let programs = chosen_programs(rt, words.json, path, file, object, names)?;
+    if names.is_empty() {
+        return Ok(without_optional(rt.alloc(), programs)?);
+    }
+    Ok(programs)
 }
 
 /// What is asked of the object of a file's bytes, with the programs that count.
@@ -40,14 +70,14 @@ fn needs_of(
     file: &[u8],
     object: &Object,
 ) -> Result<Needs, Stop> {
-    let programs = chosen_programs(rt, words, file, object)?;
+    let programs = counting(rt, words, file, object)?;
     Ok(Needs::of(rt.alloc(), object, programs, words.all)?)
 }
 
 /// An object with what is asked of it.
 fn with_needs(object: Object, needs: Result<Needs, Stop>) -> Result<Loaded, Stop> {
     match needs {
-        Ok(needs) => Ok(Loaded::new(object, needs)),
+        Ok(needs) => Ok(Loaded { object, needs }),
         Err(stop) => {
             drop(object);
             Err(stop)
@@ -108,7 +138,7 @@ fn tell_unread(rt: &HostRuntime, session: &Session) {
 
 /// Tells a kernel that is done.
 fn tell_kernel(out: &mut BufWriter<Stdout>, session: &Session) -> io::Result<()> {
-    let programs = session.loaded.programs.len();
+    let programs = session.loaded.needs.programs.len();
     match session.kernels.last() {
         Some(kernel) => {
             write_kernel(out, kernel, programs)?;
@@ -145,7 +175,7 @@ fn tell_findings(
     if words.json {
         write_json(out, session)?;
     } else {
-        write_findings(out, session, Manner { all: words.all })?;
+        write_findings(out, session)?;
     }
     out.flush()
 }
@@ -174,6 +204,6 @@ fn check_kernels(rt: &HostRuntime, words: &CheckWords, session: &mut Session) ->
 pub fn check(rt: &HostRuntime, words: &CheckWords) -> Result<u8, Stop> {
     let name = words.file.clone()?;
     let loaded = load(rt, words)?;
-    let mut session = Session::new(rt.alloc(), name, loaded);
+    let mut session = Session::new(rt.alloc(), name, loaded, words.all);
     check_kernels(rt, words, &mut session)
 }

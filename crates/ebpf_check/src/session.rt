@@ -67,6 +67,8 @@ impl KernelAnswer {
 pub struct Session {
     /// The name of the object's file.
     pub file: Text,
+    /// Whether every kernel is named.
+    pub all: bool,
     /// The object.
     pub loaded: Loaded,
     /// The kernels so far.
@@ -77,9 +79,10 @@ pub struct Session {
 
 impl Session {
     /// An object, over no kernel yet.
-    pub fn new(alloc: Global, file: Text, loaded: Loaded) -> Session {
+    pub fn new(alloc: Global, file: Text, loaded: Loaded, all: bool) -> Session {
         Session {
             file,
+            all,
             loaded,
             kernels: Vec::new(alloc),
             findings: Findings::new(alloc),
@@ -116,10 +119,7 @@ impl Session {
 
     /// How many kernels' types can't be read.
     pub fn unread(&self) -> usize {
-        self.kernels
-            .iter()
-            .filter(|kernel| !kernel.is_judged())
-            .count()
+        self.kernels.len().saturating_sub(self.judged())
     }
 
     /// On how many kernels some program breaks.
@@ -137,7 +137,7 @@ impl Session {
 
     /// How many programs break on some kernel.
     pub fn breaking_programs(&self) -> usize {
-        let count = self.loaded.programs.len();
+        let count = self.loaded.needs.programs.len();
         (0..count)
             .filter(|program| self.breaks_somewhere(*program))
             .count()

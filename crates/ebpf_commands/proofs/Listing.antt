@@ -2,7 +2,7 @@
 use Rattle.std.proofs.Common.{◌≡◌, ℕ, Bool, true, false, cond, List, [], ◌∷◌, map, Option, Some, None, refl, sym, ap, ◌∙◌, subst}
 use Rattle.std.proofs.lemmas.Option.{none-some}
 use Rattle.std.proofs.lemmas.Slice.Eq.{bytes_eq-Decides}
-use Rattle.std.specs.Prelude.{⊤, MatchBool, MatchOption, IsSome}
+use Rattle.std.specs.Prelude.{⊤, MatchBool}
 use Rattle.std.specs.FinMap.{get, entries, find, get-entries}
 use Rattle.std.specs.Ordering.{eq_by_cmp}
 use Rattle.std.specs.Str.{bytes_eq}
@@ -13,7 +13,7 @@ use Rattle.ebpf_commands.proofs.Refusing.{nothing}
 use Rattle.ebpf_commands.specs.Failures.{is_outside, IsFailureOf}
 use Rattle.ebpf_commands.specs.Linked.{IsFileLinked}
 use Rattle.ebpf_commands.specs.Listed.{HasInspected, report_named}
-use Rattle.ebpf_commands.specs.PrivateContracts.{LacksNamedReport}
+use Rattle.ebpf_commands.specs.Done.{LacksNamedReport}
 use Rattle.ebpf_commands.specs.declared.failure.Failure.{Failure}
 use Rattle.ebpf_commands.specs.declared.failure.Failure.TheVariants.{CannotRead, Btf, Preparing, NoProgram, CannotWrite, Memory}
 use Rattle.ebpf_inspect.specs.Inspected.{AreReports}

@@ -7,7 +7,7 @@ use Rattle.std.specs.Map.{keys_of}
 use Rattle.ebpf_base.specs.Keys.{lent_bytes, text_cmp}
 use Rattle.ebpf_btf.specs.TypeInfo.{TypeInfo}
 use Rattle.ebpf_commands.specs.Linked.{default_passes, following, numbered_descriptors}
-use Rattle.ebpf_object.specs.Steps.{Chosen, Descriptor, descriptor_of}
+use Rattle.ebpf_object.specs.Stages.{Chosen, Descriptor, descriptor_of}
 use Rattle.ebpf_base.proofs.Walks.{rest_more}
 use Rattle.ebpf_parts.specs.declared.maps.either.Map.{Map}
 

@@ -1,11 +1,10 @@
 -- What a refusal says of the files.
-use Rattle.std.proofs.Common.{◌≡◌, ℕ, Bool, true, false, cond, List, [], ◌∷◌, map, Option, Some, None, refl, sym, ap, ◌∙◌, subst}
+use Rattle.std.proofs.Common.{◌≡◌, ℕ, Bool, true, false, List, Option, Some, None, refl, sym, ap, ◌∙◌, subst}
 use Rattle.std.proofs.lemmas.Option.{none-some}
 use Rattle.std.specs.Prelude.{⊤, MatchBool, MatchOption, IsSome}
-use Rattle.std.specs.FinMap.{FinMap, get}
-use Rattle.ebpf_commands.specs.Done.{HasPrinted}
-use Rattle.ebpf_commands.specs.Failures.{is_outside, IsFailureOf, IsPreparingFailure}
-use Rattle.ebpf_commands.specs.PrivateContracts.{LacksNamed}
+use Rattle.std.specs.FinMap.{get}
+use Rattle.ebpf_commands.specs.Done.{LacksNamed}
+use Rattle.ebpf_commands.specs.Failures.{is_outside, IsFailureOf}
 use Rattle.ebpf_commands.specs.Linked.{IsFileLinked}
 use Rattle.ebpf_commands.specs.Printed.{program_function_of, function_named}
 use Rattle.ebpf_commands.specs.declared.failure.Failure.{Failure}

@@ -10,7 +10,7 @@ use Rattle.ebpf_ksyms.specs.Sources.{Source}
 use Rattle.ebpf_object.specs.Objects.{object_of}
 use Rattle.ebpf_object.specs.Prepared.{IsFirstPrepareFault}
 use Rattle.ebpf_object.specs.Prepared as preparing
-use Rattle.ebpf_object.specs.Steps.{Chosen}
+use Rattle.ebpf_object.specs.Stages.{Chosen}
 use Rattle.ebpf_object.specs.declared.object.Object.{Object}
 use Rattle.ebpf_parts.specs.declared.reading.Reading.TheVariants.{Stated}
 

@@ -4,5 +4,5 @@ pub mod Printed
 pub mod Failures
 pub mod Listed
 pub mod Done
+
 -- What only private contracts and proofs name.
-pub mod PrivateContracts

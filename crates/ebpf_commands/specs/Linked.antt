@@ -11,7 +11,7 @@ use Rattle.ebpf_btf.specs.declared.error.BtfError.{BtfError}
 use Rattle.ebpf_ksyms.specs.Sources.{Source}
 use Rattle.ebpf_object.specs.Objects.{object_of}
 use Rattle.ebpf_object.specs.Headline.{Headline}
-use Rattle.ebpf_object.specs.Steps.{Chosen, Descriptor}
+use Rattle.ebpf_object.specs.Stages.{Chosen, Descriptor}
 use Rattle.ebpf_object.specs.declared.object.Object.{Object}
 use Rattle.ebpf_parts.specs.declared.maps.either.Map.{Map}
 use Rattle.ebpf_parts.specs.declared.reading.Reading.TheVariants.{Stated}

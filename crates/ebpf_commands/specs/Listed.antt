@@ -10,7 +10,7 @@ use Rattle.ebpf_commands.specs.Printed.{head_line}
 use Rattle.ebpf_inspect.specs.Inspected.{IsInspected}
 use Rattle.ebpf_inspect.specs.declared.report.ProgramReport.{ProgramReport}
 use Rattle.ebpf_ksyms.specs.Sources.{Source}
-use Rattle.ebpf_model.specs.Keys.{key_address, key_section}
+use Rattle.ebpf_model.specs.Symbols.{key_address, key_section}
 use Rattle.ebpf_object.specs.Objects.{object_of}
 use Rattle.ebpf_reloc.specs.declared.link_map.CodeCopy.{CodeCopy}
 use Rattle.ebpf_linker.specs.declared.link_map.Reference.{Reference}

@@ -6,7 +6,7 @@ ghost use Rattle.std.specs.Option.{option_copied};
 ghost use Rattle.ebpf_commands.specs.Failures.{is_outside, is_writers, IsFailureOf, IsPreparingFailure};
 ghost use Rattle.ebpf_commands.specs.Linked.{default_passes};
 ghost use Rattle.ebpf_commands.specs.Listed.{report_named, reports_text, HasInspected, HasListed};
-ghost use Rattle.ebpf_commands.specs.PrivateContracts.{LacksReport, LacksNamedReport};
+ghost use Rattle.ebpf_commands.specs.Done.{LacksReport, LacksNamedReport};
 ghost use Rattle.ebpf_inspect.specs.Inspected.{IsInspected};
 ghost use Rattle.ebpf_object.specs.Prepared.{IsParsed};
 ghost use Rattle.ebpf_parts.specs.declared.reading.Reading.TheVariants.{Stated};

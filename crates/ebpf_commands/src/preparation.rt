@@ -6,7 +6,7 @@ ghost use Rattle.std.specs.Map.{keys_of};
 ghost use Rattle.ebpf_base.specs.Faults.{Gives};
 ghost use Rattle.ebpf_base.specs.Keys.{lent_bytes};
 ghost use Rattle.ebpf_btf.specs.Memory.{is_btf_memory};
-ghost use Rattle.ebpf_object.specs.Steps.{descriptor_of};
+ghost use Rattle.ebpf_object.specs.Stages.{descriptor_of};
 ghost use Rattle.ebpf_commands.specs.Linked.{kernel_types, numbered_descriptors};
 
 use ebpf_base::{Items, Text};

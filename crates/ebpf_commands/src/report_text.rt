@@ -1,6 +1,6 @@
 //! The text of what a program is made of.
 
-ghost use Rattle.std.specs.Prelude.{◌≡◌, OnOk};
+ghost use Rattle.std.specs.Prelude.{OnOk};
 ghost use Rattle.std.specs.Io.KnownBytes.{Appends};
 ghost use Rattle.std.specs.List.{flat_map};
 ghost use Rattle.ebpf_commands.specs.Listed.{address_text, copy_line, reference_line, report_text};

@@ -1,13 +1,90 @@
--- The first variant of a name, as an equation and by the variants' numbers.
-use Rattle.std.proofs.Common.{◌≡◌, ℕ, zero, suc, Bool, true, false, List, [], ◌∷◌, length, Option, Some, None, Result, Ok, Err, refl, sym, ◌∙◌, ap, subst, arith, slice_get}
-use Rattle.std.proofs.lemmas.Option.{same_Some}
+-- The first variant of a name: one step of a walk over variants, and by the variants' numbers.
+use Rattle.std.proofs.Common.{◌≡◌, ℕ, zero, suc, Bool, true, false, List, [], ◌∷◌, length, Option, Some, None, Result, Ok, Err, refl, sym, ◌∙◌, ap, subst, arith, slice_get, inl, inr, ◌+◌, ◌<◌, ◌≤◌, drop, get_or}
+use Rattle.std.proofs.lemmas.Option.{same_Some, slice_get_cases}
 use Rattle.ebpf_btf.specs.Strings.{is_essential_name_at}
 use Rattle.ebpf_btf.specs.TypeInfo.{TypeInfo}
 use Rattle.ebpf_btf.specs.declared.error.BtfError.{BtfError}
 use Rattle.ebpf_btf.specs.declared.variants.BtfVariant.{BtfVariant}
-use Rattle.ebpf_core.specs.FirstVariants.{AreOthers, FirstVariantIs, HasName, Unread, Absent}
-use Rattle.ebpf_core.specs.Matches.{first_variant}
-use Rattle.ebpf_core.proofs.VariantSteps.{first_fault, first_here, first_none, first_on}
+use Rattle.ebpf_core.specs.Matches.{AreOthers, FirstVariantIs, HasName, Unread, Absent, first_variant, variant_answer, named_variant_answer}
+use Rattle.std.specs.Prelude.{option_map, unwrap_or}
+use Rattle.std.specs.Option.{option_and_then}
+use Rattle.std.proofs.lemmas.List.{drop_all}
+use Rattle.ebpf_base.specs.Faults.{first_some, or_else}
+use Rattle.ebpf_core_candidates.proofs.Heads.{drop_found}
+
+-- ---- the variants that are left
+
+abbrev pub listed : Option (List BtfVariant) → List BtfVariant
+listed variants = unwrap_or variants []
+
+none_from : (vs : List BtfVariant) (i : ℕ) → slice_get vs i ≡ None → drop i vs ≡ []
+none_from vs i none =
+    elim ((slice_get_cases vs i).1) [ inl there ↦ absurd (contradiction there) | inr past ↦ drop_all i vs past.0 ]
+  where
+    contradiction : ((x : BtfVariant) × (i < length vs) × (slice_get vs i ≡ Some x) × (get_or vs i x ≡ x)) → ⊥
+    contradiction there = let found : slice_get vs i ≡ Some there.0 = there.2 in cc
+
+some_left : (o : Option (List BtfVariant)) (i : ℕ) (v : BtfVariant) → option_and_then (λ vs. slice_get vs i) o ≡ Some v
+    → drop i (listed o) ≡ v ∷ drop (i + 1) (listed o)
+some_left None i v is = cc
+some_left (Some vs) i v is = drop_found vs i v is
+
+none_left : (o : Option (List BtfVariant)) (i : ℕ) → option_and_then (λ vs. slice_get vs i) o ≡ None → drop i (listed o) ≡ []
+none_left None i is = drop_all i [] (omega arith)
+none_left (Some vs) i is = none_from vs i is
+
+all_passed : (o : Option (List BtfVariant)) (i : ℕ) → unwrap_or (option_map length o) 0 ≤ i → drop i (listed o) ≡ []
+all_passed None i past = drop_all i [] (omega arith)
+all_passed (Some vs) i past = drop_all i vs past
+
+-- ---- the first of a name
+
+module _ (info : TypeInfo) (name : List ℕ) where
+  -- what the first variant answers, or those behind it
+  abbrev led_by : Result Bool BtfError → BtfVariant → List BtfVariant → Result (Option ℕ) BtfError
+  led_by same v vs = unwrap_or (or_else (variant_answer v.value same) (first_some (named_variant_answer info name) vs)) (Ok None)
+
+  first_by : (v : BtfVariant) (vs : List BtfVariant) (same : Result Bool BtfError) → is_essential_name_at info.strings v.name_offset name ≡ same
+      → first_variant info name (v ∷ vs) ≡ led_by same v vs
+  unfolding first_variant
+  first_by v vs same is = ap (λ (r : Result Bool BtfError). led_by r v vs) is
+
+  pub first_on : (v : BtfVariant) (vs : List BtfVariant) → is_essential_name_at info.strings v.name_offset name ≡ Ok false
+      → first_variant info name (v ∷ vs) ≡ first_variant info name vs
+  unfolding first_variant
+  first_on v vs is = ap (λ (r : Result Bool BtfError). led_by r v vs) is
+
+  pub first_here : (v : BtfVariant) (vs : List BtfVariant) → is_essential_name_at info.strings v.name_offset name ≡ Ok true
+      → first_variant info name (v ∷ vs) ≡ Ok (Some v.value)
+  first_here v vs is = first_by v vs (Ok true) is
+
+  pub first_fault : (v : BtfVariant) (vs : List BtfVariant) (e : BtfError) → is_essential_name_at info.strings v.name_offset name ≡ Err e
+      → first_variant info name (v ∷ vs) ≡ Err e
+  first_fault v vs e is = first_by v vs (Err e) is
+
+  pub first_none : first_variant info name [] ≡ Ok None
+  unfolding first_variant
+  first_none = refl
+
+  module _ (o : Option (List BtfVariant)) (i : ℕ) where
+    module _ (v : BtfVariant) (here : option_and_then (λ vs. slice_get vs i) o ≡ Some v) where
+      pub variant_passed : is_essential_name_at info.strings v.name_offset name ≡ Ok false
+          → first_variant info name (drop i (listed o)) ≡ first_variant info name (drop (i + 1) (listed o))
+      variant_passed is = ap (first_variant info name) (some_left o i v here) ∙ first_on v (drop (i + 1) (listed o)) is
+
+      pub variant_has_name : is_essential_name_at info.strings v.name_offset name ≡ Ok true
+          → first_variant info name (drop i (listed o)) ≡ Ok (Some v.value)
+      variant_has_name is = ap (first_variant info name) (some_left o i v here) ∙ first_here v (drop (i + 1) (listed o)) is
+
+      pub variant_fault : (e : BtfError) → is_essential_name_at info.strings v.name_offset name ≡ Err e
+          → first_variant info name (drop i (listed o)) ≡ Err e
+      variant_fault e is = ap (first_variant info name) (some_left o i v here) ∙ first_fault v (drop (i + 1) (listed o)) e is
+
+    pub variant_missing : option_and_then (λ vs. slice_get vs i) o ≡ None → first_variant info name (drop i (listed o)) ≡ Ok None
+    variant_missing is = ap (first_variant info name) (none_left o i is) ∙ first_none
+
+    pub variants_over : unwrap_or (option_map length o) 0 ≤ i → first_variant info name (drop i (listed o)) ≡ Ok None
+    variants_over past = ap (first_variant info name) (all_passed o i past) ∙ first_none
 
 module _ (info : TypeInfo) (name : List ℕ) where
   abbrev same_at : BtfVariant → Result Bool BtfError
@@ -32,38 +109,24 @@ module _ (info : TypeInfo) (name : List ℕ) where
   passed v vs _ is (Unread n w e at fault others) = Unread (suc n) w e at fault (one_before v vs n is others)
   passed v vs _ is (Absent others) = Absent (one_before v vs (length vs) is others)
 
-  first_by : (v : BtfVariant) (vs : List BtfVariant) (same : Result Bool BtfError) → same_at v ≡ same → FirstVariantIs info name vs (first_variant info name vs)
+  is_by : (v : BtfVariant) (vs : List BtfVariant) (same : Result Bool BtfError) → same_at v ≡ same → FirstVariantIs info name vs (first_variant info name vs)
       → FirstVariantIs info name (v ∷ vs) (first_variant info name (v ∷ vs))
-  first_by v vs (Ok true) is rest = subst (FirstVariantIs info name (v ∷ vs)) (sym (first_here info name v vs is)) (HasName 0 v refl is (none_before (v ∷ vs)))
-  first_by v vs (Ok false) is rest = subst (FirstVariantIs info name (v ∷ vs)) (sym (first_on info name v vs is)) (passed v vs _ is rest)
-  first_by v vs (Err e) is rest = subst (FirstVariantIs info name (v ∷ vs)) (sym (first_fault info name v vs e is)) (Unread 0 v e refl is (none_before (v ∷ vs)))
+  is_by v vs (Ok true) is rest = subst (FirstVariantIs info name (v ∷ vs)) (sym (first_here info name v vs is)) (HasName 0 v refl is (none_before (v ∷ vs)))
+  is_by v vs (Ok false) is rest = subst (FirstVariantIs info name (v ∷ vs)) (sym (first_on info name v vs is)) (passed v vs _ is rest)
+  is_by v vs (Err e) is rest = subst (FirstVariantIs info name (v ∷ vs)) (sym (first_fault info name v vs e is)) (Unread 0 v e refl is (none_before (v ∷ vs)))
 
   pub first_is : (vs : List BtfVariant) → FirstVariantIs info name vs (first_variant info name vs)
   first_is [] = subst (FirstVariantIs info name []) (sym (first_none info name)) (Absent (none_before []))
-  first_is (v ∷ vs) = first_by v vs (same_at v) refl (first_is vs)
+  first_is (v ∷ vs) = is_by v vs (same_at v) refl (first_is vs)
 
   -- ---- to the equation
 
-  named_at : (vs : List BtfVariant) (n : ℕ) (v : BtfVariant) → slice_get vs n ≡ Some v → same_at v ≡ Ok true → AreOthers info name vs n
-      → first_variant info name vs ≡ Ok (Some v.value)
-  named_at [] n v at is others = cc
-  named_at (w ∷ vs) zero v at is others =
-      first_here info name w vs (ap same_at (same_Some _ _ at) ∙ is) ∙ ap (λ (x : BtfVariant). Ok (Some x.value)) (same_Some _ _ at)
-  named_at (w ∷ vs) (suc n) v at is others =
-      first_on info name w vs (others 0 w (omega arith) refl) ∙ named_at vs n v at is (one_less w vs n others)
-
-  unread_at : (vs : List BtfVariant) (n : ℕ) (v : BtfVariant) (e : BtfError) → slice_get vs n ≡ Some v → same_at v ≡ Err e → AreOthers info name vs n
-      → first_variant info name vs ≡ Err e
-  unread_at [] n v e at is others = cc
-  unread_at (w ∷ vs) zero v e at is others = first_fault info name w vs e (ap same_at (same_Some _ _ at) ∙ is)
-  unread_at (w ∷ vs) (suc n) v e at is others =
-      first_on info name w vs (others 0 w (omega arith) refl) ∙ unread_at vs n v e at is (one_less w vs n others)
-
-  absent : (vs : List BtfVariant) → AreOthers info name vs (length vs) → first_variant info name vs ≡ Ok None
-  absent [] others = first_none info name
-  absent (w ∷ vs) others = first_on info name w vs (others 0 w (omega arith) refl) ∙ absent vs (one_less w vs (length vs) others)
+  others_passed : (vs : List BtfVariant) (n : ℕ) → AreOthers info name vs n → first_variant info name vs ≡ first_variant info name (drop n vs)
+  others_passed vs zero others = refl
+  others_passed [] (suc n) others = refl
+  others_passed (w ∷ vs) (suc n) others = first_on info name w vs (others 0 w (omega arith) refl) ∙ others_passed vs n (one_less w vs n others)
 
   pub one_first : (vs : List BtfVariant) (a : Result (Option ℕ) BtfError) → FirstVariantIs info name vs a → a ≡ first_variant info name vs
-  one_first vs _ (HasName n v at is others) = sym (named_at vs n v at is others)
-  one_first vs _ (Unread n v e at is others) = sym (unread_at vs n v e at is others)
-  one_first vs _ (Absent others) = sym (absent vs others)
+  one_first vs _ (HasName n v at is others) = sym (others_passed vs n others ∙ ap (first_variant info name) (drop_found vs n v at) ∙ first_here info name v (drop (n + 1) vs) is)
+  one_first vs _ (Unread n v e at is others) = sym (others_passed vs n others ∙ ap (first_variant info name) (drop_found vs n v at) ∙ first_fault info name v (drop (n + 1) vs) e is)
+  one_first vs _ (Absent others) = sym (others_passed vs (length vs) others ∙ ap (first_variant info name) (drop_all (length vs) vs (omega arith)) ∙ first_none info name)

@@ -7,11 +7,11 @@ use Rattle.ebpf_core.specs.AccessStrings.{all_of}
 use Rattle.ebpf_base.specs.Results.{if_ok}
 use Rattle.ebpf_core.specs.Answers.{each}
 
--- what is left of numbers from one on
-pub number_more : (xs : List ℕ) (i : ℕ) → i < length xs → drop i xs ≡ get_or xs i 0 ∷ drop (i + 1) xs
-number_more xs i below =
+-- what is left of a list from a member on
+pub rest_at : {X : Type 0} (xs : List X) (i : ℕ) (d : X) → i < length xs → drop i xs ≡ get_or xs i d ∷ drop (i + 1) xs
+rest_at xs i d below =
     let on : suc i ≡ i + 1 = omega arith in
-    drop-cons xs i 0 below ∙ ap (λ n. get_or xs i 0 ∷ drop n xs) on
+    drop-cons xs i d below ∙ ap (λ n. get_or xs i d ∷ drop n xs) on
 
 -- what is kept, and then a list that there may be
 abbrev pub after : {X : Type 0} → List X → Option (List X) → Option (List X)

@@ -1,42 +1,34 @@
 -- Why a record has no outcome, as an equation and step by step.
-use Rattle.std.proofs.Common.{◌≡◌, ℕ, zero, suc, ◌<◌, Bool, true, false, List, [], ◌∷◌, Option, Some, Result, Ok, Err, refl, sym, ap, ◌∙◌, subst, arith, slice_get}
-use Rattle.std.specs.Prelude.{IfErr, MatchBool, filter, is_ok, not, option_map, if◌then◌else◌, ⊤}
-use Rattle.std.specs.List.{filter_map}
+use Rattle.std.proofs.Common.{◌≡◌, ℕ, zero, suc, ◌<◌, true, List, [], ◌∷◌, Option, Some, Result, Ok, Err, refl, sym, ap, ◌∙◌, subst, arith, slice_get}
+use Rattle.std.specs.Prelude.{IfErr, MatchBool, filter, is_ok, not, ⊤}
 use Rattle.std.proofs.lemmas.Option.{same_Some}
+use Rattle.std.proofs.lemmas.Result.{IfErr-at_err, IfErr-weaker}
 use Rattle.ebpf_btf.specs.TypeInfo.{TypeInfo}
-use Rattle.ebpf_btf.specs.declared.error.BtfError.{BtfError as TypeError}
 use Rattle.ebpf_ext.specs.declared.relocation.Relocation.{Relocation}
 use Rattle.ebpf_base.specs.Results.{if_ok}
-use Rattle.ebpf_core.specs.Answers.{FirstFails, Tells, each, of_types, without_texts}
+use Rattle.ebpf_core.specs.Answers.{FirstFails, Tells, each, of_types, without_texts, is_record_memory}
 use Rattle.ebpf_core.specs.LocalPaths.{local_path}
 use Rattle.ebpf_core.specs.LocalSides.{LocalSideIs}
-use Rattle.ebpf_core.specs.Matches.{found_at_candidate, match_in, match_of, matches, type_name_at}
-use Rattle.ebpf_core.specs.Memory.{is_record_memory}
-use Rattle.ebpf_core.specs.Outcomes.{values_agree, outcome_of_matches, differing_names, local_loaded, match_value, outcome_among, agreed_outcome}
+use Rattle.ebpf_core.specs.Matches.{found_at_candidate, matches, type_name_at}
+use Rattle.ebpf_core.specs.Outcomes.{agreed_outcome, values_agree, outcome_of_matches, differing_names, local_loaded, match_value, outcome_among}
 use Rattle.ebpf_core.specs.Refused.{AreInConflict, Unreadable, Differing, AmongIsRefused, Matching, LocalField, Values, Conflict, OutcomeIsRefused, LocalSide, Candidates, Among}
-use Rattle.ebpf_core.specs.Searches.{candidates_for, is_local, itself, outcome_of}
+use Rattle.ebpf_core.specs.Searches.{candidates_for, is_local, outcome_of}
 use Rattle.ebpf_core.specs.declared.error.RelocationError.{RelocationError}
 use Rattle.ebpf_core.specs.declared.field.LoadedField.{LoadedField}
 use Rattle.ebpf_core.specs.declared.matches.Found.{Found}
-use Rattle.ebpf_core.specs.declared.matches.Match.{Match}
 use Rattle.ebpf_core.specs.declared.outcome.Outcome.{Outcome}
 use Rattle.ebpf_core.specs.declared.paths.LocalPath.{LocalPath}
 use Rattle.ebpf_core.specs.declared.values.MatchValue.{MatchValue}
 use Rattle.ebpf_core.proofs.LocalSides.{one_side, side_is}
-
-pub same_err : {X E : Type 0} (a b : E) → ◌≡◌ {A = Result X E} (Err a) (Err b) → a ≡ b
-same_err {X} {E} a b e = ap given e
-  where
-    given : Result X E → E
-    given (Ok x) = a
-    given (Err f) = f
+use Rattle.ebpf_core.proofs.MatchSteps.{kept_with, match_more, no_candidates}
+use Rattle.ebpf_core_candidates.proofs.Refusals.{matched, by_answer, by_test, ok_some}
+use Rattle.ebpf_core.proofs.Refusals.{by_types}
 
 -- ---- the first member that has a fault
 
-module _ {A X E : Type 0} (f : A → Result X E) where
-  here_fails : (x : A) (xs : List A) (fault : E) → f x ≡ Err fault → FirstFails f (x ∷ xs) fault
-  here_fails x xs fault is = record { n = 0; x = x; at = refl; fails = is; before = λ k y below at. absurd (omega arith) }
-
+-- answers that are gathered one after the other
+module _ {A X S E : Type 0} (f : A → Result X E) (run : List A → Result S E) (with : A → X → S → S) (first : S) (none : run [] ≡ Ok first)
+    (more : (x : A) (xs : List A) → run (x ∷ xs) ≡ if_ok (f x) (λ y. if_ok (run xs) (λ s. Ok (with x y s)))) where
   later_fails : (x : A) (xs : List A) (fault : E) → is_ok (f x) ≡ true → FirstFails f xs fault → FirstFails f (x ∷ xs) fault
   later_fails x xs fault fine h = record { n = suc h.n; x = h.x; at = h.at; fails = h.fails; before = before }
     where
@@ -44,67 +36,33 @@ module _ {A X E : Type 0} (f : A → Result X E) where
       before zero y below at = ap (λ z. is_ok (f z)) (sym (same_Some _ _ at)) ∙ fine
       before (suc k) y below at = h.before k y (omega arith) at
 
-  abbrev put : X → Result (List X) E → Result (List X) E
-  put y r = if_ok r (λ ys. Ok (y ∷ ys))
+  abbrev Fails : List A → Result S E → Type 0
+  Fails xs r = IfErr r (FirstFails f xs)
 
-  put_fault : (y : X) (r : Result (List X) E) (fault : E) → put y r ≡ Err fault → r ≡ Err fault
-  put_fault y (Ok ys) fault e = cc
-  put_fault y (Err g) fault e = ap Err (same_err _ _ e)
-
-  fails_by : (x : A) (xs : List A) (fault : E) (r : Result X E) → f x ≡ r → if_ok r (λ y. put y (each f xs)) ≡ Err fault
-      → (each f xs ≡ Err fault → FirstFails f xs fault) → FirstFails f (x ∷ xs) fault
-  fails_by x xs fault (Ok y) is e more = later_fails x xs fault (ap is_ok is) (more (put_fault y (each f xs) fault e))
-  fails_by x xs fault (Err g) is e more = here_fails x xs fault (is ∙ ap Err (same_err _ _ e))
-
-  pub each_fails : (xs : List A) (fault : E) → each f xs ≡ Err fault → FirstFails f xs fault
-  each_fails [] fault e = cc
-  each_fails (x ∷ xs) fault e = fails_by x xs fault (f x) refl e (λ rest. each_fails xs fault rest)
-
-  passed : (x : A) (xs : List A) (fault : E) (r : Result X E) → f x ≡ r → is_ok r ≡ true → each f xs ≡ Err fault → each f (x ∷ xs) ≡ Err fault
-  passed x xs fault (Ok y) is fine rest = ap (λ (r : Result X E). if_ok r (λ z. put z (each f xs))) is ∙ ap (put y) rest
-  passed x xs fault (Err g) is fine rest = cc
+  pub first_fails : (xs : List A) → Fails xs (run xs)
+  first_fails [] = subst (Fails []) (sym none) tt
+  first_fails (x ∷ xs) =
+      subst (Fails (x ∷ xs)) (sym (more x xs))
+      (by_answer (Fails (x ∷ xs)) (f x) _ (λ e is. record { n = 0; x = x; at = refl; fails = is; before = λ k y below at. absurd (omega arith) })
+      (λ y is. by_answer (Fails (x ∷ xs)) (run xs) _ (λ e rest. later_fails x xs e (ap is_ok is) (IfErr-at_err (FirstFails f xs) rest (first_fails xs))) (λ s rest. tt)))
 
   fails_at : (xs : List A) (n : ℕ) (x : A) (fault : E) → slice_get xs n ≡ Some x → f x ≡ Err fault
-      → ((k : ℕ) (y : A) → k < n → slice_get xs k ≡ Some y → is_ok (f y) ≡ true) → each f xs ≡ Err fault
+      → ((k : ℕ) (y : A) → k < n → slice_get xs k ≡ Some y → is_ok (f y) ≡ true) → run xs ≡ Err fault
   fails_at [] n x fault at is before = cc
-  fails_at (y ∷ ys) zero x fault at is before = ap (λ (r : Result X E). if_ok r (λ z. put z (each f ys))) (ap f (same_Some _ _ at) ∙ is)
+  fails_at (y ∷ ys) zero x fault at is before = rw (more y ys, same_Some _ _ at, is) refl
   fails_at (y ∷ ys) (suc n) x fault at is before =
-      passed y ys fault (f y) refl (before 0 y (omega arith) refl)
-      (fails_at ys n x fault at is (λ k z below there. before (suc k) z (omega arith) there))
+      let (z, here) = ok_some (f y) (before 0 y (omega arith) refl) in
+      rw (more y ys, here, fails_at ys n x fault at is (λ k z below there. before (suc k) z (omega arith) there)) refl
 
-  pub fails_each : (xs : List A) (fault : E) → FirstFails f xs fault → each f xs ≡ Err fault
-  fails_each xs fault h = fails_at xs h.n h.x fault h.at h.fails h.before
+  pub fails_first : (xs : List A) (fault : E) → FirstFails f xs fault → run xs ≡ Err fault
+  fails_first xs fault h = fails_at xs h.n h.x fault h.at h.fails h.before
 
--- what follows an answer without a fault of its own has its fault
-module _ {A X Y E : Type 0} (f : A → Result X E) (g : A → Result Y E) (to : A → X → Y) (same : (x : A) → g x ≡ if_ok (f x) (λ y. Ok (to x y))) where
-  abbrev turned : A → Result X E → Result Y E
-  turned x r = if_ok r (λ y. Ok (to x y))
+module _ {A X E : Type 0} (f : A → Result X E) (xs : List A) where
+  pub each_fails : IfErr (each f xs) (FirstFails f xs)
+  each_fails = first_fails f (each f) (λ x y ys. y ∷ ys) [] refl (λ x xs. refl) xs
 
-  ok_by : (x : A) (r : Result X E) → is_ok (turned x r) ≡ is_ok r
-  ok_by x (Ok y) = refl
-  ok_by x (Err e) = refl
-
-  err_by : (x : A) (r : Result X E) (fault : E) → turned x r ≡ Err fault → r ≡ Err fault
-  err_by x (Ok y) fault e = cc
-  err_by x (Err g) fault e = ap Err (same_err _ _ e)
-
-  pub fails_under : (xs : List A) (fault : E) → FirstFails g xs fault → FirstFails f xs fault
-  fails_under xs fault h = record {
-    n = h.n;
-    x = h.x;
-    at = h.at;
-    fails = err_by h.x (f h.x) fault (sym (same h.x) ∙ h.fails);
-    before = λ k y below at. sym (ok_by y (f y)) ∙ sym (ap is_ok (same y)) ∙ h.before k y below at;
-  }
-
-  pub fails_over : (xs : List A) (fault : E) → FirstFails f xs fault → FirstFails g xs fault
-  fails_over xs fault h = record {
-    n = h.n;
-    x = h.x;
-    at = h.at;
-    fails = same h.x ∙ ap (turned h.x) h.fails;
-    before = λ k y below at. ap is_ok (same y) ∙ ok_by y (f y) ∙ h.before k y below at;
-  }
+  pub fails_each : (fault : E) → FirstFails f xs fault → each f xs ≡ Err fault
+  fails_each fault h = fails_first f (each f) (λ x y ys. y ∷ ys) [] refl (λ x xs. refl) xs fault h
 
 -- ---- matches in conflict
 
@@ -112,25 +70,25 @@ module _ (target : TypeInfo) (name : List ℕ) (loaded : Option LoadedField) whe
   abbrev named : MatchValue → Result (List ℕ) RelocationError
   named v = of_types (type_name_at target v.candidate)
 
-  conflict_by : (first : MatchValue) (others : List MatchValue) (fault : RelocationError) (r : Result (List (List ℕ)) RelocationError)
-      → differing_names target first others ≡ r → if_ok r (agreed_outcome name loaded first) ≡ Err fault → AreInConflict target name (first ∷ others) fault
-  conflict_by first others fault (Ok []) is e = cc
-  conflict_by first others fault (Ok (other ∷ more)) is e =
-      subst (AreInConflict target name (first ∷ others)) (same_err _ _ e) (Differing first others other more is)
-  conflict_by first others fault (Err g) is e =
-      Unreadable first others fault (each_fails named (filter (λ v. not (values_agree first v)) others) fault (is ∙ ap Err (same_err _ _ e)))
+  abbrev InConflict : List MatchValue → Result Outcome RelocationError → Type 0
+  InConflict values r = IfErr r (AreInConflict target name values)
 
-  conflict : (kind : _) (values : List MatchValue) (fault : RelocationError) → outcome_of_matches target name kind loaded values ≡ Err fault → AreInConflict target name values fault
+  conflict : (kind : _) (values : List MatchValue) → InConflict values (outcome_of_matches target name kind loaded values)
   unfolding outcome_of_matches
-  conflict kind [] fault e = cc
-  conflict kind (first ∷ others) fault e = conflict_by first others fault (differing_names target first others) refl e
+  conflict kind [] = tt
+  conflict kind (first ∷ others) =
+      by_answer (InConflict (first ∷ others)) (differing_names target first others) _
+      (λ e is. Unreadable first others e (IfErr-at_err _ is (each_fails named (filter (λ v. not (values_agree first v)) others))))
+      (λ names is. by_names names is)
+    where
+      by_names : (names : List (List ℕ)) → differing_names target first others ≡ Ok names → InConflict (first ∷ others) (agreed_outcome name loaded first names)
+      by_names [] is = tt
+      by_names (other ∷ more) is = Differing first others other more is
 
   conflict_refuses : (kind : _) {values : List MatchValue} {fault : RelocationError} → AreInConflict target name values fault → outcome_of_matches target name kind loaded values ≡ Err fault
   unfolding outcome_of_matches
-  conflict_refuses kind (Unreadable first others fault h) =
-      ap (λ (r : Result (List (List ℕ)) RelocationError). if_ok r (agreed_outcome name loaded first)) (fails_each named (filter (λ v. not (values_agree first v)) others) fault h)
-  conflict_refuses kind (Differing first others other more is) =
-      ap (λ (r : Result (List (List ℕ)) RelocationError). if_ok r (agreed_outcome name loaded first)) is
+  conflict_refuses kind (Unreadable first others fault h) = rw (fails_each named (filter (λ v. not (values_agree first v)) others) fault h) refl
+  conflict_refuses kind (Differing first others other more is) = rw is refl
 
 -- ---- over candidates
 
@@ -138,130 +96,64 @@ module _ (local target : TypeInfo) (r : Relocation) (path : LocalPath) (ids : Li
   abbrev finds : ℕ → Result (Option Found) RelocationError
   finds = found_at_candidate local target r.type_id path.path
 
-  abbrev with_values : Option LoadedField → Result (List MatchValue) RelocationError → Result Outcome RelocationError
-  with_values loaded x = if_ok x (outcome_of_matches target path.type_name r.kind loaded)
-
-  abbrev with_loaded : List Match → Result (Option LoadedField) RelocationError → Result Outcome RelocationError
-  with_loaded found x = if_ok x (λ loaded. with_values loaded (each (match_value target r.kind) found))
-
-  abbrev with_matches : Result (List Match) RelocationError → Result Outcome RelocationError
-  with_matches x = if_ok x (λ found. with_loaded found (local_loaded local r path.path))
-
-  kept_fault : (x : Result (List (Option Match)) RelocationError) (keep : List (Option Match) → List Match) (fault : RelocationError)
-      → if_ok x (λ all. Ok (keep all)) ≡ Err fault → x ≡ Err fault
-  kept_fault (Ok all) keep fault e = cc
-  kept_fault (Err g) keep fault e = ap Err (same_err _ _ e)
-
-  matching : (fault : RelocationError) → matches local target r.type_id path.path ids ≡ Err fault → FirstFails finds ids fault
-  unfolding matches
-  matching fault e =
-      fails_under finds (match_in local target r.type_id path.path) (λ id what. option_map (match_of id) what) (λ id. refl) ids fault
-      (each_fails (match_in local target r.type_id path.path) ids fault (kept_fault _ _ fault e))
+  matching : IfErr (matches local target r.type_id path.path ids) (FirstFails finds ids)
+  matching = first_fails finds (matches local target r.type_id path.path) kept_with [] (no_candidates local target r.type_id path.path) (match_more local target r.type_id path.path) ids
 
   matching_refuses : (fault : RelocationError) → FirstFails finds ids fault → matches local target r.type_id path.path ids ≡ Err fault
-  unfolding matches
-  matching_refuses fault h =
-      ap (λ (x : Result (List (Option Match)) RelocationError). if_ok x (λ all. Ok (filter_map (λ m. m) all)))
-      (fails_each (match_in local target r.type_id path.path) ids fault
-      (fails_over finds (match_in local target r.type_id path.path) (λ id what. option_map (match_of id) what) (λ id. refl) ids fault h))
+  matching_refuses fault h = fails_first finds (matches local target r.type_id path.path) kept_with [] (no_candidates local target r.type_id path.path) (match_more local target r.type_id path.path) ids fault h
 
-  by_values : (found : List Match) (loaded : Option LoadedField) (x : Result (List MatchValue) RelocationError) (fault : RelocationError)
-      → matches local target r.type_id path.path ids ≡ Ok found → local_loaded local r path.path ≡ Ok loaded
-      → each (match_value target r.kind) found ≡ x → with_values loaded x ≡ Err fault → AmongIsRefused local target r path ids fault
-  by_values found loaded (Ok values) fault matches_are is given e =
-      Conflict found loaded values fault matches_are is given (conflict target path.type_name loaded r.kind values fault e)
-  by_values found loaded (Err g) fault matches_are is given e =
-      Values found loaded fault matches_are is (each_fails (match_value target r.kind) found fault (given ∙ ap Err (same_err _ _ e)))
+  abbrev Refused : Result Outcome RelocationError → Type 0
+  Refused x = IfErr x (AmongIsRefused local target r path ids)
 
-  by_loaded : (found : List Match) (x : Result (Option LoadedField) RelocationError) (fault : RelocationError)
-      → matches local target r.type_id path.path ids ≡ Ok found → local_loaded local r path.path ≡ x → with_loaded found x ≡ Err fault
-      → AmongIsRefused local target r path ids fault
-  by_loaded found (Ok loaded) fault matches_are is e = by_values found loaded (each (match_value target r.kind) found) fault matches_are is refl e
-  by_loaded found (Err g) fault matches_are is e = LocalField found fault matches_are (is ∙ ap Err (same_err _ _ e))
-
-  by_matches : (x : Result (List Match) RelocationError) (fault : RelocationError) → matches local target r.type_id path.path ids ≡ x
-      → with_matches x ≡ Err fault → AmongIsRefused local target r path ids fault
-  by_matches (Ok found) fault is e = by_loaded found (local_loaded local r path.path) fault is refl e
-  by_matches (Err g) fault is e = Matching fault (matching fault (is ∙ ap Err (same_err _ _ e)))
+  among_is : Refused (outcome_among local target r path ids)
+  unfolding outcome_among
+  among_is =
+      by_answer Refused (matches local target r.type_id path.path ids) _ (λ e is. Matching e (IfErr-at_err (FirstFails finds ids) is matching))
+      (λ found are. by_answer Refused (local_loaded local r path.path) _ (λ e is. LocalField found e are is)
+      (λ loaded is. by_answer Refused (each (match_value target r.kind) found) _ (λ e given. Values found loaded e are is (IfErr-at_err _ given (each_fails (match_value target r.kind) found)))
+      (λ values given. IfErr-weaker (outcome_of_matches target path.type_name r.kind loaded values) (AreInConflict target path.type_name values) (AmongIsRefused local target r path ids)
+      (λ e h. Conflict found loaded values e are is given h) (conflict target path.type_name loaded r.kind values))))
 
   pub among_first : (fault : RelocationError) → outcome_among local target r path ids ≡ Err fault → AmongIsRefused local target r path ids fault
-  unfolding outcome_among
-  among_first fault e = by_matches (matches local target r.type_id path.path ids) fault refl e
-
-  matches_are : (x : Result (List Match) RelocationError) → matches local target r.type_id path.path ids ≡ x → outcome_among local target r path ids ≡ with_matches x
-  unfolding outcome_among
-  matches_are x is = ap with_matches is
-
-  then_loaded : (found : List Match) (x : Result (Option LoadedField) RelocationError) → matches local target r.type_id path.path ids ≡ Ok found
-      → local_loaded local r path.path ≡ x → outcome_among local target r path ids ≡ with_loaded found x
-  then_loaded found x is given = matches_are (Ok found) is ∙ ap (with_loaded found) given
-
-  then_values : (found : List Match) (loaded : Option LoadedField) (x : Result (List MatchValue) RelocationError) → matches local target r.type_id path.path ids ≡ Ok found
-      → local_loaded local r path.path ≡ Ok loaded → each (match_value target r.kind) found ≡ x → outcome_among local target r path ids ≡ with_values loaded x
-  then_values found loaded x is given all = then_loaded found (Ok loaded) is given ∙ ap (with_values loaded) all
+  among_first fault e = IfErr-at_err (AmongIsRefused local target r path ids) e among_is
 
   pub among_refuses : (fault : RelocationError) → AmongIsRefused local target r path ids fault → outcome_among local target r path ids ≡ Err fault
-  among_refuses _ (Matching fault h) = matches_are (Err fault) (matching_refuses fault h)
-  among_refuses _ (LocalField found fault is given) = then_loaded found (Err fault) is given
-  among_refuses _ (Values found loaded fault is given h) = then_values found loaded (Err fault) is given (fails_each (match_value target r.kind) found fault h)
-  among_refuses _ (Conflict found loaded values fault is given all h) =
-      then_values found loaded (Ok values) is given all ∙ conflict_refuses target path.type_name loaded r.kind h
+  unfolding outcome_among
+  among_refuses _ (Matching fault h) = rw (matching_refuses fault h) refl
+  among_refuses _ (LocalField found fault is given) = rw (is, given) refl
+  among_refuses _ (Values found loaded fault is given h) = rw (is, given, fails_each (match_value target r.kind) found fault h) refl
+  among_refuses _ (Conflict found loaded values fault is given all h) = rw (is, given, all) (conflict_refuses target path.type_name loaded r.kind h)
 
 -- ---- from the local side on
 
 module _ (local target : TypeInfo) (r : Relocation) where
-  abbrev over_ids : LocalPath → Result (List ℕ) TypeError → Result Outcome RelocationError
-  over_ids path x = if_ok (of_types x) (λ ids. outcome_among local target r path ids)
-
-  abbrev searched : LocalPath → Bool → Result Outcome RelocationError
-  searched path here = if here then Ok (itself r.type_id) else over_ids path (candidates_for local target r.type_id)
+  abbrev IsRefused : Result Outcome RelocationError → Type 0
+  IsRefused x = IfErr x (OutcomeIsRefused local target r)
 
   -- the answer of a local side is the one that it is
   side_of : (x : Result LocalPath RelocationError) → local_path local r ≡ x → LocalSideIs local r x
   side_of x is = subst (LocalSideIs local r) is (side_is local r)
 
-  side_given : (x : Result LocalPath RelocationError) → LocalSideIs local r x → local_path local r ≡ x
-  side_given x h = sym (one_side local r h)
-
-  from_ids : (path : LocalPath) (x : Result (List ℕ) TypeError) (fault : RelocationError) → local_path local r ≡ Ok path → is_local r.kind ≡ false
-      → candidates_for local target r.type_id ≡ x → over_ids path x ≡ Err fault → OutcomeIsRefused local target r fault
-  from_ids path (Ok ids) fault is other given e = Among path ids fault (side_of (Ok path) is) other given (among_first local target r path ids fault e)
-  from_ids path (Err g) fault is other given e =
-      subst (OutcomeIsRefused local target r) (same_err _ _ e) (Candidates path g (side_of (Ok path) is) other given)
-
-  from_path : (path : LocalPath) (here : Bool) (fault : RelocationError) → local_path local r ≡ Ok path → is_local r.kind ≡ here
-      → searched path here ≡ Err fault → OutcomeIsRefused local target r fault
-  from_path path true fault is here e = cc
-  from_path path false fault is here e = from_ids path (candidates_for local target r.type_id) fault is here refl e
-
-  from_side : (x : Result LocalPath RelocationError) (fault : RelocationError) → local_path local r ≡ x
-      → if_ok x (λ path. searched path (is_local r.kind)) ≡ Err fault → OutcomeIsRefused local target r fault
-  from_side (Ok path) fault is e = from_path path (is_local r.kind) fault is refl e
-  from_side (Err g) fault is e = LocalSide fault (side_of (Err fault) (is ∙ ap Err (same_err _ _ e)))
+  outcome_is : IsRefused (outcome_of local target r)
+  unfolding outcome_of
+  outcome_is =
+      by_answer IsRefused (local_path local r) _ (λ e is. LocalSide e (side_of (Err e) is))
+      (λ path is. by_test IsRefused (is_local r.kind) _ _ (λ here. tt)
+      (λ other. by_types IsRefused (candidates_for local target r.type_id) _ (λ e given. Candidates path e (side_of (Ok path) is) other given)
+      (λ ids given. IfErr-weaker (outcome_among local target r path ids) (AmongIsRefused local target r path ids) (OutcomeIsRefused local target r)
+      (λ e h. Among path ids e (side_of (Ok path) is) other given h) (among_is local target r path ids))))
 
   pub outcome_first : (fault : RelocationError) → outcome_of local target r ≡ Err fault → OutcomeIsRefused local target r fault
-  unfolding outcome_of
-  outcome_first fault e = from_side (local_path local r) fault refl e
-
-  by_side : (x : Result LocalPath RelocationError) → local_path local r ≡ x → outcome_of local target r ≡ if_ok x (λ path. searched path (is_local r.kind))
-  unfolding outcome_of
-  by_side x is = ap (λ (y : Result LocalPath RelocationError). if_ok y (λ path. searched path (is_local r.kind))) is
-
-  by_ids : (path : LocalPath) (x : Result (List ℕ) TypeError) → LocalSideIs local r (Ok path) → is_local r.kind ≡ false → candidates_for local target r.type_id ≡ x
-      → outcome_of local target r ≡ over_ids path x
-  by_ids path x side other given = by_side (Ok path) (side_given (Ok path) side) ∙ ap (searched path) other ∙ ap (over_ids path) given
+  outcome_first fault e = IfErr-at_err (OutcomeIsRefused local target r) e outcome_is
 
   pub outcome_refuses : (fault : RelocationError) → OutcomeIsRefused local target r fault → outcome_of local target r ≡ Err fault
-  outcome_refuses _ (LocalSide fault side) = by_side (Err fault) (side_given (Err fault) side)
-  outcome_refuses _ (Candidates path e side other given) = by_ids path (Err e) side other given
-  outcome_refuses _ (Among path ids fault side other given h) = by_ids path (Ok ids) side other given ∙ among_refuses local target r path ids fault h
+  unfolding outcome_of
+  outcome_refuses _ (LocalSide fault side) = rw (one_side local r side) refl
+  outcome_refuses _ (Candidates path e side other given) = rw (one_side local r side, other, given) refl
+  outcome_refuses _ (Among path ids fault side other given h) = rw (one_side local r side, other, given) (among_refuses local target r path ids fault h)
 
 -- what a stated fault is, the one without texts is too
 module _ {Y : Type 0} (P : RelocationError → Type 0) (stated : Result Y RelocationError) (to : (fault : RelocationError) → stated ≡ Err fault → P fault) where
-  without_texts_by : (b : Bool) (e : RelocationError) → MatchBool b ⊤ (stated ≡ Err (without_texts e)) → MatchBool b ⊤ (P (without_texts e))
-  without_texts_by true e is = tt
-  without_texts_by false e is = to (without_texts e) is
-
   pub refused_so : (r : Result Y RelocationError) → Tells r stated → IfErr r (λ e. MatchBool (is_record_memory e) ⊤ (P (without_texts e)))
   refused_so (Ok x) h = tt
-  refused_so (Err e) h = without_texts_by (is_record_memory e) e h
+  refused_so (Err e) h = matched (is_record_memory e) (stated ≡ Err (without_texts e)) (P (without_texts e)) (to (without_texts e)) h

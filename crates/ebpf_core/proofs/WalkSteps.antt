@@ -12,7 +12,7 @@ use Rattle.ebpf_core.specs.LocalPaths.{part_step, spot_after}
 use Rattle.ebpf_core.specs.Matches.{type_name_at}
 use Rattle.ebpf_core.specs.Outcomes.{values_agree, differing_names}
 use Rattle.ebpf_base.proofs.Walks.{rest_more, rest_none}
-use Rattle.ebpf_core.proofs.Lists.{number_more, onto, onto_push}
+use Rattle.ebpf_core.proofs.Lists.{rest_at, onto, onto_push}
 use Rattle.ebpf_core.proofs.Refusals.{refused_by}
 
 -- ---- parts
@@ -42,7 +42,7 @@ module _ (info : TypeInfo) (number : ℕ) (access : List ℕ) where
   module _ (parts : List ℕ) (i : ℕ) (from : LocalSpot) (all : Result LocalSpot RelocationError) (so_far : spot_after info number access (drop i parts) from ≡ all) where
     module _ (below : i < length parts) where
       part_taken : spot_after info number access (drop i parts) from ≡ if_ok (part_step info number access from (get_or parts i 0)) (spot_after info number access (drop (i + 1) parts))
-      part_taken = ap (λ ps. spot_after info number access ps from) (number_more parts i below) ∙ walked_on (get_or parts i 0) (drop (i + 1) parts) from
+      part_taken = ap (λ ps. spot_after info number access ps from) (rest_at parts i 0 below) ∙ walked_on (get_or parts i 0) (drop (i + 1) parts) from
 
       pub part_next : (next : LocalSpot) → part_step info number access from (get_or parts i 0) ≡ Ok next → spot_after info number access (drop (i + 1) parts) next ≡ all
       part_next next is = sym (part_taken ∙ ap (λ r. if_ok r (spot_after info number access (drop (i + 1) parts))) is) ∙ so_far

@@ -1,11 +1,17 @@
 -- Answers, and how they are stated: an error without the texts in it that are for people to read.
-use Rattle.std.specs.Prelude.{◌≡◌, ℕ, ◌<◌, true, List, [], ◌∷◌, ⊤, MatchBool, Some, Result, Ok, Err, is_ok, slice_get, if◌then◌else◌}
+use Rattle.std.specs.Prelude.{◌≡◌, ℕ, ◌<◌, true, List, [], ◌∷◌, ⊤, MatchBool, Some, Result, Ok, Err, is_ok, slice_get, if◌then◌else◌, Bool, false}
 use Rattle.ebpf_base.specs.Results.{if_ok}
 use Rattle.ebpf_btf.specs.declared.error.BtfError.{BtfError}
 use Rattle.ebpf_btf.specs.Memory as types
 use Rattle.ebpf_core.specs.declared.error.RelocationError.{RelocationError}
 use Rattle.ebpf_core.specs.declared.error.RelocationError.TheVariants as errors
-use Rattle.ebpf_core.specs.Memory.{is_record_memory}
+use Rattle.ebpf_core.specs.declared.error.RelocationError.TheVariants.{OutOfMemory}
+
+-- ---- want of memory, the one answer of this layer that no definition states
+
+abbrev pub is_record_memory : RelocationError → Bool
+is_record_memory OutOfMemory = true
+is_record_memory _ = false
 
 -- an error with such texts empty
 abbrev pub without_texts : RelocationError → RelocationError

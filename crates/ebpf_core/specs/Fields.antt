@@ -19,9 +19,9 @@ use Rattle.ebpf_core.specs.declared.field.FieldFault.{FieldFault}
 use Rattle.ebpf_core.specs.declared.field.FieldFault.TheVariants.{OfElement, Types}
 use Rattle.ebpf_core.specs.declared.field.FieldValue.{FieldValue}
 use Rattle.ebpf_core.specs.declared.field.LoadedField.{LoadedField}
-use Rattle.ebpf_places.specs.declared.places.Place.{Place}
-use Rattle.ebpf_places.specs.declared.places.PlaceEnd.{PlaceEnd}
-use Rattle.ebpf_places.specs.declared.places.PlaceEnd.TheVariants.{Element, Member}
+use Rattle.ebpf_core_places.specs.declared.places.Place.{Place}
+use Rattle.ebpf_core_places.specs.declared.places.PlaceEnd.{PlaceEnd}
+use Rattle.ebpf_core_places.specs.declared.places.PlaceEnd.TheVariants.{Element, Member}
 use Rattle.ebpf_base.specs.Results.{if_ok}
 use Rattle.ebpf_core.specs.Containers.{bit_field_extent, plain_extent}
 

@@ -5,10 +5,9 @@ use Rattle.ebpf_btf.specs.declared.error.BtfError.{BtfError as TypeError}
 use Rattle.ebpf_btf.specs.declared.variants.BtfVariant.{BtfVariant}
 use Rattle.ebpf_ext.specs.declared.relocation.Relocation.{Relocation}
 use Rattle.ebpf_core.specs.Questions.{question_of}
-use Rattle.ebpf_core.specs.FirstVariants.{FirstVariantIs}
+use Rattle.ebpf_core.specs.Matches.{FirstVariantIs, first_variant}
 use Rattle.ebpf_core.specs.LocalPaths.{local_path}
 use Rattle.ebpf_core.specs.LocalSides.{LocalSideIs}
-use Rattle.ebpf_core.specs.Matches.{first_variant}
 use Rattle.ebpf_core.specs.Outcomes.{outcome_among}
 use Rattle.ebpf_core.specs.Refused.{AmongIsRefused, OutcomeIsRefused}
 use Rattle.ebpf_core.specs.Searches.{outcome_of}

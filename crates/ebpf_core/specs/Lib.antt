@@ -3,15 +3,10 @@ pub mod Answers
 pub mod Questions
 pub mod Containers
 pub mod Fields
-pub mod FirstVariants
 pub mod Laws
 pub mod LocalPaths
 pub mod LocalSides
 pub mod Matches
-pub mod Memory
 pub mod Outcomes
 pub mod Refused
 pub mod Searches
-pub mod Sides
-pub mod RelocationBases
-pub mod SearchedKinds

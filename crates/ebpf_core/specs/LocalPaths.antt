@@ -20,15 +20,33 @@ use Rattle.ebpf_core.specs.declared.paths.NamedPath.TheVariants as paths
 use Rattle.ebpf_core.specs.declared.local_walk.LocalSpot.{LocalSpot}
 use Rattle.ebpf_core.specs.declared.relocation_basis.RelocationBasis.{RelocationBasis}
 use Rattle.ebpf_core.specs.declared.relocation_basis.RelocationBasis.TheVariants as bases
-use Rattle.ebpf_places.specs.declared.places.PlaceEnd.{PlaceEnd}
-use Rattle.ebpf_places.specs.declared.places.PlaceEnd.TheVariants.{Element, Member}
-use Rattle.ebpf_places.specs.declared.steps.Step.{Step}
-use Rattle.ebpf_places.specs.declared.steps.Step.TheVariants.{Name, Index}
-use Rattle.ebpf_places.specs.Places.{checked_place, element_place, is_last_of}
+use Rattle.ebpf_core_places.specs.declared.places.PlaceEnd.{PlaceEnd}
+use Rattle.ebpf_core_places.specs.declared.places.PlaceEnd.TheVariants.{Element, Member}
+use Rattle.ebpf_core_places.specs.declared.steps.Step.{Step}
+use Rattle.ebpf_core_places.specs.declared.steps.Step.TheVariants.{Name, Index}
+use Rattle.ebpf_core_places.specs.Places.{checked_place, element_place, is_last_of}
 use Rattle.ebpf_core.specs.AccessStrings.{accessors}
 use Rattle.ebpf_base.specs.Results.{if_ok}
 use Rattle.ebpf_core.specs.Answers.{of_types}
-use Rattle.ebpf_core.specs.RelocationBases.{basis_of}
+use Rattle.ebpf_ext.specs.declared.relocation.RelocationKind.{RelocationKind}
+use Rattle.ebpf_ext.specs.declared.relocation.RelocationKind.TheVariants.{FieldByteOffset, FieldByteSize, FieldExists, FieldSigned, FieldLShift64, FieldRShift64, TypeIdLocal, TypeIdTarget, TypeExists, TypeSize, EnumVariantExists, EnumVariantValue}
+use Rattle.ebpf_core.specs.declared.relocation_basis.RelocationBasis.TheVariants.{Field, WholeType, Variant}
+
+-- ---- whether records are on fields, types or variants, by their kinds (the kernel's include/uapi/linux/bpf.h, enum bpf_core_relo_kind)
+
+abbrev pub basis_of : RelocationKind → RelocationBasis
+basis_of FieldByteOffset = Field
+basis_of FieldByteSize = Field
+basis_of FieldExists = Field
+basis_of FieldSigned = Field
+basis_of FieldLShift64 = Field
+basis_of FieldRShift64 = Field
+basis_of TypeIdLocal = WholeType
+basis_of TypeIdTarget = WholeType
+basis_of TypeExists = WholeType
+basis_of TypeSize = WholeType
+basis_of EnumVariantExists = Variant
+basis_of EnumVariantValue = Variant
 
 -- ---- the faults
 

@@ -7,8 +7,7 @@ use Rattle.ebpf_btf.specs.declared.error.BtfError.{BtfError as TypeError}
 use Rattle.ebpf_btf.specs.declared.types.BtfType.{BtfType}
 use Rattle.ebpf_ext.specs.declared.relocation.Relocation.{Relocation}
 use Rattle.ebpf_core.specs.AccessStrings.{accessors}
-use Rattle.ebpf_core.specs.LocalPaths.{part_step, spot_at_element, type_path, variant_path, wrong_string}
-use Rattle.ebpf_core.specs.RelocationBases.{basis_of}
+use Rattle.ebpf_core.specs.LocalPaths.{part_step, spot_at_element, type_path, variant_path, wrong_string, basis_of}
 use Rattle.ebpf_core.specs.declared.error.RelocationError.{RelocationError}
 use Rattle.ebpf_core.specs.declared.error.RelocationError.TheVariants.{BtfError}
 use Rattle.ebpf_core.specs.declared.local_walk.LocalSpot.{LocalSpot}

@@ -1,8 +1,8 @@
 -- Which candidates a local path fits (the kernel's tools/lib/bpf/relo_core.c, bpf_core_spec_match).
-use Rattle.std.specs.Prelude.{ℕ, Bool, List, [], Option, Some, None, option_map, unwrap_or, Result, Ok, Err, if◌then◌else◌}
+use Rattle.std.specs.Prelude.{ℕ, Bool, List, [], Option, Some, None, option_map, unwrap_or, Result, Ok, Err, if◌then◌else◌, ◌≡◌, ◌<◌, true, false, length, slice_get}
 use Rattle.std.specs.List.{filter_map}
 use Rattle.ebpf_base.specs.Faults.{first_some}
-use Rattle.ebpf_candidates.specs.Compatibility.{types_compatible}
+use Rattle.ebpf_core_candidates.specs.Compatibility.{types_compatible}
 use Rattle.ebpf_btf.specs.declared.error.BtfError.{BtfError as TypeError}
 use Rattle.ebpf_btf.specs.declared.variants.BtfVariant.{BtfVariant}
 use Rattle.ebpf_btf.specs.Steps.{resolved_type, type_at}
@@ -16,10 +16,10 @@ use Rattle.ebpf_core.specs.declared.paths.NamedPath.TheVariants as paths
 use Rattle.ebpf_core.specs.declared.matches.Found.{Found}
 use Rattle.ebpf_core.specs.declared.matches.Found.TheVariants as found
 use Rattle.ebpf_core.specs.declared.matches.Match.{Match}
-use Rattle.ebpf_places.specs.declared.fault.PlaceFault.{PlaceFault}
-use Rattle.ebpf_places.specs.declared.fault.PlaceFault.TheVariants.{NestingLevel, Btf}
-use Rattle.ebpf_places.specs.declared.places.Place.{Place}
-use Rattle.ebpf_places.specs.Places.{place_of}
+use Rattle.ebpf_core_places.specs.declared.fault.PlaceFault.{PlaceFault}
+use Rattle.ebpf_core_places.specs.declared.fault.PlaceFault.TheVariants.{NestingLevel, Btf}
+use Rattle.ebpf_core_places.specs.declared.places.Place.{Place}
+use Rattle.ebpf_core_places.specs.Places.{place_of}
 use Rattle.ebpf_base.specs.Results.{if_ok}
 use Rattle.ebpf_core.specs.Answers.{each, of_types}
 
@@ -66,3 +66,19 @@ match_in local target local_id path id = if_ok (found_at_candidate local target 
 -- the candidates that match, in their order
 unfoldable pub matches : TypeInfo → TypeInfo → ℕ → NamedPath → List ℕ → Result (List Match) RelocationError
 matches local target local_id path ids = if_ok (each (match_in local target local_id path) ids) (λ all. Ok (filter_map (λ m. m) all))
+
+-- ---- the first variant of a name, by the variants' numbers
+
+-- The first n variants can be read, and have other names, flavors aside.
+abbrev pub AreOthers : TypeInfo → List ℕ → List BtfVariant → ℕ → Type 0
+AreOthers info name vs n =
+    (k : ℕ) (v : BtfVariant) → k < n → slice_get vs k ≡ Some v → is_essential_name_at info.strings v.name_offset name ≡ Ok false
+
+-- The value of the first variant of a name is this: at variant n the search stops, since it has the name or can't be
+-- read; or there is none.
+pub data FirstVariantIs (info : TypeInfo) (name : List ℕ) (vs : List BtfVariant) : Result (Option ℕ) TypeError → Type 0 where
+  HasName : (n : ℕ) (v : BtfVariant) → slice_get vs n ≡ Some v → is_essential_name_at info.strings v.name_offset name ≡ Ok true
+      → AreOthers info name vs n → FirstVariantIs info name vs (Ok (Some v.value))
+  Unread : (n : ℕ) (v : BtfVariant) (e : TypeError) → slice_get vs n ≡ Some v → is_essential_name_at info.strings v.name_offset name ≡ Err e
+      → AreOthers info name vs n → FirstVariantIs info name vs (Err e)
+  Absent : AreOthers info name vs (length vs) → FirstVariantIs info name vs (Ok None)

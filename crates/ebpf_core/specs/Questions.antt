@@ -20,7 +20,10 @@ question_of r = ((r.type_id, r.access_str_off), relocation_kind_number r.kind)
 abbrev pub question_cmp : Question → Question → Ordering
 question_cmp a b = ordering_then (ordering_then (nat_cmp a.0.0 b.0.0) (nat_cmp a.0.1 b.0.1)) (nat_cmp a.1 b.1)
 
--- Each record with the question that an outcome is cached for comes to this outcome.
+-- What is cached for a question holds of each record with it.
+abbrev pub AreCached : {X : Type 0} → (Relocation → X → Type 0) → BTreeMap Question X → Type 0
+AreCached {X} Holds cached = (q : Question) (x : X) → get question_cmp cached q ≡ Some x → (r : Relocation) → question_of r ≡ q → Holds r x
+
+-- each such record comes to the outcome
 abbrev pub OutcomesAreCached : TypeInfo → TypeInfo → BTreeMap Question Outcome → Type 0
-OutcomesAreCached local target cached =
-    (q : Question) (outcome : Outcome) → get question_cmp cached q ≡ Some outcome → (r : Relocation) → question_of r ≡ q → outcome_of local target r ≡ Ok outcome
+OutcomesAreCached local target cached = AreCached (λ r outcome. outcome_of local target r ≡ Ok outcome) cached

@@ -1,7 +1,7 @@
 -- The types of a kernel that a local type may stand for, and what a record comes to over them (the kernel's
 -- tools/lib/bpf/libbpf.c, bpf_core_find_cands, and relo_core.c, bpf_core_calc_relo_insn).
-use Rattle.std.specs.Prelude.{ℕ, ◌&&◌, Bool, true, false, List, Option, Some, None, is_some, Result, Ok, Err, if◌then◌else◌}
-use Rattle.ebpf_candidates.specs.Candidates.{candidates, candidates_fault, candidates_of_both, candidates_of_both_fault}
+use Rattle.std.specs.Prelude.{ℕ, ◌&&◌, Bool, true, false, List, Option, Some, None, is_some, Result, Ok, Err, if◌then◌else◌, ◌≡◌, [], ◌∷◌, slice_get}
+use Rattle.ebpf_core_candidates.specs.Candidates.{candidates, candidates_fault, candidates_of_both, candidates_of_both_fault}
 use Rattle.ebpf_btf.specs.declared.error.BtfError.{BtfError}
 use Rattle.ebpf_btf.specs.declared.kind.BtfKind.TheVariants as kinds
 use Rattle.ebpf_ext.specs.declared.relocation.Relocation.{Relocation}
@@ -19,6 +19,13 @@ use Rattle.ebpf_base.specs.Results.{if_ok}
 use Rattle.ebpf_core.specs.Answers.{of_types}
 use Rattle.ebpf_core.specs.LocalPaths.{local_path}
 use Rattle.ebpf_core.specs.Outcomes.{outcome_among}
+use Rattle.ebpf_btf.specs.declared.kind.BtfKind.{BtfKind}
+use Rattle.ebpf_core_candidates.specs.IndexedTypes.{IndexedTypes, has_named, is_among_kinds}
+
+-- the types of an object, and those in which they are looked for
+pub record Sides : Type 0 where
+  pub local : TypeInfo
+  pub target : TypeInfo
 
 -- a list, where nothing keeps it from being known
 abbrev pub ids_unless_fault : Option BtfError → List ℕ → Result (List ℕ) BtfError
@@ -54,3 +61,20 @@ outcome_of local target r =
     if_ok (local_path local r) (λ path.
     if is_local r.kind then Ok (itself r.type_id)
     else if_ok (of_types (candidates_for local target r.type_id)) (λ ids. outcome_among local target r path ids))
+
+-- ---- the kinds and names of the target types that a local type may stand for
+
+-- its own, twice, or the two that an enumeration of 64 bits may have
+abbrev pub searched_kinds : BtfType → BtfKind × BtfKind
+searched_kinds t = if was_enum64 t then (kinds.Union, kinds.Enum64) else (kind_of t, kind_of t)
+
+-- a local type, and its name as it is read
+pub record IsLocalType (local : TypeInfo) (t : BtfType) (name : List ℕ) : Type 0 where
+  pub id : ℕ
+  pub there : slice_get local.types id ≡ Some t
+  pub named : type_name local t ≡ Ok name
+
+-- an index has the types of two kinds of each name that a local type of one of them has
+abbrev pub HasLocalNames : IndexedTypes → TypeInfo → BtfKind → BtfKind → Type 0
+HasLocalNames index local first second = (t : BtfType) (name : List ℕ) → IsLocalType local t name → is_among_kinds (first ∷ second ∷ []) (kind_of t) ≡ true
+    → (has_named index first name ≡ true) × (has_named index second name ≡ true)

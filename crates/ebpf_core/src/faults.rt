@@ -1,6 +1,6 @@
 //! Refusals, with the texts that they hold.
 
-ghost use Rattle.std.specs.Prelude.{◌≡◌, [], Err};
+ghost use Rattle.std.specs.Prelude.{[], Err};
 ghost use Rattle.ebpf_core.specs.Answers.{Tells};
 ghost use Rattle.ebpf_core.specs.declared.error.RelocationError.TheVariants as errors;
 

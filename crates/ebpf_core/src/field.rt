@@ -2,12 +2,12 @@
 
 ghost use Rattle.std.specs.Prelude.{◌≡◌, ◌*◌, ◌<◌, ◌≤◌, ◌^◌, IfOk};
 ghost use Rattle.ebpf_btf.specs.Steps.{size_of};
-ghost use Rattle.ebpf_core.specs.Fields.{member_number, class_of, element_value, field_value, member_extent, loaded_field, member_with_index, member_field_value, shift, place_end_value, value_of_member, value_with};
+ghost use Rattle.ebpf_core.specs.Fields.{member_number, class_of, element_value, field_value, member_extent, loaded_field, member_with_index, member_field_value, shift, value_of_member, value_with};
 
 use crate::extent::{Extent, bit_field_extent, plain_extent};
 use ebpf_btf::{Btf, BtfError, BtfMember, BtfType};
+use ebpf_core_places::{Place, PlaceEnd};
 use ebpf_ext::RelocationKind;
-use ebpf_places::{Place, PlaceEnd};
 
 /// What a load of a field of another size goes by.
 #[derive(Clone, Copy, Debug, PartialEq, Eq)]

@@ -1,6 +1,6 @@
 //! The way to a field of a local type.
 
-ghost use Rattle.std.specs.Prelude.{◌≡◌, ◌∷◌, ◌++◌, [], IfOk, Ok};
+ghost use Rattle.std.specs.Prelude.{◌≡◌, Ok};
 ghost use Rattle.ebpf_core.specs.Answers.{Tells};
 ghost use Rattle.ebpf_core.specs.LocalPaths.{ends_struct, field_path, into_array, into_members, is_element, part_step, spot_at_element, spot_at_member, type_of_step, spot_after};
 
@@ -10,7 +10,7 @@ use crate::paths::NamedPath;
 use crate::wording::{Request, kind_words, path_words};
 use ebpf_base::{Items, Text};
 use ebpf_btf::{Btf, BtfArray, BtfMember, BtfType, Rows};
-use ebpf_places::{Place, PlaceEnd, Step, checked_place, element_place, is_last_of};
+use ebpf_core_places::{Place, PlaceEnd, Step, checked_place, element_place, is_last_of};
 use std::alloc::Global;
 
 /// How far a path has come.

@@ -3,17 +3,17 @@
 ghost use Rattle.std.specs.Prelude.{◌≡◌, [], unwrap_or, Err};
 ghost use Rattle.ebpf_btf.specs.Variants.{variants_of};
 ghost use Rattle.ebpf_core.specs.Answers.{Tells, of_types};
-ghost use Rattle.ebpf_core.specs.Matches.{by_place, first_variant, found_at_candidate, match_in, matches, type_name_at, variant_in};
-ghost use Rattle.ebpf_places.specs.Places.{place_of};
-ghost use Rattle.ebpf_places.specs.declared.fault.PlaceFault.TheVariants.{NestingLevel};
+ghost use Rattle.ebpf_core.specs.Matches.{by_place, first_variant, found_at_candidate, matches, type_name_at, variant_in};
+ghost use Rattle.ebpf_core_places.specs.Places.{place_of};
+ghost use Rattle.ebpf_core_places.specs.declared.fault.PlaceFault.TheVariants.{NestingLevel};
 
 use crate::error::RelocationError;
 use crate::faults::too_nested;
 use crate::paths::NamedPath;
 use ebpf_base::{Items, Text};
 use ebpf_btf::{Btf, BtfError, BtfType};
-use ebpf_candidates::types_are_compatible;
-use ebpf_places::{Place, PlaceFault, Step, place_in};
+use ebpf_core_candidates::types_are_compatible;
+use ebpf_core_places::{Place, PlaceFault, Step, place_in};
 use std::alloc::Global;
 
 /// What a path leads to in a type that matches.
@@ -46,7 +46,7 @@ pub fn type_name_at(alloc: Global, btf: &Btf, type_id: u32) -> Result<Text, Relo
 }
 
 /// The value of the first variant of a type that has a name, flavors aside.
-#[tactic(auto, using(crate::proofs::VariantSteps::variant_passed, crate::proofs::VariantSteps::variant_has_name, crate::proofs::VariantSteps::variant_fault, crate::proofs::VariantSteps::variant_missing, crate::proofs::VariantSteps::variants_over))]
+#[tactic(auto, using(crate::proofs::FirstVariants::variant_passed, crate::proofs::FirstVariants::variant_has_name, crate::proofs::FirstVariants::variant_fault, crate::proofs::FirstVariants::variant_missing, crate::proofs::FirstVariants::variants_over))]
 fn first_variant(target: &Btf, name: &str, ty: &BtfType<'_>) -> Result<Option<u64>, BtfError>
     ensures { result ≡ first_variant target.now name.now (unwrap_or (variants_of ty.now) []) }
 {

@@ -1,11 +1,10 @@
 //! What a record comes to.
 
-ghost use Rattle.std.specs.Prelude.{◌≡◌, not, filter, IfErr, IfOk, MatchBool, ⊤};
-ghost use Rattle.ebpf_core.specs.Answers.{Tells, each, of_types, without_texts};
+ghost use Rattle.std.specs.Prelude.{◌≡◌, not, IfErr, MatchBool, ⊤};
+ghost use Rattle.ebpf_core.specs.Answers.{Tells, each, without_texts, is_record_memory};
 ghost use Rattle.ebpf_core.specs.Fields.{field_value};
-ghost use Rattle.ebpf_core.specs.Memory.{is_record_memory};
 ghost use Rattle.ebpf_core.specs.Refused.{AmongIsRefused};
-ghost use Rattle.ebpf_core.specs.Outcomes.{values_agree, outcome_of_matches, differing_names, loaded_by, local_loaded, outcome_among, agreed_outcome, without_match};
+ghost use Rattle.ebpf_core.specs.Outcomes.{outcome_of_matches, differing_names, loaded_by, local_loaded, outcome_among, without_match};
 
 use crate::error::RelocationError;
 use crate::faults::invalid_kind;
@@ -16,8 +15,8 @@ use crate::values::{MatchValue, match_values};
 use crate::wording::path_words;
 use ebpf_base::{Items, Text};
 use ebpf_btf::Btf;
+use ebpf_core_places::{Place, Step};
 use ebpf_ext::{Relocation, RelocationKind};
-use ebpf_places::{Place, Step};
 use std::alloc::Global;
 
 /// What a record comes to.

@@ -3,8 +3,7 @@
 ghost use Rattle.std.specs.Prelude.{◌≡◌};
 ghost use Rattle.ebpf_core.specs.Answers.{Tells, TellsSo};
 ghost use Rattle.ebpf_core.specs.LocalSides.{LocalSideIs};
-ghost use Rattle.ebpf_core.specs.LocalPaths.{local_path, lone, named_variant, path_for, type_path, variant_path};
-ghost use Rattle.ebpf_core.specs.RelocationBases.{basis_of};
+ghost use Rattle.ebpf_core.specs.LocalPaths.{local_path, lone, named_variant, path_for, type_path, variant_path, basis_of};
 
 use crate::access::accessors;
 use crate::error::RelocationError;
@@ -14,8 +13,8 @@ use crate::relocation_basis::{RelocationBasis, basis_of};
 use crate::wording::{Request, kind_words};
 use ebpf_base::{Items, Text};
 use ebpf_btf::{Btf, BtfType, BtfVariant};
+use ebpf_core_places::{Place, Step};
 use ebpf_ext::Relocation;
-use ebpf_places::{Place, Step};
 use std::alloc::Global;
 
 /// What a record asks about, by the names that its local type has.

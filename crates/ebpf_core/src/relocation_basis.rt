@@ -1,7 +1,7 @@
 //! What kinds of records ask about.
 
 ghost use Rattle.std.specs.Prelude.{◌≡◌};
-ghost use Rattle.ebpf_core.specs.RelocationBases.{basis_of};
+ghost use Rattle.ebpf_core.specs.LocalPaths.{basis_of};
 
 use ebpf_ext::RelocationKind;
 

@@ -7,14 +7,12 @@ ghost use Rattle.ebpf_base.specs.Results.{if_ok};
 ghost use Rattle.ebpf_btf.specs.Memory.{is_btf_memory};
 ghost use Rattle.ebpf_btf.specs.TypeInfo.{TypeInfo};
 ghost use Rattle.ebpf_btf.specs.declared.error.BtfError.TheVariants.{OutOfMemory};
-ghost use Rattle.ebpf_candidates.specs.Candidates.{candidates, candidates_fault, candidates_of_both, candidates_of_both_fault};
-ghost use Rattle.ebpf_candidates.specs.IndexedTypes.{has_named};
-ghost use Rattle.ebpf_core.specs.Answers.{Tells, of_types, without_texts};
-ghost use Rattle.ebpf_core.specs.Memory.{is_record_memory};
+ghost use Rattle.ebpf_core_candidates.specs.Candidates.{candidates, candidates_fault, candidates_of_both, candidates_of_both_fault};
+ghost use Rattle.ebpf_core_candidates.specs.IndexedTypes.{has_named};
+ghost use Rattle.ebpf_core.specs.Answers.{Tells, of_types, without_texts, is_record_memory};
 ghost use Rattle.ebpf_core.specs.Outcomes.{outcome_among};
 ghost use Rattle.ebpf_core.specs.Refused.{OutcomeIsRefused};
-ghost use Rattle.ebpf_core.specs.Searches.{candidates_for, candidates_named, is_local, outcome_of, was_enum64};
-ghost use Rattle.ebpf_core.specs.SearchedKinds.{searched_kinds, HasLocalNames, IsLocalType};
+ghost use Rattle.ebpf_core.specs.Searches.{candidates_for, candidates_named, is_local, outcome_of, was_enum64, searched_kinds, HasLocalNames, IsLocalType};
 
 use crate::error::RelocationError;
 use crate::outcome::{Outcome, outcome_among};
@@ -22,7 +20,7 @@ use crate::paths::{LocalPath, local_path};
 use crate::question::{Question, question_of};
 use ebpf_base::Items;
 use ebpf_btf::{Btf, BtfError, BtfKind, BtfType};
-use ebpf_candidates::{KindsIndex, TypeIndex};
+use ebpf_core_candidates::{KindsIndex, TypeIndex};
 use ebpf_ext::{Relocation, RelocationKind};
 use std::alloc::{AllocError, Global};
 use std::collections::BTreeMap;
@@ -109,7 +107,7 @@ fn ids_named(
 }
 
 /// The index of the target types of two kinds that have names of local ones.
-#[tactic(auto, using(crate::proofs::SearchedKinds::local_names))]
+#[tactic(auto, using(crate::proofs::Searching::local_names))]
 fn index_of<'a>(
     alloc: Global,
     local: &Btf,
@@ -159,7 +157,7 @@ pub struct CoreSearch<'a> {
 impl<'a> Model for CoreSearch<'a> {
     ghost use Rattle.std.specs.Prelude.{◌≡◌, All};
     ghost use Rattle.ebpf_core.specs.Questions.{OutcomesAreCached};
-    ghost use Rattle.ebpf_core.specs.Sides.{Sides};
+    ghost use Rattle.ebpf_core.specs.Searches.{Sides};
 
     ghost Value = { Sides };
 

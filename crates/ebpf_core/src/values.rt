@@ -11,8 +11,8 @@ use crate::field::{LoadedField, field_value};
 use crate::matches::{Found, Match};
 use ebpf_base::Items;
 use ebpf_btf::{Btf, BtfError};
+use ebpf_core_places::Place;
 use ebpf_ext::RelocationKind;
-use ebpf_places::Place;
 use std::alloc::Global;
 
 /// What a match gives.

@@ -2,8 +2,8 @@
 
 use ebpf_base::Text;
 use ebpf_btf::BtfKind;
+use ebpf_core_places::Step;
 use ebpf_ext::RelocationKind;
-use ebpf_places::Step;
 use std::alloc::{AllocError, Global};
 use std::fmt;
 

@@ -1,6 +1,6 @@
 -- The first record that is refused, and the fault of all records at once.
-use Rattle.std.proofs.Common.{◌≡◌, ℕ, suc, Bool, true, false, List, [], ◌∷◌, ◌++◌, Option, Some, None, Result, Ok, Err, refl, sym, ap, ◌∙◌, subst}
-use Rattle.std.specs.Prelude.{◌≢◌, is_some, if◌then◌else◌}
+use Rattle.std.proofs.Common.{◌≡◌, ℕ, suc, List, [], ◌∷◌, ◌++◌, Option, Some, None, Result, Ok, Err, refl, sym, ap, ◌∙◌, subst}
+use Rattle.std.specs.Prelude.{◌≢◌, is_some}
 use Rattle.std.specs.FinMap.{empty, get}
 use Rattle.ebpf_base.proofs.Faults.{first_some-append}
 use Rattle.ebpf_base.specs.Faults.{fault_of, first_some, or_else}
@@ -9,23 +9,20 @@ use Rattle.ebpf_btf.specs.Strings.{text_at}
 use Rattle.ebpf_btf.specs.declared.error.BtfError.{BtfError}
 use Rattle.ebpf_ext.specs.declared.relocation.Relocation.{Relocation}
 use Rattle.ebpf_base.specs.Results.{if_ok}
-use Rattle.ebpf_core.specs.Answers.{of_types}
-use Rattle.ebpf_core.specs.Searches.{outcome_of}
-use Rattle.ebpf_core.specs.Sides.{Sides}
+use Rattle.ebpf_core.specs.Searches.{outcome_of, Sides}
 use Rattle.ebpf_core.specs.declared.error.RelocationError.{RelocationError}
 use Rattle.ebpf_core.specs.declared.error.RelocationError.TheVariants as errors
 use Rattle.ebpf_core.specs.declared.outcome.Outcome.{Outcome}
-use Rattle.ebpf_core_relo.proofs.OneRecord.{applied_puts, ok_parts}
+use Rattle.ebpf_core_relo.proofs.OneRecord.{applied_puts}
 use Rattle.ebpf_core_relo.proofs.OutcomeRows.{outcomes-append, slots-append}
-use Rattle.ebpf_core_relo.proofs.OutcomeSlots.{same_ok}
-use Rattle.ebpf_core_relo.specs.Absences.{absence_of}
+use Rattle.ebpf_core_candidates.proofs.Refusals.{by_test, ok_parts, same_ok}
 use Rattle.ebpf_core_relo.specs.Answers.{error_in_section}
 use Rattle.ebpf_core_relo.specs.OutcomeLaws.{FirstRefusalIsTheFault, HaveRecords, SlotsAreTheSame, refusal, refusal_in, name_or_unnamed, unless}
-use Rattle.ebpf_core_relo.specs.RecordOutcomes.{Named, outcome_result, applied, record_result, left_after, left_by, named_in, named_records, outcome_after, outcomes_from, record_slots, result_in, section_number_at, section_by, slots_left}
+use Rattle.ebpf_core_relo.specs.RecordOutcomes.{Named, outcome_result, applied, record_result, left_after, left_by, named_in, named_records, outcome_after, outcomes_from, record_slots, result_in, section_number_at, slots_left}
 use Rattle.ebpf_core_relo.specs.Records.{RelocationInputs, Written, all_applied, answer_in_section, named_applied, record_applied, records_applied, section_applied, unnamed_section}
 use Rattle.ebpf_core_relo.specs.declared.error.BtfRelocationError.{BtfRelocationError}
-use Rattle.ebpf_core_relo.specs.declared.record_outcome.RecordResult.TheVariants.{Value, Absent}
-use Rattle.ebpf_elf.specs.declared.entries.SectionIndex.{SectionIndex}
+use Rattle.ebpf_core_relo.specs.declared.record_outcome.RecordResult.{RecordResult}
+use Rattle.ebpf_elf.specs.declared.section.SectionIndex.{SectionIndex}
 
 -- what is first refused of some records, and what they leave
 abbrev first : RelocationInputs → Written → List Named → Option BtfRelocationError
@@ -38,11 +35,7 @@ stated inputs so_far records = unless (first inputs so_far records) (slots_left 
 
 -- an outcome is no refusal
 not_refused : (sides : Sides) (name : List ℕ) (r : Relocation) (outcome : Outcome) → refusal_in name (outcome_result sides r outcome) ≡ None
-not_refused sides name r outcome = by_test (is_some outcome.value)
-  where
-    by_test : (b : Bool) → refusal_in name (if b then Value outcome else Absent (absence_of sides.local sides.target r)) ≡ None
-    by_test true = refl
-    by_test false = refl
+not_refused sides name r outcome = by_test (λ (x : RecordResult). refusal_in name x ≡ None) (is_some outcome.value) _ _ (λ is. refl) (λ is. refl)
 
 module _ (inputs : RelocationInputs) (offset : ℕ) (name : List ℕ) (named : name_or_unnamed offset (text_at inputs.sides.local.strings offset) ≡ name) where
   abbrev section : Result ℕ RelocationError
@@ -108,32 +101,24 @@ by_name inputs part so_far t =
 abbrev by_section : RelocationInputs → List ℕ → ℕ × List Relocation → Written → Option SectionIndex → Result Written BtfRelocationError
 by_section inputs name part so_far o = answer_in_section name (if_some o (λ section. records_applied inputs section.0 part.1 so_far) (Err errors.SectionNotFound))
 
-section_found : (inputs : RelocationInputs) (offset : ℕ) (t : Result (List ℕ) BtfError) → text_at inputs.sides.local.strings offset ≡ t
-    → section_number_at inputs.sides.local inputs.section_infos offset ≡ section_by inputs.section_infos (of_types t)
-unfolding section_number_at
-section_found inputs offset t is = ap (λ r. section_by inputs.section_infos (of_types r)) is
-
 -- where a part is refused it has records
 part_stated : (inputs : RelocationInputs) (part : ℕ × List Relocation) (so_far : Written)
     → ((fault : BtfRelocationError) → named_applied inputs part so_far ≡ Err fault → part.1 ≢ [])
     → named_applied inputs part so_far ≡ stated inputs so_far (named_in part.0 part.1)
+unfolding section_number_at
 part_stated inputs part so_far some = by_text (text_at inputs.sides.local.strings part.0) refl
   where
     by_text : (t : Result (List ℕ) BtfError) → text_at inputs.sides.local.strings part.0 ≡ t → by_name inputs part so_far t ≡ stated inputs so_far (named_in part.0 part.1)
     by_text (Err e) is =
-        in_none inputs part.0 (unnamed_section part.0) (ap (name_or_unnamed part.0) is) (errors.BtfError e) (section_found inputs part.0 (Err e) is) part.1 so_far
+        in_none inputs part.0 (unnamed_section part.0) (ap (name_or_unnamed part.0) is) (errors.BtfError e) (rw is refl) part.1 so_far
         (some _ (ap (by_name inputs part so_far) is))
     by_text (Ok name) is = by_number (get inputs.section_infos name) refl
       where
-        found : (o : Option SectionIndex) → get inputs.section_infos name ≡ o
-            → section_number_at inputs.sides.local inputs.section_infos part.0 ≡ if_some o (λ section. Ok section.0) (Err errors.SectionNotFound)
-        found o there = section_found inputs part.0 (Ok name) is ∙ ap (λ p. if_some p (λ section. Ok section.0) (Err errors.SectionNotFound)) there
-
         by_number : (o : Option SectionIndex) → get inputs.section_infos name ≡ o → by_section inputs name part so_far o ≡ stated inputs so_far (named_in part.0 part.1)
         by_number None there =
-            in_none inputs part.0 name (ap (name_or_unnamed part.0) is) errors.SectionNotFound (found None there) part.1 so_far
+            in_none inputs part.0 name (ap (name_or_unnamed part.0) is) errors.SectionNotFound (rw (is, there) refl) part.1 so_far
             (some _ (ap (by_name inputs part so_far) is ∙ ap (by_section inputs name part so_far) there))
-        by_number (Some number) there = in_records inputs part.0 name (ap (name_or_unnamed part.0) is) number.0 (found (Some number) there) part.1 so_far
+        by_number (Some number) there = in_records inputs part.0 name (ap (name_or_unnamed part.0) is) number.0 (rw (is, there) refl) part.1 so_far
 
 -- ---- all parts
 

@@ -4,8 +4,8 @@ use Rattle.std.specs.Prelude.{fold, if◌then◌else◌}
 use Rattle.std.proofs.lemmas.Bool.{cases_lt, le-ltb, lt-ltb}
 use Rattle.std.proofs.lemmas.Option.{same_Some}
 use Rattle.ebpf_btf.specs.TypeInfo.{TypeInfo}
-use Rattle.ebpf_places.specs.Places.{place_of}
-use Rattle.ebpf_places.specs.declared.steps.Step.{Step}
+use Rattle.ebpf_core_places.specs.Places.{place_of}
+use Rattle.ebpf_core_places.specs.declared.steps.Step.{Step}
 use Rattle.ebpf_core_relo.proofs.Reaches.{fails_past, passes, reach_within}
 use Rattle.ebpf_core_relo.specs.AbsenceLaws.{ComesFurthest, FurthestComesFurthest, NoneLeads}
 use Rattle.ebpf_core_relo.specs.Absences.{further, furthest, leads, nowhere, reach}

@@ -1,11 +1,7 @@
 pub mod FirstRefusal
 pub mod FurthestOnes
-pub mod Grouped
-pub mod SpanRuns
-pub mod CachedAbsences
 pub mod MatchAbsences
 pub mod MisfitNames
-pub mod NamedMembers
 pub mod OneRecord
 pub mod OutcomeRows
 pub mod OutcomeSlots
@@ -13,5 +9,4 @@ pub mod PutSlots
 pub mod Reaches
 pub mod RecordRuns
 pub mod Refused
-pub mod Rewritten
 pub mod Tops

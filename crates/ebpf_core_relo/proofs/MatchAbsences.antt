@@ -1,134 +1,124 @@
 -- Reasons beside matches and outcomes.
 use Rattle.std.proofs.Common.{◌≡◌, ℕ, zero, suc, ◌<◌, ◌≤◌, ◌⊎◌, inl, inr, Bool, true, false, List, [], ◌∷◌, length, take, Option, Some, None, Result, Ok, Err, refl, sym, ap, ◌∙◌, subst, arith, slice_get}
-use Rattle.std.specs.Prelude.{◌≢◌, option_map, if◌then◌else◌}
-use Rattle.std.specs.List.{filter_map}
+use Rattle.std.specs.Prelude.{◌≢◌, if◌then◌else◌}
 use Rattle.std.proofs.Math.Seq.{take-length}
 use Rattle.std.proofs.lemmas.Bool.{cases_lt}
 use Rattle.std.proofs.lemmas.Option.{same_Some, slice_get_past}
 use Rattle.ebpf_btf.specs.TypeInfo.{TypeInfo}
 use Rattle.ebpf_btf.specs.declared.error.BtfError.{BtfError}
 use Rattle.ebpf_ext.specs.declared.relocation.Relocation.{Relocation}
-use Rattle.ebpf_places.specs.Places.{place_of}
-use Rattle.ebpf_places.specs.declared.fault.PlaceFault.{PlaceFault}
-use Rattle.ebpf_places.specs.declared.fault.PlaceFault.TheVariants.{NestingLevel, Btf}
-use Rattle.ebpf_places.specs.declared.places.Place.{Place}
-use Rattle.ebpf_places.specs.declared.steps.Step.{Step}
-use Rattle.ebpf_places.specs.declared.steps.Step.TheVariants.{Name, Index}
-use Rattle.ebpf_core.proofs.Questions.{outcomes_rest_on_questions}
+use Rattle.ebpf_core_places.specs.Places.{place_of}
+use Rattle.ebpf_core_places.specs.declared.fault.PlaceFault.{PlaceFault}
+use Rattle.ebpf_core_places.specs.declared.fault.PlaceFault.TheVariants.{NestingLevel, Btf}
+use Rattle.ebpf_core_places.specs.declared.places.Place.{Place}
+use Rattle.ebpf_core_places.specs.declared.steps.Step.{Step}
+use Rattle.ebpf_core_places.specs.declared.steps.Step.TheVariants.{Name, Index}
+use Rattle.ebpf_core.proofs.MatchSteps.{kept_with, match_more, no_candidates}
+use Rattle.ebpf_core.proofs.Questions.{outcomes_rest_on_questions, same_record}
 use Rattle.ebpf_base.specs.Results.{if_ok}
-use Rattle.ebpf_core.specs.Answers.{each, of_types}
+use Rattle.ebpf_core.specs.Answers.{of_types}
 use Rattle.ebpf_core.specs.LocalPaths.{local_path}
-use Rattle.ebpf_core.specs.Matches.{by_place, found_at_candidate, match_in, match_of, matches, type_name_at}
+use Rattle.ebpf_core.specs.Matches.{by_place, found_at_candidate, matches, type_name_at}
 use Rattle.ebpf_core.specs.Outcomes.{outcome_among}
+use Rattle.ebpf_core.specs.Questions.{Question, question_of}
 use Rattle.ebpf_core.specs.Searches.{candidates_for, is_local, itself, outcome_of}
 use Rattle.ebpf_core.specs.declared.error.RelocationError.{RelocationError}
 use Rattle.ebpf_core.specs.declared.matches.Found.{Found}
 use Rattle.ebpf_core.specs.declared.matches.Match.{Match}
 use Rattle.ebpf_core.specs.declared.outcome.Outcome.{Outcome}
 use Rattle.ebpf_core.specs.declared.paths.LocalPath.{LocalPath}
+use Rattle.ebpf_core.specs.declared.paths.NamedPath.{NamedPath}
 use Rattle.ebpf_core.specs.declared.paths.NamedPath.TheVariants as paths
 use Rattle.ebpf_core_relo.proofs.FurthestOnes.{comes_furthest, nothing_leads}
-use Rattle.ebpf_core_relo.proofs.OneRecord.{ok_parts}
-use Rattle.ebpf_core_relo.proofs.OutcomeSlots.{same_ok}
+use Rattle.ebpf_core_candidates.proofs.Refusals.{ok_parts, same_ok}
 use Rattle.ebpf_core_relo.specs.AbsenceLaws.{AbsencesAreOfPaths, ComesFurthest, IsPathAbsence, NoValueIsOfMatches}
 use Rattle.ebpf_core_relo.specs.Absences.{absence_by, absence_of, field_absence, furthest, is_place, lacks, leads, step_absence, without_position}
 use Rattle.ebpf_core_relo.specs.declared.absence.Absence.{Absence}
 use Rattle.ebpf_core_relo.specs.declared.absence.Absence.TheVariants.{MemberOfAnotherKind, NoMember, NoValue}
 use Rattle.ebpf_core_relo.specs.declared.furthest.Furthest.{Furthest}
 
+-- ---- records that ask the same
+
+pub same_absence : (local target : TypeInfo) (r s : Relocation) → question_of r ≡ question_of s → absence_of local target r ≡ absence_of local target s
+unfolding absence_of
+same_absence local target r s e =
+    ap (λ q. absence_by local target (candidates_for local target r.type_id) (local_path local (without_position q))) (same_record r s e)
+    ∙ ap (λ n. absence_by local target (candidates_for local target n) (local_path local (without_position s))) (ap (λ (q : Question). q.0.0) e)
+
 -- ---- a record that has no value
 
 -- its path, its candidates
-told_among : (local target : TypeInfo) (r : Relocation) (path : LocalPath) → local_path local (without_position r) ≡ Ok path
-    → (ids : Result (List ℕ) BtfError) → candidates_for local target r.type_id ≡ ids → (outcome : Outcome)
-    → if_ok (of_types ids) (outcome_among local target (without_position r) path) ≡ Ok outcome → IsPathAbsence local target r
-unfolding absence_of
-told_among local target r path side (Ok ids) are outcome e = record {
-  path = path;
-  side = side;
-  ids = ids;
-  candidates = are;
-  absence = ap (absence_by local target (candidates_for local target r.type_id)) side ∙ ap (λ c. absence_by local target c (Ok path)) are;
-}
-told_among local target r path side (Err fault) are outcome e = cc
-
-without_texts_by : (local target : TypeInfo) (r : Relocation) (outcome : Outcome) → outcome.value ≡ None → (side : Result LocalPath RelocationError) → local_path local (without_position r) ≡ side
-    → if_ok side (λ path.
-    if is_local r.kind then Ok (itself r.type_id) else if_ok (of_types (candidates_for local target r.type_id)) (outcome_among local target (without_position r) path)) ≡ Ok outcome
-    → IsPathAbsence local target r
-without_texts_by local target r outcome none (Err fault) is e = cc
-without_texts_by local target r outcome none (Ok path) is e = by_kind (is_local r.kind) e
-  where
-    by_kind : (b : Bool) → (if b then Ok (itself r.type_id) else if_ok (of_types (candidates_for local target r.type_id)) (outcome_among local target (without_position r) path)) ≡ Ok outcome
-        → IsPathAbsence local target r
-    by_kind true e = let never : Some r.type_id ≡ None = ap (λ (o : Outcome). o.value) (same_ok _ _ e) ∙ none in cc
-    by_kind false e = told_among local target r path is (candidates_for local target r.type_id) refl outcome e
-
 pub absences_are_of_paths : AbsencesAreOfPaths
-unfolding outcome_of
+unfolding outcome_of absence_of
 absences_are_of_paths local target r outcome is none =
-    without_texts_by local target r outcome none (local_path local (without_position r)) refl (outcomes_rest_on_questions local target r (without_position r) outcome refl is)
+    let (path, side, rest) = ok_parts (local_path local (without_position r)) _ outcome (outcomes_rest_on_questions local target r (without_position r) outcome refl is) in
+    by_kind path side (is_local r.kind) rest
+  where
+    by_kind : (path : LocalPath) → local_path local (without_position r) ≡ Ok path → (b : Bool)
+        → (if b then Ok (itself r.type_id) else if_ok (of_types (candidates_for local target r.type_id)) (outcome_among local target (without_position r) path)) ≡ Ok outcome
+        → IsPathAbsence local target r
+    by_kind path side true e = let never : Some r.type_id ≡ None = ap (λ (o : Outcome). o.value) (same_ok _ _ e) ∙ none in cc
+    by_kind path side false e = by_ids (candidates_for local target r.type_id) refl e
+      where
+        by_ids : (c : Result (List ℕ) BtfError) → candidates_for local target r.type_id ≡ c → if_ok (of_types c) (outcome_among local target (without_position r) path) ≡ Ok outcome
+            → IsPathAbsence local target r
+        by_ids (Ok ids) are e = record { path = path; side = side; ids = ids; candidates = are; absence = rw (side, are) refl }
+        by_ids (Err fault) are e = cc
 
 -- ---- matches of a field
 
-abbrev kept_ones : List (Option Match) → List Match
-kept_ones all = filter_map (λ m. m) all
+module _ (local target : TypeInfo) (local_id : ℕ) (path : NamedPath) where
+  abbrev finds : ℕ → Result (Option Found) RelocationError
+  finds = found_at_candidate local target local_id path
 
-module _ (f : ℕ → Result (Option Match) RelocationError) where
-  -- where none is kept, each answers none
-  all_none : (ids : List ℕ) (all : List (Option Match)) → each f ids ≡ Ok all → kept_ones all ≡ [] → (k id : ℕ) → slice_get ids k ≡ Some id → f id ≡ Ok None
-  all_none [] all e none k id at = cc
-  all_none (x ∷ ids) all e none k id at =
-      let (y, first, rest) = ok_parts (f x) (λ y. if_ok (each f ids) (λ ys. Ok (y ∷ ys))) all e in
-      let (ys, others, are) = ok_parts (each f ids) (λ ys. Ok (y ∷ ys)) all rest in
-      by_first y first ys (ap kept_ones (same_ok _ _ are) ∙ none) (all_none ids ys others) k at
-    where
-      by_first : (y : Option Match) → f x ≡ Ok y → (ys : List (Option Match)) → kept_ones (y ∷ ys) ≡ []
-          → (kept_ones ys ≡ [] → (k id : ℕ) → slice_get ids k ≡ Some id → f id ≡ Ok None) → (k : ℕ) → slice_get (x ∷ ids) k ≡ Some id → f id ≡ Ok None
-      by_first (Some m) first ys none more k at = cc
-      by_first None first ys none more zero at = subst (λ n. f n ≡ Ok None) (same_Some _ _ at) first
-      by_first None first ys none more (suc k) at = more none k id at
+  first_parts : (x : ℕ) (ids : List ℕ) (all : List Match) → matches local target local_id path (x ∷ ids) ≡ Ok all
+      → (what : Option Found) × (finds x ≡ Ok what) × (ms : List Match) × (matches local target local_id path ids ≡ Ok ms) × (kept_with x what ms ≡ all)
+  first_parts x ids all e =
+      let (what, first, rest) = ok_parts (finds x) _ all (sym (match_more local target local_id path x ids) ∙ e) in
+      let (ms, others, are) = ok_parts (matches local target local_id path ids) _ all rest in
+      (what, first, ms, others, same_ok _ _ are)
 
-  -- where one is kept, one answers so
-  some_one : (ids : List ℕ) (all : List (Option Match)) → each f ids ≡ Ok all → kept_ones all ≢ [] → (k : ℕ) × (id : ℕ) × (m : Match) × (slice_get ids k ≡ Some id) × (f id ≡ Ok (Some m))
-  some_one [] all e some = absurd (some (ap kept_ones (sym (same_ok _ _ e))))
-  some_one (x ∷ ids) all e some =
-      let (y, first, rest) = ok_parts (f x) (λ y. if_ok (each f ids) (λ ys. Ok (y ∷ ys))) all e in
-      let (ys, others, are) = ok_parts (each f ids) (λ ys. Ok (y ∷ ys)) all rest in
-      by_first y first ys (λ none. some (ap kept_ones (sym (same_ok _ _ are)) ∙ none)) (some_one ids ys others)
+  -- where none matches, each answers none
+  all_none : (ids : List ℕ) → matches local target local_id path ids ≡ Ok [] → (k id : ℕ) → slice_get ids k ≡ Some id → finds id ≡ Ok None
+  all_none [] e k id at = cc
+  all_none (x ∷ ids) e k id at = let (what, first, ms, others, are) = first_parts x ids [] e in by_first what first ms are (λ none. all_none ids (others ∙ ap Ok none)) k at
     where
-      by_first : (y : Option Match) → f x ≡ Ok y → (ys : List (Option Match)) → kept_ones (y ∷ ys) ≢ []
-          → (kept_ones ys ≢ [] → (k : ℕ) × (id : ℕ) × (m : Match) × (slice_get ids k ≡ Some id) × (f id ≡ Ok (Some m)))
-          → (k : ℕ) × (id : ℕ) × (m : Match) × (slice_get (x ∷ ids) k ≡ Some id) × (f id ≡ Ok (Some m))
-      by_first (Some m) first ys some more = (0, x, m, refl, first)
-      by_first None first ys some more = let (k, id, m, at, is) = more some in (suc k, id, m, at, is)
+      by_first : (what : Option Found) → finds x ≡ Ok what → (ms : List Match) → kept_with x what ms ≡ [] → (ms ≡ [] → (k id : ℕ) → slice_get ids k ≡ Some id → finds id ≡ Ok None)
+          → (k : ℕ) → slice_get (x ∷ ids) k ≡ Some id → finds id ≡ Ok None
+      by_first (Some w) first ms are more k at = cc
+      by_first None first ms are more zero at = subst (λ n. finds n ≡ Ok None) (same_Some _ _ at) first
+      by_first None first ms are more (suc k) at = more are k id at
+
+  -- where one matches, one answers so
+  some_one : (ids : List ℕ) (all : List Match) → matches local target local_id path ids ≡ Ok all → all ≢ [] → (k : ℕ) × (id : ℕ) × (w : Found) × (slice_get ids k ≡ Some id) × (finds id ≡ Ok (Some w))
+  some_one [] all e some = absurd (some (same_ok _ _ (sym e ∙ no_candidates local target local_id path)))
+  some_one (x ∷ ids) all e some = let (what, first, ms, others, are) = first_parts x ids all e in by_first what first ms are (some_one ids ms others)
+    where
+      by_first : (what : Option Found) → finds x ≡ Ok what → (ms : List Match) → kept_with x what ms ≡ all
+          → (ms ≢ [] → (k : ℕ) × (id : ℕ) × (w : Found) × (slice_get ids k ≡ Some id) × (finds id ≡ Ok (Some w)))
+          → (k : ℕ) × (id : ℕ) × (w : Found) × (slice_get (x ∷ ids) k ≡ Some id) × (finds id ≡ Ok (Some w))
+      by_first (Some w) first ms are more = (0, x, w, refl, first)
+      by_first None first ms are more = let (k, id, w, at, is) = more (λ none. some (sym are ∙ none)) in (suc k, id, w, at, is)
 
 module _ (local target : TypeInfo) (local_id : ℕ) (steps : List Step) (place : Place) where
-  abbrev matched : ℕ → Result (Option Match) RelocationError
-  matched id = match_in local target local_id (paths.Field steps place) id
-
-  abbrev by_answer : ℕ → Result (Option Place) PlaceFault → Result (Option Match) RelocationError
-  by_answer id p = if_ok (by_place target id p) (λ what. Ok (option_map (match_of id) what))
-
-  matched_by : (id : ℕ) → matched id ≡ by_answer id (place_of local target id steps)
+  found_by : (id : ℕ) → found_at_candidate local target local_id (paths.Field steps place) id ≡ by_place target id (place_of local target id steps)
   unfolding found_at_candidate
-  matched_by id = refl
+  found_by id = refl
 
-  nested : {X : Type 0} (name : Result (List ℕ) RelocationError) (e : List ℕ → RelocationError) (next : Option Found → Result X RelocationError) (x : X)
-      → if_ok (if_ok name (λ n. Err (e n))) next ≡ Ok x → ⊥
-  nested (Ok n) e next x h = cc
-  nested (Err fault) e next x h = cc
+  nested : {X : Type 0} (name : Result (List ℕ) RelocationError) (e : List ℕ → RelocationError) (x : X) → if_ok name (λ n. Err (e n)) ≡ Ok x → ⊥
+  nested (Ok n) e x h = cc
+  nested (Err fault) e x h = cc
 
-  nowhere_then : (id : ℕ) (p : Result (Option Place) PlaceFault) → by_answer id p ≡ Ok None → is_place p ≡ false
+  nowhere_then : (id : ℕ) (p : Result (Option Place) PlaceFault) → by_place target id p ≡ Ok None → is_place p ≡ false
   nowhere_then id (Ok None) e = refl
   nowhere_then id (Ok (Some there)) e = cc
   nowhere_then id (Err fault) e = refl
 
-  somewhere_then : (id : ℕ) (m : Match) (p : Result (Option Place) PlaceFault) → by_answer id p ≡ Ok (Some m) → is_place p ≡ true
-  somewhere_then id m (Ok None) e = cc
-  somewhere_then id m (Ok (Some there)) e = refl
-  somewhere_then id m (Err NestingLevel) e = absurd (nested (of_types (type_name_at target id)) _ _ _ e)
-  somewhere_then id m (Err (Btf fault)) e = cc
+  somewhere_then : (id : ℕ) (w : Found) (p : Result (Option Place) PlaceFault) → by_place target id p ≡ Ok (Some w) → is_place p ≡ true
+  somewhere_then id w (Ok None) e = cc
+  somewhere_then id w (Ok (Some there)) e = refl
+  somewhere_then id w (Err NestingLevel) e = absurd (nested (of_types (type_name_at target id)) _ _ e)
+  somewhere_then id w (Err (Btf fault)) e = cc
 
   whole : (id : ℕ) (b : Bool) → is_place (place_of local target id steps) ≡ b → leads local target steps id (length steps) ≡ b
   whole id b is = ap (λ path. is_place (place_of local target id path)) (take-length steps) ∙ is
@@ -194,18 +184,16 @@ module _ (local target : TypeInfo) (local_id : ℕ) (steps : List Step) (place :
           let never : true ≡ false = sym comes.there ∙ ap (leads local target steps other) all ∙ none comes.index other comes.at in cc
 
 pub no_value_is_of_matches : NoValueIsOfMatches
-unfolding field_absence matches
-no_value_is_of_matches local target local_id steps place ids found is =
-    let f = matched local target local_id steps place in
-    let (all, each_is, are) = ok_parts (each f ids) (λ all. Ok (kept_ones all)) found is in (
-      λ e none.
-          not_led local target local_id steps place ids
-          (λ k id at. whole local target local_id steps place id false
-          (nowhere_then local target local_id steps place id _ (sym (matched_by local target local_id steps place id) ∙ all_none f ids all each_is (same_ok _ _ are ∙ none) k id at)))
-          (furthest local target steps ids).candidate refl e,
-      λ some.
-          let (k, id, m, at, one) = some_one f ids all each_is (λ none. some (sym (same_ok _ _ are) ∙ none)) in
-          led local target local_id steps place ids k id at
-          (whole local target local_id steps place id true (somewhere_then local target local_id steps place id m _ (sym (matched_by local target local_id steps place id) ∙ one)))
-          (furthest local target steps ids).candidate refl,
-    )
+unfolding field_absence
+no_value_is_of_matches local target local_id steps place ids found is = (
+  λ e none.
+      not_led local target local_id steps place ids
+      (λ k id at. whole local target local_id steps place id false
+      (nowhere_then local target local_id steps place id _ (sym (found_by local target local_id steps place id) ∙ all_none local target local_id (paths.Field steps place) ids (is ∙ ap Ok none) k id at)))
+      (furthest local target steps ids).candidate refl e,
+  λ some.
+      let (k, id, w, at, one) = some_one local target local_id (paths.Field steps place) ids found is some in
+      led local target local_id steps place ids k id at
+      (whole local target local_id steps place id true (somewhere_then local target local_id steps place id w _ (sym (found_by local target local_id steps place id) ∙ one)))
+      (furthest local target steps ids).candidate refl,
+)

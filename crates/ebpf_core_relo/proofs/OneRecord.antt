@@ -1,27 +1,24 @@
 -- What one record makes of the slots that were written before it.
-use Rattle.std.proofs.Common.{◌≡◌, ℕ, ◌+◌, ◌-◌, ◌/◌, Bool, true, false, cond, List, length, Option, Some, None, Result, Ok, Err, refl, sym, ap, ◌∙◌, subst, inl, inr, ◌⊎◌, slice_get}
-use Rattle.std.specs.Prelude.{◌≢◌, option_map}
+use Rattle.std.proofs.Common.{◌≡◌, ℕ, ◌+◌, ◌-◌, ◌/◌, Bool, true, false, cond, List, length, Option, Some, None, Ok, refl, sym, ap, ◌∙◌, subst, inl, inr, ◌⊎◌, slice_get, Result}
+use Rattle.std.specs.Prelude.{◌≢◌, IfOk, option_map}
 use Rattle.std.specs.FinMap.{get, get-insert, insert}
 use Rattle.std.specs.Cmp.{eq_by_cmp_equiv}
 use Rattle.std.specs.Ordering.{eq_by_cmp}
 use Rattle.std.proofs.lemmas.Bool.{cases_eq}
 use Rattle.std.proofs.lemmas.Option.{same_Some, slice_get_within}
+use Rattle.std.proofs.lemmas.Result.{IfOk-at_ok}
 use Rattle.ebpf_base.proofs.Maps.{key_exact}
 use Rattle.ebpf_base.specs.Keys.{key_cmp, key_total}
-use Rattle.ebpf_btf.specs.Next.{if_some}
 use Rattle.ebpf_ext.specs.declared.relocation.Relocation.{Relocation}
-use Rattle.ebpf_base.specs.Results.{if_ok}
+use Rattle.ebpf_core_candidates.proofs.Refusals.{by_answer, by_option}
 use Rattle.ebpf_core.specs.Searches.{outcome_of}
-use Rattle.ebpf_core.specs.declared.error.RelocationError.TheVariants.{FunctionNotFound}
+use Rattle.ebpf_core.specs.declared.error.RelocationError.{RelocationError}
 use Rattle.ebpf_core.specs.declared.outcome.Outcome.{Outcome}
-use Rattle.ebpf_core_relo.proofs.OutcomeSlots.{goes_on_before, nothing_behind, same_ok, written_slots_carry, written_too}
+use Rattle.ebpf_core_relo.proofs.OutcomeSlots.{goes_on_before, nothing_behind, written_slots_carry, written_too}
 use Rattle.ebpf_core_relo.specs.Alone.{Carries, HasSlot, Touches, goes_on, record_slot}
-use Rattle.ebpf_core_relo.specs.Carried.{written}
-use Rattle.ebpf_core_relo.specs.RecordFunctions.{spans_of}
+use Rattle.ebpf_core_relo.specs.Carried.{written, carrying, CarriesAt, next_slot_written}
+use Rattle.ebpf_core_relo.specs.Spans.{spans_of, span_at}
 use Rattle.ebpf_core_relo.specs.Records.{RelocationInputs, Written, own_slots, put_outcome, record_applied, slots_so_far, slots_by}
-use Rattle.ebpf_core_relo.specs.Carried.{carrying}
-use Rattle.ebpf_core_relo.specs.SlotOutcomes.{CarriesAt, next_slot_written}
-use Rattle.ebpf_core_relo.specs.Spans.{span_at}
 use Rattle.ebpf_core_relo.specs.declared.spans.Span.{Span}
 use Rattle.ebpf_parts.specs.declared.insn.bpf_insn.{bpf_insn}
 use Rattle.ebpf_base.proofs.Orderings.{is_equal}
@@ -52,35 +49,29 @@ pub record Puts (inputs : RelocationInputs) (located : ℕ × Relocation) (so_fa
 
 -- ---- a record that was applied puts its outcome
 
-pub ok_parts : {A X E : Type 0} (r : Result A E) (next : A → Result X E) (x : X) → if_ok r next ≡ Ok x → (a : A) × (r ≡ Ok a) × (next a ≡ Ok x)
-ok_parts (Ok a) next x e = (a, refl, e)
-ok_parts (Err f) next x e = cc
+module _ (inputs : RelocationInputs) (section : ℕ) (so_far : Written) (r : Relocation) where
+  abbrev IsPut : Result Written RelocationError → Type 0
+  IsPut x = IfOk x (Puts inputs (section, r) so_far)
 
-put_puts : (inputs : RelocationInputs) (section : ℕ) (so_far left : Written) (r : Relocation) (span : Span) → span_at r.insn_off (spans_of inputs.functions section) ≡ Some span
-    → put_outcome inputs section so_far r span ≡ Ok left → Puts inputs (section, r) so_far left
-unfolding put_outcome
-put_puts inputs section so_far left r span found e =
-    let (outcome, is, rest) = ok_parts (outcome_of inputs.sides.local inputs.sides.target r) _ left e in
-    let (slots, carried, last) = ok_parts (written r.number (slots_so_far inputs.functions so_far (section, span.address)) ((r.insn_off - span.start) / 8) outcome) _ left rest in
-    record {
-      key = (section, span.address);
-      slot = (r.insn_off - span.start) / 8;
-      about = ap (option_map (λ (s : Span). ((section, s.address), (r.insn_off - s.start) / 8))) found;
-      outcome = outcome;
-      found = is;
-      slots = slots;
-      carried = carried;
-      put = sym (same_ok _ _ last);
-    }
+  is_put : IsPut (record_applied inputs section so_far r)
+  unfolding record_applied put_outcome
+  is_put =
+      by_option IsPut (span_at r.insn_off (spans_of inputs.functions section)) _ _ (λ none. tt)
+      (λ span there. by_answer IsPut (outcome_of inputs.sides.local inputs.sides.target r) _ (λ e fault. tt)
+      (λ outcome is. by_answer IsPut (written r.number (slots_so_far inputs.functions so_far (section, span.address)) ((r.insn_off - span.start) / 8) outcome) _ (λ e fault. tt)
+      (λ slots carried. record {
+        key = (section, span.address);
+        slot = (r.insn_off - span.start) / 8;
+        about = ap (option_map (λ (s : Span). ((section, s.address), (r.insn_off - s.start) / 8))) there;
+        outcome = outcome;
+        found = is;
+        slots = slots;
+        carried = carried;
+        put = refl;
+      })))
 
 pub applied_puts : (inputs : RelocationInputs) (section : ℕ) (so_far left : Written) (r : Relocation) → record_applied inputs section so_far r ≡ Ok left → Puts inputs (section, r) so_far left
-unfolding record_applied
-applied_puts inputs section so_far left r e = by_span (span_at r.insn_off (spans_of inputs.functions section)) refl e
-  where
-    by_span : (o : Option Span) → span_at r.insn_off (spans_of inputs.functions section) ≡ o → if_some o (put_outcome inputs section so_far r) (Err FunctionNotFound) ≡ Ok left
-        → Puts inputs (section, r) so_far left
-    by_span None is e = cc
-    by_span (Some span) is e = put_puts inputs section so_far left r span is e
+applied_puts inputs section so_far left r e = IfOk-at_ok (Puts inputs (section, r) so_far) e (is_put inputs section so_far r)
 
 -- ---- what it puts, key by key
 

@@ -1,6 +1,5 @@
 -- What records come to, list by list and by place.
-use Rattle.std.proofs.Common.{◌≡◌, ℕ, zero, suc, ◌+◌, ◌<◌, List, [], ◌∷◌, ◌++◌, length, take, drop, Option, Result, refl, sym, ap, ◌∙◌, append_assoc, get_or, slice_get, arith}
-use Rattle.std.proofs.Math.Seq.{drop-cons}
+use Rattle.std.proofs.Common.{◌≡◌, ℕ, zero, suc, ◌+◌, List, [], ◌∷◌, ◌++◌, take, drop, Option, Result, refl, sym, ap, ◌∙◌, append_assoc, slice_get}
 use Rattle.std.specs.Prelude.{option_map}
 use Rattle.std.proofs.lemmas.List.Sums.{fold-append}
 use Rattle.std.specs.FinMap.{empty}
@@ -20,12 +19,6 @@ outcomes-append inputs so_far (x ∷ xs) ys = ap (λ rows. outcome_after inputs 
 
 pub slots-append : (inputs : RelocationInputs) (so_far : Written) (xs ys : List Named) → slots_left inputs so_far (xs ++ ys) ≡ slots_left inputs (slots_left inputs so_far xs) ys
 slots-append inputs so_far xs ys = fold-append (left_after inputs) so_far xs ys
-
--- what is left from a member on, of a list of such as are copied
-pub rest_at : {X : Type 0} (xs : List X) (i : ℕ) (d : X) → i < length xs → drop i xs ≡ get_or xs i d ∷ drop (i + 1) xs
-rest_at xs i d below =
-    let on : suc i ≡ i + 1 = omega arith in
-    drop-cons xs i d below ∙ ap (λ n. get_or xs i d ∷ drop n xs) on
 
 -- ---- one record more
 

@@ -1,18 +1,17 @@
 -- What writing an outcome makes of a function's slots, slot by slot.
-use Rattle.std.proofs.Common.{◌≡◌, ℕ, zero, suc, ◌+◌, ◌*◌, ◌/◌, ◌%◌, ◌<◌, Bool, true, false, List, [], ◌∷◌, length, Option, Some, None, Result, Ok, Err, refl, sym, ap, ◌∙◌, subst, inl, inr, ◌⊎◌, arith, length-set, slice_get, slice_set}
-use Rattle.std.specs.Prelude.{◌≢◌, ◌==◌, ◌^◌, if◌then◌else◌, is_ok, is_some, nat_lt, option_map, pos}
+use Rattle.std.proofs.Common.{◌≡◌, ℕ, ◌+◌, ◌*◌, ◌/◌, ◌%◌, ◌<◌, Bool, true, false, List, length, Option, Some, None, Result, Ok, refl, sym, ap, ◌∙◌, inl, inr, ◌⊎◌, arith, length-set, slice_get, slice_set}
+use Rattle.std.specs.Prelude.{◌≢◌, ◌==◌, ◌^◌, IfOk, if◌then◌else◌, nat_lt, option_map, pos}
 use Rattle.std.proofs.lemmas.Bool.{cases_eq, eqb-true}
 use Rattle.std.proofs.lemmas.Nat.{mod-mul-add, mod_below}
+use Rattle.std.proofs.lemmas.Result.{IfOk-at_ok}
 use Rattle.std.proofs.lemmas.Option.{cond_some, same_Some, slice_get_within}
-use Rattle.ebpf_base.proofs.Lists.{set_same, set_other}
-use Rattle.ebpf_btf.specs.Next.{if_some}
+use Rattle.ebpf_base.proofs.Lists.{set_same, set_other, there_is}
+use Rattle.ebpf_core_candidates.proofs.Refusals.{by_option, by_test}
 use Rattle.ebpf_core.specs.declared.error.RelocationError.{RelocationError}
-use Rattle.ebpf_core.specs.declared.error.RelocationError.TheVariants.{InvalidInstruction, InvalidInstructionIndex}
 use Rattle.ebpf_core.specs.declared.field.LoadedField.{LoadedField}
 use Rattle.ebpf_core.specs.declared.outcome.Outcome.{Outcome}
 use Rattle.ebpf_core_relo.specs.Alone.{goes_on}
-use Rattle.ebpf_core_relo.specs.Carried.{carried_by, carrier_of, carrier_of_class, carrying, carrying_next, high_half, is_wide_load, may_resize, moved_code, poison, resized, size_bits, takes_next, written}
-use Rattle.ebpf_core_relo.specs.SlotOutcomes.{CarriesAt, WrittenSlotsCarry, next_slot_written}
+use Rattle.ebpf_core_relo.specs.Carried.{carried_by, carrier_of, carrier_of_class, carrying, carrying_next, high_half, is_wide_load, may_resize, moved_code, poison, resized, size_bits, takes_next, written, CarriesAt, WrittenSlotsCarry, next_slot_written}
 use Rattle.ebpf_core_relo.specs.declared.carried.Carrier.{Carrier}
 use Rattle.ebpf_core_relo.specs.declared.carried.Carrier.TheVariants.{Immediate, Offset, WideLoad, Nothing}
 use Rattle.ebpf_parts.specs.Slots.{src_of}
@@ -20,28 +19,9 @@ use Rattle.ebpf_parts.specs.declared.insn.bpf_insn.{bpf_insn}
 
 -- ---- lists and answers
 
--- lists of one length have the same places
-same_places : {X : Type 0} (xs ys : List X) (k : ℕ) → length xs ≡ length ys → is_some (slice_get xs k) ≡ is_some (slice_get ys k)
-same_places [] [] k e = refl
-same_places [] (y ∷ ys) k e = absurd (omega arith)
-same_places (x ∷ xs) [] k e = absurd (omega arith)
-same_places (x ∷ xs) (y ∷ ys) zero e = refl
-same_places (x ∷ xs) (y ∷ ys) (suc k) e = same_places xs ys k (omega arith)
-
 map_same : {X : Type 0} (o : Option X) (f : X → X) → ((x : X) → f x ≡ x) → option_map f o ≡ o
 map_same None f h = refl
 map_same (Some x) f h = ap Some (h x)
-
-pub same_ok : {X E : Type 0} (x y : X) → ◌≡◌ {A = Result X E} (Ok x) (Ok y) → x ≡ y
-same_ok {X} {E} x y e = ap given e
-  where
-    given : Result X E → X
-    given (Ok z) = z
-    given (Err z) = x
-
-ok_some : {X E : Type 0} (r : Result X E) → is_ok r ≡ true → (x : X) × (r ≡ Ok x)
-ok_some (Ok x) e = (x, refl)
-ok_some (Err x) e = cc
 
 -- ---- a slot, and the one behind it
 
@@ -80,83 +60,44 @@ module _ (i : ℕ) (outcome : Outcome) (before : List bpf_insn) (old new : bpf_i
       }
 
 module _ (number : ℕ) (before : List bpf_insn) (i : ℕ) (outcome : Outcome) where
-  -- what is written, by the slot behind and whether it is taken
-  abbrev with_next : bpf_insn → Bool → Option bpf_insn → Result (List bpf_insn) RelocationError
-  with_next new two behind =
-      if two
-      then if_some behind (λ next. Ok (slice_set (slice_set before i new) (i + 1) (carrying_next outcome.value next))) (Err (InvalidInstructionIndex (i + 1) (length before) number))
-      else Ok (slice_set before i new)
+  abbrev Carries : Result (List bpf_insn) RelocationError → Type 0
+  Carries r = IfOk r (CarriesAt i outcome before)
 
-  abbrev with_new : bpf_insn → Option bpf_insn → Result (List bpf_insn) RelocationError
-  with_new slot o = if_some o (λ new. with_next new (takes_next outcome.value slot) (slice_get before (i + 1))) (Err (InvalidInstruction number i []))
+  carries : Carries (written number before i outcome)
+  unfolding written
+  carries =
+      by_option Carries (slice_get before i) _ _ (λ none. tt)
+      (λ old was. by_option Carries (carrying outcome.value old outcome) _ _ (λ none. tt)
+      (λ new carry. by_test Carries (takes_next outcome.value old) _ _
+      (λ both. by_option Carries (slice_get before (i + 1)) _ _ (λ none. tt) (λ next follows. two_slots i outcome before old new was carry both next follows))
+      (λ alone. one_slot i outcome before old new was carry alone)))
 
-  abbrev with_slot : Option bpf_insn → Result (List bpf_insn) RelocationError
-  with_slot o = if_some o (λ slot. with_new slot (carrying outcome.value slot outcome)) (Err (InvalidInstructionIndex i (length before) number))
+  -- it can be written into slots of which there are as many and of which this one is the same
+  module _ (own : List bpf_insn) (slot : slice_get before i ≡ slice_get own i) (as_many : length before ≡ length own) where
+    abbrev Too : Result (List bpf_insn) RelocationError → Type 0
+    Too r = IfOk r (λ after. (slots : List bpf_insn) × (written number own i outcome ≡ Ok slots))
 
-  by_next : (after : List bpf_insn) (old new : bpf_insn) → slice_get before i ≡ Some old → carrying outcome.value old outcome ≡ Some new
-      → (two : Bool) → takes_next outcome.value old ≡ two → (o : Option bpf_insn) → slice_get before (i + 1) ≡ o → with_next new two o ≡ Ok after → CarriesAt i outcome before after
-  by_next after old new was carries true both None follows e = cc
-  by_next after old new was carries true both (Some next) follows e =
-      subst (CarriesAt i outcome before) (same_ok _ _ e) (two_slots i outcome before old new was carries both next follows)
-  by_next after old new was carries false alone o follows e = subst (CarriesAt i outcome before) (same_ok _ _ e) (one_slot i outcome before old new was carries alone)
-
-  by_new : (after : List bpf_insn) (old : bpf_insn) → slice_get before i ≡ Some old → (o : Option bpf_insn) → carrying outcome.value old outcome ≡ o
-      → with_new old o ≡ Ok after → CarriesAt i outcome before after
-  by_new after old was None carries e = cc
-  by_new after old was (Some new) carries e = by_next after old new was carries (takes_next outcome.value old) refl (slice_get before (i + 1)) refl e
-
-  by_slot : (after : List bpf_insn) (o : Option bpf_insn) → slice_get before i ≡ o → with_slot o ≡ Ok after → CarriesAt i outcome before after
-  by_slot after None was e = cc
-  by_slot after (Some old) was e = by_new after old was (carrying outcome.value old outcome) refl e
+    too : Too (written number before i outcome)
+    unfolding written
+    too =
+        by_option Too (slice_get before i) _ _ (λ none. tt)
+        (λ old was. by_option Too (carrying outcome.value old outcome) _ _ (λ none. tt)
+        (λ new carry. by_test Too (takes_next outcome.value old) _ _
+        (λ both. by_option Too (slice_get before (i + 1)) _ _ (λ none. tt) (λ next follows. two old new (sym slot ∙ was) carry both next follows))
+        (λ alone. (slice_set own i new, rw (sym slot ∙ was, carry, alone) refl))))
+      where
+        two : (old new : bpf_insn) → slice_get own i ≡ Some old → carrying outcome.value old outcome ≡ Some new → takes_next outcome.value old ≡ true
+            → (next : bpf_insn) → slice_get before (i + 1) ≡ Some next → (slots : List bpf_insn) × (written number own i outcome ≡ Ok slots)
+        two old new was carry both next follows =
+            let (behind, there) = there_is own (i + 1) (rw (← as_many) (slice_get_within before (i + 1) next follows)) in
+            (slice_set (slice_set own i new) (i + 1) (carrying_next outcome.value behind), rw (was, carry, both, there) refl)
 
 pub written_slots_carry : WrittenSlotsCarry
-unfolding written
-written_slots_carry number before after i outcome e = by_slot number before i outcome after (slice_get before i) refl e
+written_slots_carry number before after i outcome e = IfOk-at_ok (CarriesAt i outcome before) e (carries number before i outcome)
 
--- ---- whether an outcome can be written
-
--- by its slot, and whether there is one behind it
-new_tells : Outcome → bpf_insn → Bool → Option bpf_insn → Bool
-new_tells outcome slot more None = false
-new_tells outcome slot more (Some new) = if takes_next outcome.value slot then more else true
-
-slot_tells : Outcome → Bool → Option bpf_insn → Bool
-slot_tells outcome more None = false
-slot_tells outcome more (Some slot) = new_tells outcome slot more (carrying outcome.value slot outcome)
-
-module _ (number : ℕ) (before : List bpf_insn) (i : ℕ) (outcome : Outcome) where
-  abbrev more : Bool
-  more = is_some (slice_get before (i + 1))
-
-  ok_next : (new : bpf_insn) (two : Bool) (o : Option bpf_insn) → is_ok (with_next number before i outcome new two o) ≡ (if two then is_some o else true)
-  ok_next new true None = refl
-  ok_next new true (Some next) = refl
-  ok_next new false o = refl
-
-  ok_new : (slot : bpf_insn) (o : Option bpf_insn) → is_ok (with_new number before i outcome slot o) ≡ new_tells outcome slot more o
-  unfolding new_tells
-  ok_new slot None = refl
-  ok_new slot (Some new) = ok_next new (takes_next outcome.value slot) (slice_get before (i + 1))
-
-  ok_slot : (o : Option bpf_insn) → is_ok (with_slot number before i outcome o) ≡ slot_tells outcome more o
-  unfolding slot_tells
-  ok_slot None = refl
-  ok_slot (Some slot) = ok_new slot (carrying outcome.value slot outcome)
-
-  ok_written : is_ok (written number before i outcome) ≡ slot_tells outcome more (slice_get before i)
-  unfolding written
-  ok_written = ok_slot (slice_get before i)
-
--- it can be written into slots of which there are as many and of which this one is the same
 pub written_too : (number : ℕ) (before own after : List bpf_insn) (i : ℕ) (outcome : Outcome) → written number before i outcome ≡ Ok after
     → slice_get before i ≡ slice_get own i → length before ≡ length own → (slots : List bpf_insn) × (written number own i outcome ≡ Ok slots)
-written_too number before own after i outcome e slot as_many =
-    ok_some (written number own i outcome)
-    (ok_written number own i outcome
-    ∙ sym (ap (λ more. slot_tells outcome more (slice_get own i)) (same_places before own (i + 1) as_many))
-    ∙ sym (ap (slot_tells outcome (is_some (slice_get before (i + 1)))) slot)
-    ∙ sym (ok_written number before i outcome)
-    ∙ ap is_ok e)
+written_too number before own after i outcome e slot as_many = IfOk-at_ok (λ r. (slots : List bpf_insn) × (written number own i outcome ≡ Ok slots)) e (too number before i outcome own slot as_many)
 
 -- ---- classes
 
@@ -213,16 +154,12 @@ new_goes_on (Some n) old new outcome e h = ap (λ class. class == 0) (sym (carri
 
 -- and so does the slot behind it
 next_goes_on : (v : Option ℕ) (old next : bpf_insn) → goes_on (Some (next_slot_written v old next)) ≡ true → goes_on (Some next) ≡ true
-next_goes_on None old next h = by_code (old.code == 0x18) h
+next_goes_on v old next h =
+    by_test (λ (x : bpf_insn). goes_on (Some x) ≡ true → goes_on (Some next) ≡ true) (takes_next v old) (carrying_next v next) next (λ both. behind v) (λ alone more. more) h
   where
-    by_code : (b : Bool) → goes_on (Some (if b then poison else next)) ≡ true → goes_on (Some next) ≡ true
-    by_code true h = cc
-    by_code false h = h
-next_goes_on (Some n) old next h = by_carrier (is_wide_load (carrier_of old)) h
-  where
-    by_carrier : (b : Bool) → goes_on (Some (if b then record next { imm = high_half n } else next)) ≡ true → goes_on (Some next) ≡ true
-    by_carrier true h = h
-    by_carrier false h = h
+    behind : (v : Option ℕ) → goes_on (Some (carrying_next v next)) ≡ true → goes_on (Some next) ≡ true
+    behind None h = cc
+    behind (Some n) h = h
 
 mapped_goes_on : (v : Option ℕ) (old : bpf_insn) (o : Option bpf_insn) → goes_on (option_map (next_slot_written v old) o) ≡ true → goes_on o ≡ true
 mapped_goes_on v old None h = h

@@ -3,11 +3,13 @@ use Rattle.std.proofs.Common.{◌≡◌, ℕ, zero, suc, ◌<◌, ◌≤◌, max
 use Rattle.std.specs.Prelude.{◌≢◌, if◌then◌else◌}
 use Rattle.std.proofs.lemmas.Bool.{cases_eq, cases_lt, lt-ltb}
 use Rattle.ebpf_btf.specs.TypeInfo.{TypeInfo}
-use Rattle.ebpf_places.specs.Places.{root_spot, followed, if_fine, onward, place_of, stepped}
-use Rattle.ebpf_places.specs.declared.fault.PlaceFault.{PlaceFault}
-use Rattle.ebpf_places.specs.declared.steps.Step.{Step}
-use Rattle.ebpf_places.specs.declared.steps.Step.TheVariants.{Name, Index}
-use Rattle.ebpf_places.specs.declared.walk.Spot.{Spot}
+use Rattle.ebpf_base.specs.Results.{if_ok}
+use Rattle.ebpf_core_candidates.proofs.Refusals.{by_test}
+use Rattle.ebpf_core_places.specs.Places.{root_spot, followed, onward, place_of, stepped}
+use Rattle.ebpf_core_places.specs.declared.fault.PlaceFault.{PlaceFault}
+use Rattle.ebpf_core_places.specs.declared.steps.Step.{Step}
+use Rattle.ebpf_core_places.specs.declared.steps.Step.TheVariants.{Name, Index}
+use Rattle.ebpf_core_places.specs.declared.walk.Spot.{Spot}
 use Rattle.ebpf_core_relo.specs.Absences.{further, greatest, is_place, leads, reach}
 use Rattle.ebpf_core_relo.specs.declared.furthest.Furthest.{Furthest}
 
@@ -16,39 +18,27 @@ use Rattle.ebpf_core_relo.specs.declared.furthest.Furthest.{Furthest}
 module _ (test : ℕ → Bool) where
   within : (n : ℕ) → greatest test n ≤ n
   within zero = omega arith
-  within (suc n) = by_test (test (suc n)) (within n)
-    where
-      by_test : (b : Bool) → greatest test n ≤ n → (if b then suc n else greatest test n) ≤ suc n
-      by_test true less = omega arith
-      by_test false less = omega arith
+  within (suc n) = let less = within n in by_test (λ (x : ℕ). x ≤ suc n) (test (suc n)) (suc n) (greatest test n) (λ is. omega arith) (λ is. omega arith)
 
   at_least : (n s : ℕ) → s ≤ n → test s ≡ true → s ≤ greatest test n
   at_least zero s small passes = omega arith
-  at_least (suc n) s small passes = by_test (test (suc n)) refl (λ less. at_least n s less passes)
+  at_least (suc n) s small passes =
+      by_test (λ (x : ℕ). s ≤ x) (test (suc n)) (suc n) (greatest test n) (λ is. small) (λ is. by_place is (λ less. at_least n s less passes) (cases_eq s (suc n)))
     where
       by_place : test (suc n) ≡ false → (s ≤ n → s ≤ greatest test n) → (s ≡ suc n) ⊎ (s ≢ suc n) → s ≤ greatest test n
       by_place is less (inl same) = let never : true ≡ false = sym passes ∙ ap test same ∙ is in cc
       by_place is less (inr other) = less (omega arith)
 
-      by_test : (b : Bool) → test (suc n) ≡ b → (s ≤ n → s ≤ greatest test n) → s ≤ (if b then suc n else greatest test n)
-      by_test true is less = small
-      by_test false is less = by_place is less (cases_eq s (suc n))
-
   pub passes : (n : ℕ) → 0 < greatest test n → test (greatest test n) ≡ true
   passes zero some = absurd (omega arith)
-  passes (suc n) some = by_test (test (suc n)) refl (passes n) some
-    where
-      by_test : (b : Bool) → test (suc n) ≡ b → (0 < greatest test n → test (greatest test n) ≡ true) → 0 < (if b then suc n else greatest test n)
-          → test (if b then suc n else greatest test n) ≡ true
-      by_test true is less some = is
-      by_test false is less some = less some
+  passes (suc n) some = by_test (λ (x : ℕ). 0 < x → test x ≡ true) (test (suc n)) (suc n) (greatest test n) (λ is more. is) (λ is. passes n) some
 
   pub fails_past : (n m : ℕ) → greatest test n < m → m ≤ n → test m ≡ false
-  fails_past n m past small = by_test (test m) refl
+  fails_past n m past small = by_case (test m) refl
     where
-      by_test : (b : Bool) → test m ≡ b → b ≡ false
-      by_test false is = refl
-      by_test true is = let h : m ≤ greatest test n = at_least n m small is in absurd (omega arith)
+      by_case : (b : Bool) → test m ≡ b → b ≡ false
+      by_case false is = refl
+      by_case true is = let h : m ≤ greatest test n = at_least n m small is in absurd (omega arith)
 
   -- Where a test that passes at a number passes at each below, but for 0, it is passed up to the greatest.
   module _ (falls : (k : ℕ) → test (suc (suc k)) ≡ true → test (suc k) ≡ true) where
@@ -62,15 +52,12 @@ module _ (test : ℕ → Bool) where
 
     at_most : (n s : ℕ) → test (suc s) ≡ false → greatest test n ≤ s
     at_most zero s fails = omega arith
-    at_most (suc n) s fails = by_test (test (suc n)) refl (at_most n s fails)
+    at_most (suc n) s fails =
+        by_test (λ (x : ℕ). x ≤ s) (test (suc n)) (suc n) (greatest test n) (λ is. by_place (cases_lt s (suc n)) is) (λ is. at_most n s fails)
       where
         by_place : (s < suc n) ⊎ (suc n ≤ s) → test (suc n) ≡ true → suc n ≤ s
         by_place (inr high) is = high
         by_place (inl low) is = let never : true ≡ false = sym (down n s (omega arith) is) ∙ fails in cc
-
-        by_test : (b : Bool) → test (suc n) ≡ b → greatest test n ≤ s → (if b then suc n else greatest test n) ≤ s
-        by_test true is less = by_place (cases_lt s (suc n)) is
-        by_test false is less = less
 
 -- ---- a path with fewer steps
 
@@ -83,8 +70,8 @@ module _ (local target : TypeInfo) where
     where
       by_step : (r : Result (Option Spot) PlaceFault)
           → ((next : Spot) → is_place (followed local target (take (suc n) path) next) ≡ true → is_place (followed local target (take n path) next) ≡ true)
-          → is_place (if_fine r (λ led_to. onward led_to (followed local target (take (suc n) path)))) ≡ true
-          → is_place (if_fine r (λ led_to. onward led_to (followed local target (take n path)))) ≡ true
+          → is_place (if_ok r (λ led_to. onward led_to (followed local target (take (suc n) path)))) ≡ true
+          → is_place (if_ok r (λ led_to. onward led_to (followed local target (take n path)))) ≡ true
       by_step (Ok None) less there = there
       by_step (Ok (Some next)) less there = less next there
       by_step (Err fault) less there = there
@@ -95,7 +82,7 @@ module _ (local target : TypeInfo) where
   leads_fewer (Name name local_type ∷ path) id n there = there
   leads_fewer (Index index ∷ path) id n there = by_start (root_spot target id index) there
     where
-      by_start : (r : Result Spot PlaceFault) → is_place (if_fine r (followed local target (take (suc n) path))) ≡ true → is_place (if_fine r (followed local target (take n path))) ≡ true
+      by_start : (r : Result Spot PlaceFault) → is_place (if_ok r (followed local target (take (suc n) path))) ≡ true → is_place (if_ok r (followed local target (take n path))) ≡ true
       by_start (Ok from) there = fewer path n from there
       by_start (Err fault) there = there
 

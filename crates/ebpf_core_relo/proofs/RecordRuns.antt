@@ -11,14 +11,14 @@ use Rattle.ebpf_btf.specs.declared.error.BtfError.{BtfError}
 use Rattle.ebpf_ext.specs.declared.relocation.Relocation.{Relocation}
 use Rattle.ebpf_core.specs.declared.error.RelocationError.{RelocationError}
 use Rattle.ebpf_core.specs.declared.error.RelocationError.TheVariants as errors
-use Rattle.ebpf_core_relo.proofs.OneRecord.{IsSound, applied_puts, has_slot, ok_parts, others_stay, put_carries, slots_before, slots_now, sound_after}
-use Rattle.ebpf_core_relo.proofs.OutcomeSlots.{same_ok}
+use Rattle.ebpf_core_relo.proofs.OneRecord.{IsSound, applied_puts, has_slot, others_stay, put_carries, slots_before, slots_now, sound_after}
+use Rattle.ebpf_core_candidates.proofs.Refusals.{ok_parts, same_ok}
 use Rattle.ebpf_core_relo.specs.Alone.{Carries, HasSlot, OtherSlotsStay, PutSlotsStand, RecordsAloneAreCarried, RecordsHaveSections, RecordsHaveSlots, RecordsKeepShapes, SlotsStayAsMany, Touches, WritesAlone, goes_on, records_in_section, records_with_sections, section_index_named, section_index_named_at}
 use Rattle.ebpf_core_relo.specs.Records.{RelocationInputs, Written, all_applied, answer_in_section, named_applied, own_slots, record_applied, records_applied, section_applied, slots_by, unnamed_section, with_slots}
 use Rattle.ebpf_core_relo.specs.declared.error.BtfRelocationError.{BtfRelocationError}
-use Rattle.ebpf_elf.specs.declared.entries.SectionIndex.{SectionIndex}
+use Rattle.ebpf_elf.specs.declared.section.SectionIndex.{SectionIndex}
 use Rattle.ebpf_parts.specs.declared.insn.bpf_insn.{bpf_insn}
-use Rattle.ebpf_model.specs.Shapes.{KeepsShape}
+use Rattle.ebpf_model.specs.Walks.{KeepsShape}
 use Rattle.ebpf_model.specs.declared.function.Function.{Function}
 
 -- records of an object, applied one after the other
@@ -38,59 +38,47 @@ records_run inputs section (r ∷ rs) a b e =
     let (next, applied, rest) = ok_parts (record_applied inputs section a r) (records_applied inputs section rs) b e in
     (next, applied, records_run inputs section rs next b rest)
 
-section_runs : (inputs : RelocationInputs) (name : List ℕ) (rs : List Relocation) (a b : Written) (o : Option SectionIndex)
-    → if_some o (λ section. records_applied inputs section.0 rs a) (Err errors.SectionNotFound) ≡ Ok b → Runs inputs (records_in_section (option_map (λ section. section.0) o) rs) a b
-section_runs inputs name rs a b None e = cc
-section_runs inputs name rs a b (Some section) e = records_run inputs section.0 rs a b e
-
-in_section_ok : {X : Type 0} (name : List ℕ) (r : Result X RelocationError) (x : X) → answer_in_section name r ≡ Ok x → r ≡ Ok x
+pub in_section_ok : {X : Type 0} (name : List ℕ) (r : Result X RelocationError) (x : X) → answer_in_section name r ≡ Ok x → r ≡ Ok x
 in_section_ok name (Ok y) x e = ap Ok (same_ok _ _ e)
 in_section_ok name (Err f) x e = cc
 
-named_runs : (inputs : RelocationInputs) (part : ℕ × List Relocation) (a b : Written) → named_applied inputs part a ≡ Ok b → Runs inputs (records_in_section (section_index_named_at inputs part.0) part.1) a b
+-- all records of a section are
+abbrev AllRun : RelocationInputs → Option ℕ → List Relocation → Written → Written → Type 0
+AllRun inputs section rs a b = Runs inputs (records_in_section section rs) a b × (map (λ located. located.1) (records_in_section section rs) ≡ rs)
+
+section_runs : (inputs : RelocationInputs) (rs : List Relocation) (a b : Written) (o : Option SectionIndex)
+    → if_some o (λ section. records_applied inputs section.0 rs a) (Err errors.SectionNotFound) ≡ Ok b → AllRun inputs (option_map (λ section. section.0) o) rs a b
+section_runs inputs rs a b None e = cc
+section_runs inputs rs a b (Some section) e = (records_run inputs section.0 rs a b e, same_records section.0 rs)
+  where
+    same_records : (number : ℕ) (xs : List Relocation) → map (λ (located : ℕ × Relocation). located.1) (map (λ r. (number, r)) xs) ≡ xs
+    same_records number [] = refl
+    same_records number (x ∷ xs) = ap (λ ys. x ∷ ys) (same_records number xs)
+
+named_runs : (inputs : RelocationInputs) (part : ℕ × List Relocation) (a b : Written) → named_applied inputs part a ≡ Ok b → AllRun inputs (section_index_named_at inputs part.0) part.1 a b
 named_runs inputs part a b e = by_text (text_at inputs.sides.local.strings part.0) e
   where
     by_text : (t : Result (List ℕ) BtfError)
         → ◌≡◌ {A = Result Written BtfRelocationError}
         (elim t [ Ok name ↦ answer_in_section name (section_applied inputs name part.1 a) | Err f ↦ answer_in_section (unnamed_section part.0) (Err (errors.BtfError f)) ]) (Ok b)
-        → Runs inputs (records_in_section (section_index_named inputs t) part.1) a b
-    by_text (Ok name) e = section_runs inputs name part.1 a b (get inputs.section_infos name) (in_section_ok name (section_applied inputs name part.1 a) b e)
+        → AllRun inputs (section_index_named inputs t) part.1 a b
+    by_text (Ok name) e = section_runs inputs part.1 a b (get inputs.section_infos name) (in_section_ok name (section_applied inputs name part.1 a) b e)
     by_text (Err f) e = cc
 
 all_run : (inputs : RelocationInputs) (parts : List (ℕ × List Relocation)) (a b : Written) → all_applied inputs parts a ≡ Ok b → Runs inputs (records_with_sections inputs parts) a b
 all_run inputs [] a b e = same_ok _ _ e
 all_run inputs (part ∷ parts) a b e =
     let (next, applied, rest) = ok_parts (named_applied inputs part a) (all_applied inputs parts) b e in
-    Runs-append inputs (records_in_section (section_index_named_at inputs part.0) part.1) (records_with_sections inputs parts) a next b (named_runs inputs part a next applied) (all_run inputs parts next b rest)
+    Runs-append inputs (records_in_section (section_index_named_at inputs part.0) part.1) (records_with_sections inputs parts) a next b (named_runs inputs part a next applied).0 (all_run inputs parts next b rest)
 
 -- no record is left out
-section_located : (inputs : RelocationInputs) (rs : List Relocation) (a b : Written) (o : Option SectionIndex)
-    → if_some o (λ section. records_applied inputs section.0 rs a) (Err errors.SectionNotFound) ≡ Ok b → map (λ located. located.1) (records_in_section (option_map (λ section. section.0) o) rs) ≡ rs
-section_located inputs rs a b None e = cc
-section_located inputs rs a b (Some section) e = same_records section.0 rs
-  where
-    same_records : (number : ℕ) (xs : List Relocation) → map (λ (located : ℕ × Relocation). located.1) (map (λ r. (number, r)) xs) ≡ xs
-    same_records number [] = refl
-    same_records number (x ∷ xs) = ap (λ ys. x ∷ ys) (same_records number xs)
-
-named_located : (inputs : RelocationInputs) (part : ℕ × List Relocation) (a b : Written) → named_applied inputs part a ≡ Ok b
-    → map (λ located. located.1) (records_in_section (section_index_named_at inputs part.0) part.1) ≡ part.1
-named_located inputs part a b e = by_text (text_at inputs.sides.local.strings part.0) e
-  where
-    by_text : (t : Result (List ℕ) BtfError)
-        → ◌≡◌ {A = Result Written BtfRelocationError}
-        (elim t [ Ok name ↦ answer_in_section name (section_applied inputs name part.1 a) | Err f ↦ answer_in_section (unnamed_section part.0) (Err (errors.BtfError f)) ]) (Ok b)
-        → map (λ located. located.1) (records_in_section (section_index_named inputs t) part.1) ≡ part.1
-    by_text (Ok name) e = section_located inputs part.1 a b (get inputs.section_infos name) (in_section_ok name (section_applied inputs name part.1 a) b e)
-    by_text (Err f) e = cc
-
 all_located : (inputs : RelocationInputs) (parts : List (ℕ × List Relocation)) (a b : Written) → all_applied inputs parts a ≡ Ok b
     → map (λ located. located.1) (records_with_sections inputs parts) ≡ flat_map (λ part. part.1) parts
 all_located inputs [] a b e = refl
 all_located inputs (part ∷ parts) a b e =
     let (next, applied, rest) = ok_parts (named_applied inputs part a) (all_applied inputs parts) b e in
     map-append (λ (located : ℕ × Relocation). located.1) (records_in_section (section_index_named_at inputs part.0) part.1) (records_with_sections inputs parts)
-    ∙ ap (λ xs. xs ++ map (λ (located : ℕ × Relocation). located.1) (records_with_sections inputs parts)) (named_located inputs part a next applied)
+    ∙ ap (λ xs. xs ++ map (λ (located : ℕ × Relocation). located.1) (records_with_sections inputs parts)) (named_runs inputs part a next applied).1
     ∙ ap (λ xs. part.1 ++ xs) (all_located inputs parts next b rest)
 
 pub records_have_sections : RecordsHaveSections

@@ -1,13 +1,22 @@
 -- The first span that holds an offset, found by the greatest end up to each span.
-use Rattle.std.proofs.Common.{◌≡◌, ℕ, zero, suc, ◌/◌, ◌<◌, ◌≤◌, Bool, true, false, ◌&&◌, List, [], ◌∷◌, ◌++◌, length, get_or, max, Some, None, refl, sym, ap, subst, ◌∙◌, arith, ltb, leb, inl, inr}
-use Rattle.std.specs.Prelude.{slice_get}
+use Rattle.std.proofs.Common.{◌≡◌, ℕ, zero, suc, ◌/◌, ◌<◌, ◌≤◌, Bool, true, false, ◌&&◌, List, [], ◌∷◌, ◌++◌, length, get_or, max, Some, None, refl, sym, ap, subst, ◌∙◌, arith, ltb, leb, inl, inr, append_assoc, map, append-nil, cond, Option, eqb}
+use Rattle.std.proofs.Math.Bool.{and-true}
+use Rattle.std.specs.Prelude.{slice_get, if◌then◌else◌, nat_eq}
 use Rattle.std.proofs.Math.Nat.{le-max_left, le-max_right, max-le}
 use Rattle.std.specs.List.Sorted.{IsPartitionPoint, IsPartitionedBy}
-use Rattle.std.proofs.lemmas.Bool.{leb-true, leb-false, lt-leb, le-leb, lt-ltb, le-ltb, cases_lt, and_left, and_right, and_parts}
+use Rattle.std.proofs.lemmas.Bool.{leb-true, leb-false, lt-leb, le-leb, lt-ltb, le-ltb, cases_lt, and_left, and_right, and_parts, eqb-true}
 use Rattle.ebpf_core_relo.specs.declared.spans.Span.{Span}
-use Rattle.ebpf_core_relo.specs.Spans.{span_holds, span_at}
-use Rattle.ebpf_core_relo.specs.PrivateContracts.{if_begun}
-use Rattle.ebpf_core_relo.specs.SpanLists.{IsTopped, last_start, last_top, rises, tops}
+use Rattle.ebpf_core_relo.specs.Spans.{span_holds, span_at, IsTopped, last_start, last_top, rises, tops, all_spans, entries_of_section, span_of, spans_among, spans_of}
+use Rattle.ebpf_core_relo.specs.PrivateContracts.{if_begun, first_at, with_span, spans_or_none}
+use Rattle.std.specs.Option.{option_or}
+use Rattle.std.proofs.lemmas.List.Folds.{find-append}
+use Rattle.std.specs.FinMap.{FinMap, empty, entries, get, get-empty, get-insert, insert}
+use Rattle.std.specs.Cmp.{nat_cmp_total}
+use Rattle.std.specs.Ordering.{eq_by_cmp, nat_cmp}
+use Rattle.std.proofs.lemmas.Bool.Decides.{eqb_tells}
+use Rattle.ebpf_base.proofs.Pointwise.{number_agrees}
+use Rattle.ebpf_base.specs.Keys.{key_cmp}
+use Rattle.ebpf_model.specs.declared.function.Function.{Function}
 
 passed : (offset : ℕ) (s : Span) (ss : List Span) → span_holds offset s ≡ false → span_at offset (s ∷ ss) ≡ span_at offset ss
 passed offset s ss misses = rw misses refl
@@ -108,16 +117,12 @@ last_start_more : (place : ℕ) (spans : List Span) (s : Span) → last_start pl
 last_start_more place [] s = refl
 last_start_more place (x ∷ spans) s = last_start_more x.start spans s
 
-and_true : (b : Bool) → (b && true) ≡ b
-and_true true = refl
-and_true false = refl
-
 and_assoc : (a b c : Bool) → (a && (b && c)) ≡ ((a && b) && c)
 and_assoc true b c = refl
 and_assoc false b c = refl
 
 rises_more : (place : ℕ) (spans : List Span) (s : Span) → rises place (spans ++ s ∷ []) ≡ (rises place spans && leb (last_start place spans) s.start)
-rises_more place [] s = and_true (leb place s.start)
+rises_more place [] s = and-true (leb place s.start)
 rises_more place (x ∷ spans) s =
     ap (λ b. leb place x.start && b) (rises_more x.start spans s) ∙ and_assoc (leb place x.start) (rises x.start spans) (leb (last_start x.start spans) s.start)
 
@@ -142,3 +147,61 @@ topped_by spans ends top start s spans' kept ends' top' h later a b c d =
       start_is = more.start_is ∙ sym (ap (last_start 0) a);
       rising_is = ap (rises 0) a ∙ more.rising_is;
     }
+
+-- ---- lists of spans one behind the other
+
+-- the first that holds an offset, list by list, is the first of all
+pub first_of_all : (offset : ℕ) (runs : List (List Span)) (last : List Span) → first_at offset runs last ≡ span_at offset (all_spans runs last)
+first_of_all offset [] last = refl
+first_of_all offset (run ∷ runs) last =
+    ap (option_or (span_at offset run)) (first_of_all offset runs last) ∙ sym (find-append (span_holds offset) run (all_spans runs last))
+
+-- one more span, behind the last list and in a list of its own
+pub behind_last : (runs : List (List Span)) (last : List Span) (s : Span) → all_spans runs (last ++ s ∷ []) ≡ all_spans runs last ++ s ∷ []
+behind_last [] last s = refl
+behind_last (run ∷ runs) last s = ap (λ more. run ++ more) (behind_last runs last s) ∙ sym (append_assoc run (all_spans runs last) (s ∷ []))
+
+pub on_its_own : (runs : List (List Span)) (last : List Span) (s : Span) → all_spans (runs ++ last ∷ []) (s ∷ []) ≡ all_spans runs last ++ s ∷ []
+on_its_own [] last s = refl
+on_its_own (run ∷ runs) last s = ap (λ more. run ++ more) (on_its_own runs last s) ∙ sym (append_assoc run (all_spans runs last) (s ∷ []))
+
+-- ---- one more function in the group of its section
+
+by_case : (b : Bool) (group own : List Span) (e : (ℕ × ℕ) × Function) (rest : List ((ℕ × ℕ) × Function)) → (b ≡ true → own ≡ group)
+    → spans_or_none (cond b (Some (own ++ span_of e ∷ [])) (Some group)) ++ map span_of rest ≡ group ++ map span_of (if b then e ∷ rest else rest)
+by_case true group own e rest same = ap (λ g. (g ++ span_of e ∷ []) ++ map span_of rest) (same refl) ∙ append_assoc group (span_of e ∷ []) (map span_of rest)
+by_case false group own e rest same = refl
+
+listed_cond : (b : Bool) (v : List Span) (o : Option (List Span)) → spans_or_none (cond b (Some v) o) ≡ spans_or_none (cond b (Some v) (Some (spans_or_none o)))
+listed_cond true v o = refl
+listed_cond false v o = refl
+
+eqb_sym : (a b : ℕ) → eqb a b ≡ eqb b a
+eqb_sym a b = grind (arith, eqb_tells a b, eqb_tells b a)
+
+eq_by_number : (q n : ℕ) → eq_by_cmp nat_cmp q n ≡ nat_eq n q
+eq_by_number q n = sym (number_agrees q n) ∙ eqb_sym q n
+
+one_more : (m : FinMap nat_cmp (List Span)) (e : (ℕ × ℕ) × Function) (rest : List ((ℕ × ℕ) × Function)) (q : ℕ)
+    → spans_or_none (get (insert m e.0.0 (spans_or_none (get m e.0.0) ++ span_of e ∷ [])) q) ++ spans_among q rest ≡ spans_or_none (get m q) ++ spans_among q (e ∷ rest)
+one_more m e rest q =
+    ap (λ o. spans_or_none o ++ spans_among q rest) (get-insert nat_cmp_total m e.0.0 (spans_or_none (get m e.0.0) ++ span_of e ∷ []) q)
+    ∙ ap (λ g. g ++ spans_among q rest) (listed_cond (eq_by_cmp nat_cmp q e.0.0) (spans_or_none (get m e.0.0) ++ span_of e ∷ []) (get m q))
+    ∙ ap (λ b. spans_or_none (cond b (Some (spans_or_none (get m e.0.0) ++ span_of e ∷ [])) (Some (spans_or_none (get m q)))) ++ spans_among q rest) (eq_by_number q e.0.0)
+    ∙ by_case (nat_eq e.0.0 q) (spans_or_none (get m q)) (spans_or_none (get m e.0.0)) e (entries_of_section q rest) (λ h. ap (λ n. spans_or_none (get m n)) (eqb-true e.0.0 q h))
+
+added_by : (m : FinMap nat_cmp (List Span)) (n : ℕ) (s : Span) (o : Option (List Span)) → with_span m n s o ≡ insert m n (spans_or_none o ++ s ∷ [])
+added_by m n s None = refl
+added_by m n s (Some spans) = refl
+
+-- the spans so far, with one more put behind those of its section
+pub span_more : (m : FinMap nat_cmp (List Span)) (e : (ℕ × ℕ) × Function) (rest : List ((ℕ × ℕ) × Function)) (q : ℕ)
+    → spans_or_none (get (with_span m e.0.0 (span_of e) (get m e.0.0)) q) ++ spans_among q rest ≡ spans_or_none (get m q) ++ spans_among q (e ∷ rest)
+span_more m e rest q = ap (λ n. spans_or_none (get n q) ++ spans_among q rest) (added_by m e.0.0 (span_of e) (get m e.0.0)) ∙ one_more m e rest q
+
+-- none yet
+pub span_none : (functions : FinMap key_cmp Function) (q : ℕ) → spans_or_none (get (empty {R = nat_cmp}) q) ++ spans_among q (entries functions) ≡ spans_of functions q
+span_none functions q = ap (λ o. spans_or_none o ++ spans_among q (entries functions)) (get-empty nat_cmp q)
+
+pub span_all : (group : List Span) (q : ℕ) → group ++ spans_among q [] ≡ group
+span_all group q = append-nil group

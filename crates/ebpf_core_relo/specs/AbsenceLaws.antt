@@ -4,11 +4,11 @@ use Rattle.std.specs.List.{list_any}
 use Rattle.ebpf_btf.specs.Steps.{resolved}
 use Rattle.ebpf_btf.specs.TypeInfo.{TypeInfo}
 use Rattle.ebpf_ext.specs.declared.relocation.Relocation.{Relocation}
-use Rattle.ebpf_places.specs.Members.{member_search, members_in, anonymous_levels}
-use Rattle.ebpf_places.specs.MemberViews.{is_misfit, view}
-use Rattle.ebpf_places.specs.Searches.{search_entries, first_fitting}
-use Rattle.ebpf_places.specs.declared.places.Place.{Place}
-use Rattle.ebpf_places.specs.declared.steps.Step.{Step}
+use Rattle.ebpf_core_places.specs.Members.{member_search, members_in, anonymous_levels}
+use Rattle.ebpf_core_places.specs.MemberViews.{is_misfit, view}
+use Rattle.ebpf_core_places.specs.Searches.{search_entries, first_fitting}
+use Rattle.ebpf_core_places.specs.declared.places.Place.{Place}
+use Rattle.ebpf_core_places.specs.declared.steps.Step.{Step}
 use Rattle.ebpf_core.specs.LocalPaths.{local_path}
 use Rattle.ebpf_core.specs.Matches.{matches}
 use Rattle.ebpf_core.specs.Searches.{candidates_for, outcome_of}

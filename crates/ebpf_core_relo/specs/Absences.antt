@@ -9,14 +9,14 @@ use Rattle.ebpf_btf.specs.Types.{members_of}
 use Rattle.ebpf_btf.specs.declared.error.BtfError.{BtfError}
 use Rattle.ebpf_btf.specs.declared.members.BtfMember.{BtfMember}
 use Rattle.ebpf_btf.specs.declared.types.BtfType.{BtfType}
-use Rattle.ebpf_places.specs.Members.{anonymous_levels}
-use Rattle.ebpf_places.specs.Places.{place_of}
-use Rattle.ebpf_places.specs.declared.fault.PlaceFault.{PlaceFault}
-use Rattle.ebpf_places.specs.declared.places.Place.{Place}
-use Rattle.ebpf_places.specs.declared.places.PlaceEnd.{PlaceEnd}
-use Rattle.ebpf_places.specs.declared.places.PlaceEnd.TheVariants.{Element, Member}
-use Rattle.ebpf_places.specs.declared.steps.Step.{Step}
-use Rattle.ebpf_places.specs.declared.steps.Step.TheVariants.{Name, Index}
+use Rattle.ebpf_core_places.specs.Members.{anonymous_levels}
+use Rattle.ebpf_core_places.specs.Places.{place_of}
+use Rattle.ebpf_core_places.specs.declared.fault.PlaceFault.{PlaceFault}
+use Rattle.ebpf_core_places.specs.declared.places.Place.{Place}
+use Rattle.ebpf_core_places.specs.declared.places.PlaceEnd.{PlaceEnd}
+use Rattle.ebpf_core_places.specs.declared.places.PlaceEnd.TheVariants.{Element, Member}
+use Rattle.ebpf_core_places.specs.declared.steps.Step.{Step}
+use Rattle.ebpf_core_places.specs.declared.steps.Step.TheVariants.{Name, Index}
 use Rattle.ebpf_ext.specs.declared.relocation.Relocation.{Relocation}
 use Rattle.ebpf_core.specs.Fields.{member_with_index}
 use Rattle.ebpf_core.specs.LocalPaths.{local_path}

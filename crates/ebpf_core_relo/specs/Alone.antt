@@ -8,13 +8,12 @@ use Rattle.ebpf_ext.specs.declared.relocation.Relocation.{Relocation}
 use Rattle.ebpf_core.specs.Searches.{outcome_of}
 use Rattle.ebpf_core.specs.declared.outcome.Outcome.{Outcome}
 use Rattle.ebpf_core_relo.specs.Carried.{written}
-use Rattle.ebpf_core_relo.specs.RecordFunctions.{spans_of}
+use Rattle.ebpf_core_relo.specs.Spans.{spans_of, span_at}
 use Rattle.ebpf_core_relo.specs.Records.{RelocationInputs, Written, own_slots, slots_so_far, slots_written, with_slots}
-use Rattle.ebpf_core_relo.specs.Spans.{span_at}
-use Rattle.ebpf_parts.specs.Opcodes.{class_ld}
+use Rattle.ebpf_parts.specs.Slots.{class_ld}
 use Rattle.ebpf_parts.specs.declared.insn.bpf_insn.{bpf_insn}
-use Rattle.ebpf_model.specs.Keys.{FunctionKey}
-use Rattle.ebpf_model.specs.Shapes.{KeepShapes}
+use Rattle.ebpf_model.specs.Symbols.{FunctionKey}
+use Rattle.ebpf_model.specs.Walks.{KeepShapes}
 use Rattle.ebpf_model.specs.declared.function.Function.{Function}
 
 -- ---- the records of an object

@@ -1,7 +1,6 @@
 -- Answers of a walk over records, and how they are stated.
 use Rattle.std.specs.Prelude.{ℕ, Bool, List}
-use Rattle.ebpf_core.specs.Answers.{without_texts}
-use Rattle.ebpf_core.specs.Memory.{is_record_memory}
+use Rattle.ebpf_core.specs.Answers.{without_texts, is_record_memory}
 use Rattle.ebpf_core.specs.declared.error.RelocationError.{RelocationError}
 use Rattle.ebpf_core_relo.specs.declared.error.BtfRelocationError.{BtfRelocationError}
 

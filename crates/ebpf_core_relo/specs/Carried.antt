@@ -1,6 +1,6 @@
 -- What the slots of a function become that carry the outcome of a record (RFC 9669, sections 3 to 5; the kernel's
 -- tools/lib/bpf/relo_core.c, bpf_core_patch_insn and bpf_core_poison_insn).
-use Rattle.std.specs.Prelude.{ℕ, ◌+◌, ◌*◌, ◌/◌, ◌%◌, ◌^◌, ◌==◌, nat_lt, ℤ, pos, Bool, true, false, List, [], length, Option, Some, None, option_map, Result, Ok, Err, slice_get, slice_set, if◌then◌else◌}
+use Rattle.std.specs.Prelude.{ℕ, ◌+◌, ◌*◌, ◌/◌, ◌%◌, ◌^◌, ◌==◌, nat_lt, ℤ, pos, Bool, true, false, List, [], length, Option, Some, None, option_map, Result, Ok, Err, slice_get, slice_set, if◌then◌else◌, ◌≡◌, ◌≢◌}
 use Rattle.std.specs.Int.{w32, cast_signed}
 use Rattle.ebpf_btf.specs.Next.{if_some}
 use Rattle.ebpf_core.specs.declared.error.RelocationError.{RelocationError}
@@ -12,8 +12,7 @@ use Rattle.ebpf_core.specs.declared.outcome.Outcome.{Outcome}
 use Rattle.ebpf_core_relo.specs.declared.carried.Carrier.{Carrier}
 use Rattle.ebpf_core_relo.specs.declared.carried.Carrier.TheVariants.{Immediate, Offset, WideLoad, Nothing}
 use Rattle.ebpf_parts.specs.declared.insn.bpf_insn.{bpf_insn}
-use Rattle.ebpf_parts.specs.Opcodes.{call, class_alu, class_alu64, class_jmp, class_jmp32, class_ld, ld_imm64, size_b, size_dw, size_h, size_w}
-use Rattle.ebpf_parts.specs.Slots.{src_of}
+use Rattle.ebpf_parts.specs.Slots.{call, class_alu, class_alu64, class_jmp, class_jmp32, class_ld, ld_imm64, size_b, size_dw, size_h, size_w, src_of}
 
 -- ---- one slot
 
@@ -121,3 +120,24 @@ written record_number slots i outcome =
     else Ok (slice_set slots i new))
     (Err (InvalidInstruction record_number i [])))
     (Err (InvalidInstructionIndex i (length slots) record_number))
+
+-- ---- slot by slot
+
+-- the slot behind one that carries an outcome, where it is to carry it too
+abbrev pub next_slot_written : Option ℕ → bpf_insn → bpf_insn → bpf_insn
+next_slot_written value slot next = if takes_next value slot then carrying_next value next else next
+
+-- the slots of a function of which slot i carries an outcome, slot by slot
+pub record CarriesAt (i : ℕ) (outcome : Outcome) (before after : List bpf_insn) : Type 0 where
+  pub old : bpf_insn
+  pub was : slice_get before i ≡ Some old
+  pub new : bpf_insn
+  pub carries : carrying outcome.value old outcome ≡ Some new
+  pub is : slice_get after i ≡ Some new
+  pub next : slice_get after (i + 1) ≡ option_map (next_slot_written outcome.value old) (slice_get before (i + 1))
+  pub others : (k : ℕ) → k ≢ i → k ≢ i + 1 → slice_get after k ≡ slice_get before k
+  pub as_many : length after ≡ length before
+
+-- where a record's outcome is written, its slot carries it
+abbrev pub WrittenSlotsCarry : Type 0
+WrittenSlotsCarry = (number : ℕ) (before after : List bpf_insn) (i : ℕ) (outcome : Outcome) → written number before i outcome ≡ Ok after → CarriesAt i outcome before after

@@ -1,7 +1,6 @@
 -- What contracts of private functions name and no public one.
-use Rattle.std.specs.Prelude.{◌≡◌, ⊤, [], MatchBool, Result, Ok, Err, ℕ, List, ◌∷◌, ◌++◌, Option, Some, None, nat_le, if◌then◌else◌}
-use Rattle.ebpf_core.specs.Answers.{without_texts}
-use Rattle.ebpf_core.specs.Memory.{is_record_memory}
+use Rattle.std.specs.Prelude.{◌≡◌, ⊤, [], MatchBool, Result, Ok, Err, ℕ, List, ◌∷◌, ◌++◌, Option, Some, None, nat_le, if◌then◌else◌, ◌+◌, ◌<◌, length, slice_set}
+use Rattle.ebpf_core.specs.Answers.{without_texts, is_record_memory}
 use Rattle.ebpf_core.specs.declared.error.RelocationError.{RelocationError}
 use Rattle.ebpf_core_relo.specs.declared.error.BtfRelocationError.{BtfRelocationError}
 use Rattle.ebpf_core_relo.specs.Answers.{is_memory_in_section, without_texts_at}
@@ -10,10 +9,15 @@ use Rattle.std.specs.Ordering.{nat_cmp}
 use Rattle.ebpf_core_relo.specs.declared.spans.Span.{Span}
 use Rattle.ebpf_base.specs.Keys.{key_cmp}
 use Rattle.ebpf_parts.specs.declared.insn.bpf_insn.{bpf_insn}
-use Rattle.ebpf_model.specs.Keys.{FunctionKey}
+use Rattle.ebpf_model.specs.Symbols.{FunctionKey}
 use Rattle.ebpf_model.specs.declared.function.Function.{Function}
 use Rattle.std.specs.Option.{option_or}
 use Rattle.ebpf_core_relo.specs.Spans.{span_at}
+use Rattle.ebpf_core_relo.specs.declared.carried.CarryingSlots.{CarryingSlots}
+use Rattle.ebpf_btf.specs.declared.error.BtfError.TheVariants.{InvalidStringOffset}
+use Rattle.ebpf_core.specs.declared.error.RelocationError.TheVariants.{BtfError, SectionNotFound}
+use Rattle.ebpf_core_relo.specs.declared.outcomes.FoundSection.{FoundSection}
+use Rattle.ebpf_core_relo.specs.declared.outcomes.FoundSection.TheVariants.{Number, NoName, NoSection}
 
 -- The call leaves what is stated, or answers the stated fault, its texts for people aside, or a want of memory.
 abbrev pub Leaves : {X U : Type 0} → Result U RelocationError → X → Result X RelocationError → Type 0
@@ -58,3 +62,25 @@ first_at offset (run ∷ runs) last = option_or (span_at offset run) (first_at o
 abbrev pub if_begun : ℕ → Option Span → Option Span
 if_begun offset None = None
 if_begun offset (Some s) = if nat_le s.start offset then Some s else None
+
+-- ---- slots of a function that carry the outcome of a record
+
+-- a slot behind another, where it is written too
+abbrev pub put_behind : List bpf_insn → ℕ → Option bpf_insn → List bpf_insn
+put_behind slots i None = slots
+put_behind slots i (Some next) = slice_set slots (i + 1) next
+
+abbrev pub put_at : List bpf_insn → ℕ → CarryingSlots → List bpf_insn
+put_at slots i carrying = put_behind (slice_set slots i carrying.slot) i carrying.next
+
+-- a slot behind another is there, where it is to be written
+abbrev pub HasRoom : List bpf_insn → ℕ → Option bpf_insn → Type 0
+HasRoom slots i None = Unit {0}
+HasRoom slots i (Some next) = i + 1 < length slots
+
+-- ---- the sections that records are for, as they are found
+
+abbrev pub found_number : FoundSection → Result ℕ RelocationError
+found_number (Number number) = Ok number
+found_number (NoName offset) = Err (BtfError (InvalidStringOffset offset))
+found_number NoSection = Err SectionNotFound

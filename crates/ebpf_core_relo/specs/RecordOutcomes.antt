@@ -8,8 +8,7 @@ use Rattle.ebpf_btf.specs.TypeInfo.{TypeInfo}
 use Rattle.ebpf_ext.specs.declared.relocation.Relocation.{Relocation}
 use Rattle.ebpf_base.specs.Results.{if_ok}
 use Rattle.ebpf_core.specs.Answers.{of_types, without_texts}
-use Rattle.ebpf_core.specs.Searches.{outcome_of}
-use Rattle.ebpf_core.specs.Sides.{Sides}
+use Rattle.ebpf_core.specs.Searches.{outcome_of, Sides}
 use Rattle.ebpf_core.specs.declared.error.RelocationError.{RelocationError}
 use Rattle.ebpf_core.specs.declared.error.RelocationError.TheVariants.{SectionNotFound}
 use Rattle.ebpf_core.specs.declared.outcome.Outcome.{Outcome}
@@ -20,7 +19,7 @@ use Rattle.ebpf_core_relo.specs.declared.record_outcome.RecordOutcome.{RecordOut
 use Rattle.ebpf_core_relo.specs.declared.record_outcome.RecordResult.{RecordResult}
 use Rattle.ebpf_core_relo.specs.declared.record_outcome.RecordResult.TheVariants.{Value, Absent, Refused}
 use Rattle.ebpf_core_relo.specs.declared.record_outcome.RecordSlot.{RecordSlot}
-use Rattle.ebpf_elf.specs.declared.entries.SectionIndex.{SectionIndex}
+use Rattle.ebpf_elf.specs.declared.section.SectionIndex.{SectionIndex}
 
 -- ---- the records of an object
 

@@ -9,19 +9,17 @@ use Rattle.ebpf_btf.specs.Next.{if_some}
 use Rattle.ebpf_btf.specs.Strings.{text_at}
 use Rattle.ebpf_btf.specs.TypeInfo.{TypeInfo}
 use Rattle.ebpf_base.specs.Results.{if_ok}
-use Rattle.ebpf_core.specs.Searches.{outcome_of}
-use Rattle.ebpf_core.specs.Sides.{Sides}
+use Rattle.ebpf_core.specs.Searches.{outcome_of, Sides}
 use Rattle.ebpf_core.specs.declared.error.RelocationError.{RelocationError}
 use Rattle.ebpf_core.specs.declared.error.RelocationError.TheVariants.{BtfError, FunctionNotFound, SectionNotFound}
 use Rattle.ebpf_core_relo.specs.Answers.{error_in_section}
 use Rattle.ebpf_core_relo.specs.Carried.{written}
-use Rattle.ebpf_core_relo.specs.RecordFunctions.{spans_of}
-use Rattle.ebpf_core_relo.specs.Spans.{span_at}
+use Rattle.ebpf_core_relo.specs.Spans.{spans_of, span_at}
 use Rattle.ebpf_core_relo.specs.declared.error.BtfRelocationError.{BtfRelocationError}
 use Rattle.ebpf_core_relo.specs.declared.spans.Span.{Span}
-use Rattle.ebpf_elf.specs.declared.entries.SectionIndex.{SectionIndex}
+use Rattle.ebpf_elf.specs.declared.section.SectionIndex.{SectionIndex}
 use Rattle.ebpf_parts.specs.declared.insn.bpf_insn.{bpf_insn}
-use Rattle.ebpf_model.specs.Keys.{FunctionKey}
+use Rattle.ebpf_model.specs.Symbols.{FunctionKey}
 use Rattle.ebpf_model.specs.declared.function.Function.{Function}
 
 -- the slots that records have written so far, by the functions' keys

@@ -11,12 +11,11 @@ use Rattle.ebpf_core.specs.declared.error.RelocationError.TheVariants.{BtfError,
 use Rattle.ebpf_core.specs.declared.outcome.Outcome.{Outcome}
 use Rattle.ebpf_core_relo.specs.Answers.{error_in_section}
 use Rattle.ebpf_core_relo.specs.Carried.{written}
-use Rattle.ebpf_core_relo.specs.RecordFunctions.{spans_of}
+use Rattle.ebpf_core_relo.specs.Spans.{spans_of, span_at}
 use Rattle.ebpf_core_relo.specs.Records.{RelocationInputs, Written, slots_so_far, slots_written, unnamed_section}
-use Rattle.ebpf_core_relo.specs.Spans.{span_at}
 use Rattle.ebpf_core_relo.specs.declared.error.BtfRelocationError.{BtfRelocationError}
 use Rattle.ebpf_core_relo.specs.declared.spans.Span.{Span}
-use Rattle.ebpf_elf.specs.declared.entries.SectionIndex.{SectionIndex}
+use Rattle.ebpf_elf.specs.declared.section.SectionIndex.{SectionIndex}
 
 -- A record of a section is refused with a fault, over the slots that those before it wrote: no function holds its
 -- instruction, the search for its outcome has the fault, or its slot can't carry the outcome.

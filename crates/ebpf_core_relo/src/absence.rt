@@ -2,14 +2,14 @@
 
 ghost use Rattle.std.specs.Prelude.{◌≡◌, IfOk};
 ghost use Rattle.ebpf_btf.specs.Strings.{is_text, text_at};
-ghost use Rattle.ebpf_places.specs.Places.{place_of};
-ghost use Rattle.ebpf_core_relo.specs.Absences.{absence_among, field_absence, has_member, is_member_of, members_of_id, name_absence, path_absence, type_of_end};
+ghost use Rattle.ebpf_core_places.specs.Places.{place_of};
+ghost use Rattle.ebpf_core_relo.specs.Absences.{absence_among, field_absence, has_member, is_member_of, members_of_id, name_absence, type_of_end};
 
 use crate::furthest::furthest_candidate;
 use crate::memory::unless_memory_of_places;
 use ebpf_btf::{Btf, BtfMember, Rows};
 use ebpf_core::NamedPath;
-use ebpf_places::{PlaceEnd, Step, place_in};
+use ebpf_core_places::{PlaceEnd, Step, place_in};
 use std::alloc::AllocError;
 
 /// Inside how many anonymous members a name is looked for at most.

@@ -1,10 +1,9 @@
 //! Slots that carry the outcome of a record.
 
 ghost use Rattle.std.specs.Prelude.{◌≡◌, ◌<◌, ◌≤◌, ⊤, MatchBool, [], length, Ok, Err, IfErr, IfOk, IfSome};
-ghost use Rattle.ebpf_core.specs.Answers.{Tells, without_texts};
-ghost use Rattle.ebpf_core.specs.Memory.{is_record_memory};
+ghost use Rattle.ebpf_core.specs.Answers.{Tells, without_texts, is_record_memory};
 ghost use Rattle.ebpf_core.specs.declared.error.RelocationError.TheVariants as errors;
-ghost use Rattle.ebpf_core_relo.specs.Carrying.{HasRoom, put_at};
+ghost use Rattle.ebpf_core_relo.specs.PrivateContracts.{HasRoom, put_at};
 ghost use Rattle.ebpf_core_relo.specs.Carried.{carrier_of, carried_by, carrying, carrying_next, high_half, low_half, may_resize, moved_code, poison, resized, resized_to, size_bits, takes_next, with_offset, written};
 
 use ebpf_base::Text;

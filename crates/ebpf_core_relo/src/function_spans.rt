@@ -2,7 +2,7 @@
 
 ghost use Rattle.std.specs.Prelude.{◌≡◌, ℕ, IfOk};
 ghost use Rattle.std.specs.FinMap as map;
-ghost use Rattle.ebpf_core_relo.specs.RecordFunctions.{spans_of};
+ghost use Rattle.ebpf_core_relo.specs.Spans.{spans_of};
 ghost use Rattle.ebpf_core_relo.specs.PrivateContracts.{spans_or_none};
 
 use crate::section_spans::section_spans;

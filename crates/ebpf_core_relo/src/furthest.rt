@@ -5,7 +5,7 @@ ghost use Rattle.ebpf_core_relo.specs.Absences.{furthest, leads, reach};
 
 use crate::memory::unless_memory_of_places;
 use ebpf_btf::Btf;
-use ebpf_places::{Step, place_in};
+use ebpf_core_places::{Step, place_in};
 use std::alloc::AllocError;
 
 /// The candidate that comes furthest along a path, and how far.

@@ -4,10 +4,11 @@ ghost use Rattle.ebpf_core_relo.specs.AbsenceLaws.{AbsencesAreOfPaths, FurthestC
 ghost use Rattle.ebpf_core_relo.specs.Alone.{OtherSlotsStay, PutSlotsStand, RecordsAloneAreCarried, RecordsHaveSections, RecordsHaveSlots, RecordsKeepShapes, SlotsStayAsMany};
 ghost use Rattle.ebpf_core_relo.specs.OutcomeLaws.{FirstRefusalIsTheFault, OutcomesAreInOrder, SlotsAreTheSame};
 ghost use Rattle.ebpf_core_relo.specs.Refused.{FaultsAreRefusals, RefusalIsOne};
-ghost use Rattle.ebpf_core_relo.specs.SlotOutcomes.{WrittenSlotsCarry};
+ghost use Rattle.ebpf_core_relo.specs.Carried.{WrittenSlotsCarry};
 
 /// The slots that one record alone touches are those of its function with its outcome written into them: whatever the
 /// other records write, they make no difference there.
+#[tactic(auto, using(crate::proofs::RecordRuns::records_alone_are_carried))]
 pub fn records_alone_are_carried()
     ensures { RecordsAloneAreCarried }
 {}
@@ -34,6 +35,7 @@ pub fn put_slots_stand()
 /// What writing an outcome makes of a function's slots, slot by slot: its slot carries the number as its class has it,
 /// or fails where it is reached; behind a wide load the next one carries the upper half, or fails with it; all others
 /// are as before.
+#[tactic(auto, using(crate::proofs::OutcomeSlots::written_slots_carry))]
 pub fn written_slots_carry()
     ensures { WrittenSlotsCarry }
 {}
@@ -48,6 +50,7 @@ pub fn records_are_refused()
 {}
 
 /// What the records of an object come to stands in their order, each over the slots that those before it left.
+#[tactic(auto, using(crate::proofs::OutcomeRows::in_order))]
 pub fn outcomes_are_in_order()
     ensures { OutcomesAreInOrder }
 {}
@@ -60,6 +63,7 @@ pub fn first_refusal_is_the_fault()
 {}
 
 /// Where a record has no value, both of its sides could be read: the reason is that of its path among its candidates.
+#[tactic(auto, using(crate::proofs::MatchAbsences::absences_are_of_paths))]
 pub fn absences_are_of_paths()
     ensures { AbsencesAreOfPaths }
 {}
@@ -72,12 +76,14 @@ pub fn furthest_leads_furthest()
 {}
 
 /// A field's reason is `NoValue` exactly where a candidate matches.
+#[tactic(auto, using(crate::proofs::MatchAbsences::no_value_is_of_matches))]
 pub fn no_value_is_of_matches()
     ensures { NoValueIsOfMatches }
 {}
 
 /// Where a search for a name comes to no member that fits, the name stands in the type exactly where the search met one
 /// that doesn't.
+#[tactic(auto, using(crate::proofs::MisfitNames::names_are_misfits))]
 pub fn names_are_misfits()
     ensures { NamesAreMisfits }
 {}

@@ -2,12 +2,12 @@
 
 ghost use Rattle.std.specs.Prelude.{◌≡◌, false, IfOk, OnOk};
 ghost use Rattle.ebpf_btf.specs.Memory as types;
-ghost use Rattle.ebpf_core.specs.Memory.{is_record_memory};
-ghost use Rattle.ebpf_places.specs.Memory as places;
+ghost use Rattle.ebpf_core.specs.Answers.{is_record_memory};
+ghost use Rattle.ebpf_core_places.specs.Memory as places;
 
 use ebpf_btf::BtfError;
 use ebpf_core::RelocationError;
-use ebpf_places::PlaceFault;
+use ebpf_core_places::PlaceFault;
 use std::alloc::AllocError;
 
 /// Refuses where memory was refused, and gives any other fault back.

@@ -1,10 +1,10 @@
 //! What each record of an object comes to, also behind one that is refused.
 
 ghost use Rattle.std.specs.Prelude.{◌≡◌, [], ◌∷◌, ◌++◌, map, None, Ok, IfOk, OnOk};
-ghost use Rattle.ebpf_core.specs.Sides.{Sides};
+ghost use Rattle.ebpf_core.specs.Searches.{Sides};
 ghost use Rattle.ebpf_core_relo.specs.RecordOutcomes.{applied, left_by, named_in, named_records, outcome_in, outcomes_from, record_outcomes, record_slots, section_number_at, slot_of_record, slots_left, outcome_without_texts};
 ghost use Rattle.ebpf_core_relo.specs.Records.{relocation_inputs_between, relocation_inputs};
-ghost use Rattle.ebpf_core_relo.specs.Sections.{found_number};
+ghost use Rattle.ebpf_core_relo.specs.PrivateContracts.{found_number};
 ghost use Rattle.ebpf_core_relo.specs.declared.record_outcome.RecordResult.TheVariants.{Refused};
 
 use crate::function_spans::FunctionSpans;

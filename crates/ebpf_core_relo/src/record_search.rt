@@ -3,7 +3,7 @@
 ghost use Rattle.std.specs.Prelude.{◌≡◌, IfOk, Ok, OnOk};
 ghost use Rattle.ebpf_core.specs.LocalPaths.{local_path};
 ghost use Rattle.ebpf_core.specs.Searches.{candidates_for};
-ghost use Rattle.ebpf_core_relo.specs.Absences.{absence_by, absence_in, absence_of, without_position};
+ghost use Rattle.ebpf_core_relo.specs.Absences.{absence_in, absence_of, without_position};
 ghost use Rattle.ebpf_core_relo.specs.RecordOutcomes.{applied, left_by, outcome_result, result_in, result_without_texts};
 ghost use Rattle.ebpf_core_relo.specs.Records.{relocation_inputs};
 
@@ -43,14 +43,16 @@ pub struct RecordSearch<'a> {
 }
 
 impl<'a> Model for RecordSearch<'a> {
-    ghost use Rattle.ebpf_core.specs.Sides.{Sides};
-    ghost use Rattle.ebpf_core_relo.specs.CachedAbsences.{AbsencesAreCached};
+    ghost use Rattle.std.specs.Prelude.{◌≡◌};
+    ghost use Rattle.ebpf_core.specs.Questions.{AreCached};
+    ghost use Rattle.ebpf_core.specs.Searches.{Sides};
+    ghost use Rattle.ebpf_core_relo.specs.Absences.{absence_of};
 
     ghost Value = { Sides };
 
     ghost view = { λ s. s.search };
 
-    ghost invariant = { λ s. AbsencesAreCached s.search.local s.search.target s.cached };
+    ghost invariant = { λ s. AreCached (λ r absence. absence_of s.search.local s.search.target r ≡ absence) s.cached };
 }
 
 impl<'a> RecordSearch<'a> {

@@ -2,12 +2,10 @@
 
 ghost use Rattle.std.specs.Prelude.{◌≡◌, ◌<◌, ⊤, MatchBool, IfOk, IfErr, Ok, Err, length};
 ghost use Rattle.std.specs.FinMap as map;
-ghost use Rattle.ebpf_core.specs.Answers.{without_texts};
-ghost use Rattle.ebpf_core.specs.Memory.{is_record_memory};
+ghost use Rattle.ebpf_core.specs.Answers.{without_texts, is_record_memory};
 ghost use Rattle.ebpf_core.specs.Searches.{outcome_of};
-ghost use Rattle.ebpf_core_relo.specs.PrivateContracts.{Leaves, StaysRefused};
+ghost use Rattle.ebpf_core_relo.specs.PrivateContracts.{Leaves, StaysRefused, HasRoom, put_at};
 ghost use Rattle.ebpf_core_relo.specs.Carried as carried;
-ghost use Rattle.ebpf_core_relo.specs.Carrying.{HasRoom, put_at};
 ghost use Rattle.ebpf_core_relo.specs.Records.{put_outcome, record_applied, records_applied, relocation_inputs, slots_so_far};
 
 use crate::carried::{CarryingSlots, carrying_slots, put_slots_at};

@@ -2,8 +2,7 @@
 
 ghost use Rattle.std.specs.Prelude.{◌≡◌, Ok, Err, IfOk, IfErr, MatchBool, []};
 ghost use Rattle.std.specs.FinMap as map;
-ghost use Rattle.ebpf_base.specs.Keys.{key_cmp};
-ghost use Rattle.ebpf_model.specs.Keys.{FunctionKey};
+ghost use Rattle.ebpf_model.specs.Symbols.{FunctionKey};
 ghost use Rattle.ebpf_core_relo.specs.Answers.{is_memory_in_section, without_texts_at};
 ghost use Rattle.ebpf_core_relo.specs.Refused.{RecordsAreRefused};
 ghost use Rattle.ebpf_core_relo.specs.Records.{relocation_inputs_between, slots_written, with_slots};

@@ -2,9 +2,8 @@
 
 ghost use Rattle.std.specs.Prelude.{◌≡◌, ◌∷◌, [], ◌++◌, ◌≤◌, nat_le, slice_get, OnOk, true, false};
 ghost use Rattle.std.specs.List.Sorted.{IsPartitionPoint, IsPartitionedBy};
-ghost use Rattle.ebpf_core_relo.specs.Spans.{span_at};
+ghost use Rattle.ebpf_core_relo.specs.Spans.{span_at, last_start};
 ghost use Rattle.ebpf_core_relo.specs.PrivateContracts.{if_begun};
-ghost use Rattle.ebpf_core_relo.specs.SpanLists.{last_start};
 
 use crate::spans::{SLOT, Span};
 use std::alloc::{AllocError, Global};
@@ -22,7 +21,7 @@ pub struct RisingSpans {
 impl Model for RisingSpans {
     ghost use Rattle.std.specs.Prelude.{List};
     ghost use Rattle.ebpf_core_relo.specs.declared.spans.Span.{Span};
-    ghost use Rattle.ebpf_core_relo.specs.SpanLists.{IsTopped};
+    ghost use Rattle.ebpf_core_relo.specs.Spans.{IsTopped};
 
     ghost Value = { List Span };
 

@@ -2,9 +2,8 @@
 
 ghost use Rattle.std.specs.Prelude.{◌≡◌, ℕ, OnOk, IfOk};
 ghost use Rattle.std.specs.FinMap as map;
-ghost use Rattle.ebpf_core_relo.specs.RecordFunctions.{span_of, spans_of};
+ghost use Rattle.ebpf_core_relo.specs.Spans.{span_of, spans_of, span_at};
 ghost use Rattle.ebpf_core_relo.specs.PrivateContracts.{with_span, spans_or_none};
-ghost use Rattle.ebpf_core_relo.specs.Spans.{span_at};
 
 use crate::spans::{SLOT, Span, Spans};
 use ebpf_base::{ByKey, BySection};
@@ -45,7 +44,7 @@ fn add(
 }
 
 /// The spans of all functions, by the sections of their keys, in the order of their addresses.
-#[tactic(auto, using(crate::proofs::Grouped::span_more, crate::proofs::Grouped::span_none, crate::proofs::Grouped::span_all))]
+#[tactic(auto, using(crate::proofs::Tops::span_more, crate::proofs::Tops::span_none, crate::proofs::Tops::span_all))]
 pub fn section_spans(
     alloc: Global,
     functions: &ByKey<Function>,

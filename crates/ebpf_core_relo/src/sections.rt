@@ -1,15 +1,12 @@
 //! The records of all sections, one section after the other.
 
-ghost use Rattle.std.specs.Prelude.{◌≡◌, [], Err, MatchBool, ⊤, IfOk, IfErr, Ok, codes, ◌++◌};
-ghost use Rattle.std.specs.Fmt.{decimal};
+ghost use Rattle.std.specs.Prelude.{◌≡◌, Err, Ok};
 ghost use Rattle.std.specs.FinMap as map;
-ghost use Rattle.ebpf_btf.specs.Strings.{text_at};
 ghost use Rattle.ebpf_core.specs.Answers.{of_type_error, without_texts};
-ghost use Rattle.ebpf_core.specs.Memory.{is_record_memory};
 ghost use Rattle.ebpf_core.specs.declared.error.RelocationError.TheVariants.{BtfError};
 ghost use Rattle.ebpf_core_relo.specs.Answers.{error_in_section};
 ghost use Rattle.ebpf_core_relo.specs.PrivateContracts.{IsStatedRefusal, Leaves, LeavesAt};
-ghost use Rattle.ebpf_core_relo.specs.Records.{all_applied, named_applied, relocation_inputs, section_applied, slots_written, unnamed_section};
+ghost use Rattle.ebpf_core_relo.specs.Records.{all_applied, named_applied, relocation_inputs, section_applied, unnamed_section};
 
 use crate::error::BtfRelocationError;
 use crate::function_spans::FunctionSpans;

@@ -36,7 +36,7 @@ pub struct Spans {
 impl Model for Spans {
     ghost use Rattle.std.specs.Prelude.{List};
     ghost use Rattle.ebpf_core_relo.specs.declared.spans.Span.{Span};
-    ghost use Rattle.ebpf_core_relo.specs.SpanLists.{all_spans};
+    ghost use Rattle.ebpf_core_relo.specs.Spans.{all_spans};
 
     ghost Value = { List Span };
 
@@ -67,7 +67,7 @@ impl Spans {
     }
 
     /// Begins a run with a span.
-    #[tactic(auto, using(crate::proofs::SpanRuns::on_its_own))]
+    #[tactic(auto, using(crate::proofs::Tops::on_its_own))]
     fn begin(&mut self, alloc: Global, span: Span) -> Result<(), AllocError>
         ensures { OnOk result (self.new ≡ self.old ++ span ∷ []) }
     {
@@ -79,7 +79,7 @@ impl Spans {
     }
 
     /// Adds a span behind the others. `AllocError` where memory is refused; then of these spans nothing is known.
-    #[tactic(auto, using(crate::proofs::SpanRuns::behind_last))]
+    #[tactic(auto, using(crate::proofs::Tops::behind_last))]
     pub fn push(&mut self, alloc: Global, span: Span) -> Result<(), AllocError>
         ensures { OnOk result (self.new ≡ self.old ++ span ∷ []) }
     {
@@ -91,7 +91,7 @@ impl Spans {
 
     /// The first span that holds an offset, in bytes. The cost grows by the number of runs times the logarithm of that
     /// of spans.
-    #[tactic(auto, using(crate::proofs::SpanRuns::first_of_all))]
+    #[tactic(auto, using(crate::proofs::Tops::first_of_all))]
     pub fn at(&self, offset: usize) -> Option<Span>
         ensures { result ≡ span_at offset self.now }
     {

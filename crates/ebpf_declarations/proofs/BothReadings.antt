@@ -1,6 +1,6 @@
 -- What types declare without a fault in the stated reading they declare in the broad one.
 use Rattle.std.proofs.Common.{◌≡◌, ℕ, false, List, [], ◌∷◌, ◌++◌, Option, Some, None, Result, Ok, Err, refl, sym, ap, ◌∙◌, arith}
-use Rattle.std.specs.Prelude.{if◌then◌else◌, slice_get}
+use Rattle.std.specs.Prelude.{slice_get}
 use Rattle.std.specs.List.{flat_map}
 use Rattle.ebpf_base.proofs.Faults.{both_None}
 use Rattle.ebpf_base.specs.Faults.{first_some, fault_of, or_else}
@@ -17,22 +17,20 @@ use Rattle.ebpf_btf.specs.declared.members.BtfMember.{BtfMember}
 use Rattle.ebpf_btf.specs.declared.members.DataSecEntry.{DataSecEntry}
 use Rattle.ebpf_btf.specs.declared.types.BtfType.{BtfType}
 use Rattle.ebpf_btf.specs.declared.types.BtfType.TheVariants.{Ptr, Struct}
-use Rattle.ebpf_declarations.proofs.KnownStructs.{via, with_same}
-use Rattle.ebpf_declarations.proofs.AddedMaps.{named_by, from_type, by_type}
+use Rattle.ebpf_declarations.proofs.KnownStructs.{via, definitions_kept}
 use Rattle.ebpf_declarations.specs.Attempts.{given}
 use Rattle.ebpf_declarations.specs.DataSections.{DatasecMatch, Named, UnreadableName, datasec_match}
 use Rattle.ebpf_declarations.specs.Laws.{BroadDeclaresAsStated}
-use Rattle.ebpf_declarations.specs.MapMembers.{unexpected, pointee, struct_members, number, own_number, sole_value_in, sole_value, is_prototype, is_prototype_in, is_prototype_at, members_at, inner_map_struct, map_member_at}
-use Rattle.ebpf_declarations.specs.Maps.{number_value, plain_value, inner_member_value_of, inner_member_value, inner_definition, inner_struct_definition, are_programs, member_value_of, member_value, definitions, struct_definitions, variable, declared, map_with_symbol, entry_map, entries_maps, entries_fault, matched_maps, matched_maps_fault, type_maps, type_maps_fault}
-use Rattle.ebpf_declarations.specs.MemberValues.{no_definitions}
+use Rattle.ebpf_declarations.specs.MapMembers.{unexpected, pointee, struct_members, number, own_number, sole_value_in, sole_value, is_prototype, is_prototype_in, is_prototype_at, members_at}
+use Rattle.ebpf_declarations.specs.Maps.{number_value, plain_value, definitions, struct_definitions, variable, declared, map_with_symbol, entry_map, entries_maps, entries_fault, matched_maps, matched_maps_fault, type_maps, type_maps_fault}
 use Rattle.ebpf_declarations.specs.declared.definitions.MapDefinitions.{MapDefinitions}
 use Rattle.ebpf_declarations.specs.declared.map_member.MapMember.{MapMember}
 use Rattle.ebpf_declarations.specs.declared.map_member.MapMember.TheVariants as about
 use Rattle.ebpf_declarations.specs.declared.map_member.MapNumber.{MapNumber}
-use Rattle.ebpf_declarations.specs.declared.map_member.MapNumber.TheVariants.{MapType, KeySize, ValueSize, MaxEntries, MapFlags, MapExtra}
+use Rattle.ebpf_declarations.specs.declared.map_member.MapNumber.TheVariants.{MapExtra}
 use Rattle.ebpf_declarations.specs.declared.member_value.MemberValue.{MemberValue}
 use Rattle.ebpf_declarations.specs.declared.member_value.MemberValue.TheVariants as said
-use Rattle.ebpf_parts.specs.declared.maps.definition.BtfMapDef.{BtfMapDef}
+use Rattle.ebpf_parts.specs.declared.reading.Reading.{Reading}
 use Rattle.ebpf_parts.specs.declared.reading.Reading.TheVariants.{Stated, Broad}
 
 -- ---- lists of which no item has a fault
@@ -81,20 +79,12 @@ number_kept types MapExtra id s h = by_number (number types id) refl h
     by_number (Ok n) is k =
         ap (λ o. if_some o (λ n. Ok (said.Extra n)) (if_ok (number types id) (λ n. Ok (said.Number MapExtra n)))) (spelled_alone types id n is)
         ∙ ap (λ r. if_ok r (λ n. Ok (said.Number MapExtra n))) is ∙ k
-number_kept types MapType id s h = h
-number_kept types KeySize id s h = h
-number_kept types ValueSize id s h = h
-number_kept types MaxEntries id s h = h
-number_kept types MapFlags id s h = h
+number_kept types of id s h = h
 
 plain_kept : (types : List BtfType) (m : MapMember) (id : ℕ) (s : MemberValue) → plain_value Stated types m id ≡ Ok s → plain_value Broad types m id ≡ Ok s
 unfolding plain_value
 plain_kept types (about.Number of) id s h = number_kept types of id s h
-plain_kept types about.Pinning id s h = h
-plain_kept types about.Key id s h = h
-plain_kept types about.Value id s h = h
-plain_kept types about.Values id s h = h
-plain_kept types about.Other id s h = h
+plain_kept types m id s h = h
 
 -- ---- members
 
@@ -112,69 +102,21 @@ no_programs types id members is = by_place (slice_get types id) is
     by_place (Some t) h = by_type t h
 
 module _ (info : TypeInfo) (name : List ℕ) where
-  inner_of : (m : MapMember) (id : ℕ) (s : MemberValue) → inner_member_value_of Stated info name m id ≡ Ok s → inner_member_value_of Broad info name m id ≡ Ok s
-  unfolding inner_member_value_of
-  inner_of (about.Number of) id s h = plain_kept info.types (about.Number of) id s h
-  inner_of about.Pinning id s h = absurd (cc)
-  inner_of about.Key id s h = plain_kept info.types about.Key id s h
-  inner_of about.Value id s h = plain_kept info.types about.Value id s h
-  inner_of about.Values id s h = absurd (cc)
-  inner_of about.Other id s h = plain_kept info.types about.Other id s h
-
-  inner_kept : (m : BtfMember) (s : MemberValue) → inner_member_value Stated info name m ≡ Ok s → inner_member_value Broad info name m ≡ Ok s
-  unfolding inner_member_value
-  inner_kept m s h = via (map_member_at info.strings m) (map_member_at info.strings m) _ _ s (λ x k. k) (λ about k. inner_of about m.btf_type s k) h
-
-  inner_definition_kept : (ms : List BtfMember) (d : BtfMapDef) → inner_definition Stated info name ms ≡ Ok d → inner_definition Broad info name ms ≡ Ok d
-  inner_definition_kept ms d h =
-      via _ _ (λ (e : MapDefinitions). Ok e.def) (λ (e : MapDefinitions). Ok e.def) d
-      (λ e k. with_same (inner_member_value Stated info name) (inner_member_value Broad info name) inner_kept no_definitions e ms k) (λ e k. k) h
-
-  inner_says_kept : (id : ℕ) (d : BtfMapDef) → inner_struct_definition Stated info name id ≡ Ok d → inner_struct_definition Broad info name id ≡ Ok d
-  inner_says_kept id d h =
-      via (members_at info.types id) (members_at info.types id) (λ ms. inner_definition Stated info name ms) (λ ms. inner_definition Broad info name ms) d (λ ms k. k) (λ ms k. inner_definition_kept ms d k) h
-
-  -- maps that a map holds are no programs
-  inner_alone : (held : ℕ) (d : BtfMapDef) → inner_struct_definition Stated info name held ≡ Ok d → are_programs Broad info.types held ≡ false
-  inner_alone held d h = by_members (members_at info.types held) refl h
-    where
-      by_members : (r : Result (List BtfMember) BtfError) → members_at info.types held ≡ r → if_ok r (λ ms. inner_definition Stated info name ms) ≡ Ok d → are_programs Broad info.types held ≡ false
-      by_members (Err e) is k = absurd (cc)
-      by_members (Ok ms) is k = no_programs info.types held ms is
-
-  values_kept : (held : ℕ) (s : MemberValue) → if_ok (inner_struct_definition Stated info name held) (λ inner. Ok (said.Values inner)) ≡ Ok s
-      → (if are_programs Broad info.types held then Ok said.Programs else if_ok (inner_struct_definition Broad info name held) (λ inner. Ok (said.Values inner))) ≡ Ok s
-  values_kept held s h = by_inner (inner_struct_definition Stated info name held) refl h
-    where
-      by_inner : (r : Result BtfMapDef BtfError) → inner_struct_definition Stated info name held ≡ r → if_ok r (λ inner. Ok (said.Values inner)) ≡ Ok s
-          → (if are_programs Broad info.types held then Ok said.Programs else if_ok (inner_struct_definition Broad info name held) (λ inner. Ok (said.Values inner))) ≡ Ok s
-      by_inner (Err e) is k = absurd (cc)
-      by_inner (Ok d) is k =
-          ap (λ b. if b then Ok said.Programs else if_ok (inner_struct_definition Broad info name held) (λ inner. Ok (said.Values inner))) (inner_alone held d is)
-          ∙ ap (λ (r : Result BtfMapDef BtfError). if_ok r (λ inner. Ok (said.Values inner))) (inner_says_kept held d is) ∙ k
-
-  member_value_of_kept : (m : MapMember) (id : ℕ) (s : MemberValue) → member_value_of Stated info name m id ≡ Ok s → member_value_of Broad info name m id ≡ Ok s
-  unfolding member_value_of
-  member_value_of_kept (about.Number of) id s h = plain_kept info.types (about.Number of) id s h
-  member_value_of_kept about.Pinning id s h = plain_kept info.types about.Pinning id s h
-  member_value_of_kept about.Key id s h = plain_kept info.types about.Key id s h
-  member_value_of_kept about.Value id s h = plain_kept info.types about.Value id s h
-  member_value_of_kept about.Values id s h =
-      via (inner_map_struct info.types name id) (inner_map_struct info.types name id) (λ held. if_ok (inner_struct_definition Stated info name held) (λ inner. Ok (said.Values inner)))
-      (λ held. if are_programs Broad info.types held then Ok said.Programs else if_ok (inner_struct_definition Broad info name held) (λ inner. Ok (said.Values inner))) s
-      (λ held k. k) (λ held k. values_kept held s k) h
-  member_value_of_kept about.Other id s h = plain_kept info.types about.Other id s h
-
-  member_value_kept : (m : BtfMember) (s : MemberValue) → member_value Stated info name m ≡ Ok s → member_value Broad info name m ≡ Ok s
-  unfolding member_value
-  member_value_kept m s h = via (map_member_at info.strings m) (map_member_at info.strings m) _ _ s (λ x k. k) (λ about k. member_value_of_kept about m.btf_type s k) h
-
   says_kept : (id : ℕ) (d : MapDefinitions) → struct_definitions Stated info name id ≡ Ok d → struct_definitions Broad info name id ≡ Ok d
-  says_kept id d h =
-      via (members_at info.types id) (members_at info.types id) (λ ms. definitions Stated info name ms) (λ ms. definitions Broad info name ms) d (λ ms k. k)
-      (λ ms k. with_same (member_value Stated info name) (member_value Broad info name) member_value_kept no_definitions d ms k) h
+  says_kept = definitions_kept info Stated Broad name name (plain_kept info.types) (λ held are. absurd (cc)) (λ held ms is none. no_programs info.types held ms is)
 
 -- ---- maps
+
+-- what a VAR with a name declares, by the type that it holds
+abbrev named_by : Reading → TypeInfo → List ℕ → ℕ → Result (List ℕ × MapDefinitions) BtfError
+named_by reading info name id = if_ok (resolved info.types id) (λ held. if_ok (struct_definitions reading info name held) (λ d. Ok (name, d)))
+
+abbrev from_type : Reading → TypeInfo → BtfType → Result (List ℕ × MapDefinitions) BtfError
+from_type reading info t = if_some (variable t) (λ id. if_ok (type_name info t) (λ name. named_by reading info name id)) (Err (unexpected t))
+
+by_type : (reading : Reading) (info : TypeInfo) (entry : DataSecEntry) → declared reading info entry ≡ if_ok (type_at info.types entry.btf_type) (from_type reading info)
+unfolding declared
+by_type reading info entry = refl
 
 by_some : {A X : Type 0} (o : Option A) (f g : A → Result X BtfError) (e : BtfError) (x : X) → ((a : A) → f a ≡ Ok x → g a ≡ Ok x) → if_some o f (Err e) ≡ Ok x → if_some o g (Err e) ≡ Ok x
 by_some None f g e x each h = h

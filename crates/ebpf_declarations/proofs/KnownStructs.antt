@@ -16,11 +16,11 @@ use Rattle.ebpf_btf.specs.declared.members.BtfMember.{BtfMember}
 use Rattle.ebpf_declarations.specs.Attempts.{all_given}
 use Rattle.ebpf_declarations.specs.KnownStructs.{Remembers}
 use Rattle.ebpf_declarations.specs.MapMembers.{unexpected, members_at, pointee_struct, inner_map_struct, map_member_at}
-use Rattle.ebpf_declarations.specs.Maps.{with_members, inner_member_value_of, inner_member_value, inner_definition, inner_struct_definition, are_programs, member_value_of, member_value, definitions, struct_definitions}
+use Rattle.ebpf_declarations.specs.Maps.{with_members, plain_value, inner_member_value_of, inner_member_value, inner_definition, inner_struct_definition, are_programs, member_value_of, member_value, definitions, struct_definitions}
 use Rattle.ebpf_declarations.specs.MemberValues.{no_definitions, with_all}
 use Rattle.ebpf_declarations.specs.declared.definitions.MapDefinitions.{MapDefinitions}
 use Rattle.ebpf_declarations.specs.declared.map_member.MapMember.{MapMember}
-use Rattle.ebpf_declarations.specs.declared.map_member.MapMember.TheVariants.{Number, Pinning, Key, Value, Values, Other}
+use Rattle.ebpf_declarations.specs.declared.map_member.MapMember.TheVariants.{Pinning, Values}
 use Rattle.ebpf_declarations.specs.declared.member_value.MemberValue.{MemberValue}
 use Rattle.ebpf_declarations.specs.declared.member_value.MemberValue.TheVariants as said
 use Rattle.ebpf_parts.specs.declared.maps.definition.BtfMapDef.{BtfMapDef}
@@ -51,61 +51,81 @@ all_same says other same (m ∷ ms) all h =
 pub with_same : (says other : BtfMember → Result MemberValue BtfError) → ((m : BtfMember) (s : MemberValue) → says m ≡ Ok s → other m ≡ Ok s) → (d e : MapDefinitions) (ms : List BtfMember) → with_members says d ms ≡ Ok e → with_members other d ms ≡ Ok e
 with_same says other same d e ms h = via (all_given says ms) (all_given other ms) (λ all. Ok (with_all d all)) (λ all. Ok (with_all d all)) e (all_same says other same ms) (λ all k. k) h
 
-module _ (reading : Reading) (info : TypeInfo) (n o : List ℕ) where
-  inner_of : (about : MapMember) (id : ℕ) (s : MemberValue) → inner_member_value_of reading info n about id ≡ Ok s → inner_member_value_of reading info o about id ≡ Ok s
+-- from one reading and name of a map to another, where members that name no map say the same
+module _ (info : TypeInfo) (r t : Reading) (n o : List ℕ)
+    (plain : (m : MapMember) (id : ℕ) (s : MemberValue) → plain_value r info.types m id ≡ Ok s → plain_value t info.types m id ≡ Ok s)
+    (programs : (held : ℕ) → are_programs r info.types held ≡ true → are_programs t info.types held ≡ true)
+    (maps : (held : ℕ) (members : List BtfMember) → members_at info.types held ≡ Ok members → are_programs r info.types held ≡ false → are_programs t info.types held ≡ false) where
+  inner_of : (m : MapMember) (id : ℕ) (s : MemberValue) → inner_member_value_of r info n m id ≡ Ok s → inner_member_value_of t info o m id ≡ Ok s
   unfolding inner_member_value_of
-  inner_of (Number of) id s h = h
-  inner_of Pinning id s h = cc
-  inner_of Key id s h = h
-  inner_of Value id s h = h
-  inner_of Values id s h = cc
-  inner_of Other id s h = h
+  inner_of Pinning id s h = absurd (cc)
+  inner_of Values id s h = absurd (cc)
+  inner_of m id s h = plain m id s h
 
-  inner_same : (m : BtfMember) (s : MemberValue) → inner_member_value reading info n m ≡ Ok s → inner_member_value reading info o m ≡ Ok s
+  inner_kept : (m : BtfMember) (s : MemberValue) → inner_member_value r info n m ≡ Ok s → inner_member_value t info o m ≡ Ok s
   unfolding inner_member_value
-  inner_same m s h = via (map_member_at info.strings m) (map_member_at info.strings m) _ _ s (λ x k. k) (λ about k. inner_of about m.btf_type s k) h
+  inner_kept m s h = via (map_member_at info.strings m) (map_member_at info.strings m) _ _ s (λ x k. k) (λ about k. inner_of about m.btf_type s k) h
 
-  inner_definition_same : (ms : List BtfMember) (d : BtfMapDef) → inner_definition reading info n ms ≡ Ok d → inner_definition reading info o ms ≡ Ok d
-  inner_definition_same ms d h =
-      via (with_members (inner_member_value reading info n) no_definitions ms) (with_members (inner_member_value reading info o) no_definitions ms) (λ e. Ok e.def) (λ e. Ok e.def) d
-      (λ e k. with_same (inner_member_value reading info n) (inner_member_value reading info o) inner_same no_definitions e ms k) (λ e k. k) h
+  inner_definition_kept : (ms : List BtfMember) (d : BtfMapDef) → inner_definition r info n ms ≡ Ok d → inner_definition t info o ms ≡ Ok d
+  inner_definition_kept ms d h =
+      via _ _ (λ (e : MapDefinitions). Ok e.def) (λ (e : MapDefinitions). Ok e.def) d
+      (λ e k. with_same (inner_member_value r info n) (inner_member_value t info o) inner_kept no_definitions e ms k) (λ e k. k) h
 
-  pub inner_struct_same : (id : ℕ) (d : BtfMapDef) → inner_struct_definition reading info n id ≡ Ok d → inner_struct_definition reading info o id ≡ Ok d
-  inner_struct_same id d h =
-      via (members_at info.types id) (members_at info.types id) (λ ms. inner_definition reading info n ms) (λ ms. inner_definition reading info o ms) d (λ ms k. k) (λ ms k. inner_definition_same ms d k) h
+  pub inner_struct_kept : (id : ℕ) (d : BtfMapDef) → inner_struct_definition r info n id ≡ Ok d → inner_struct_definition t info o id ≡ Ok d
+  inner_struct_kept id d h =
+      via (members_at info.types id) (members_at info.types id) (λ ms. inner_definition r info n ms) (λ ms. inner_definition t info o ms) d (λ ms k. k) (λ ms k. inner_definition_kept ms d k) h
 
-  held_same : (id : ℕ) (s : ℕ) → inner_map_struct info.types n id ≡ Ok s → inner_map_struct info.types o id ≡ Ok s
+  held_kept : (id : ℕ) (s : ℕ) → inner_map_struct info.types n id ≡ Ok s → inner_map_struct info.types o id ≡ Ok s
   unfolding inner_map_struct
-  held_same id s h =
-      via (type_at info.types id) (type_at info.types id) _ _ s (λ t k. k)
-      (λ t k. where_some (array_of t) (λ array. array.len == 0) (λ array. pointee_struct info.types array.element_type) (InvalidValuesSpec n) (InvalidValuesSpec o) (unexpected t) s k) h
+  held_kept id s h =
+      via (type_at info.types id) (type_at info.types id) _ _ s (λ u k. k)
+      (λ u k. where_some (array_of u) (λ array. array.len == 0) (λ array. pointee_struct info.types array.element_type) (InvalidValuesSpec n) (InvalidValuesSpec o) (unexpected u) s k) h
 
-  abbrev values_by : List ℕ → ℕ → Bool → Result MemberValue BtfError
-  values_by name held programs = if programs then Ok said.Programs else if_ok (inner_struct_definition reading info name held) (λ inner. Ok (said.Values inner))
+  abbrev values_by : Bool → Result BtfMapDef BtfError → Result MemberValue BtfError
+  values_by programs inner = if programs then Ok said.Programs else if_ok inner (λ inner. Ok (said.Values inner))
 
-  values_same : (held : ℕ) (programs : Bool) (s : MemberValue) → values_by n held programs ≡ Ok s → values_by o held programs ≡ Ok s
-  values_same held true s h = h
-  values_same held false s h = via (inner_struct_definition reading info n held) (inner_struct_definition reading info o held) (λ inner. Ok (said.Values inner)) (λ inner. Ok (said.Values inner)) s (inner_struct_same held) (λ inner g. g) h
+  -- what has a definition has the members of a STRUCT
+  with_members_at : (held : ℕ) (d : BtfMapDef) → inner_struct_definition r info n held ≡ Ok d → (ms : List BtfMember) × (members_at info.types held ≡ Ok ms)
+  with_members_at held d h = by_members (members_at info.types held) refl h
+    where
+      by_members : (a : Result (List BtfMember) BtfError) → members_at info.types held ≡ a → if_ok a (λ ms. inner_definition r info n ms) ≡ Ok d → (ms : List BtfMember) × (members_at info.types held ≡ Ok ms)
+      by_members (Err e) is k = absurd (cc)
+      by_members (Ok ms) is k = (ms, is)
 
-  member_value_of_same : (about : MapMember) (id : ℕ) (s : MemberValue) → member_value_of reading info n about id ≡ Ok s → member_value_of reading info o about id ≡ Ok s
+  values_kept : (held : ℕ) (s : MemberValue) → values_by (are_programs r info.types held) (inner_struct_definition r info n held) ≡ Ok s → values_by (are_programs t info.types held) (inner_struct_definition t info o held) ≡ Ok s
+  values_kept held s h = by_programs (are_programs r info.types held) refl (inner_struct_definition r info n held) refl h
+    where
+      by_programs : (b : Bool) → are_programs r info.types held ≡ b → (a : Result BtfMapDef BtfError) → inner_struct_definition r info n held ≡ a → values_by b a ≡ Ok s
+          → values_by (are_programs t info.types held) (inner_struct_definition t info o held) ≡ Ok s
+      by_programs true are a is k = ap (λ b. values_by b (inner_struct_definition t info o held)) (programs held are) ∙ k
+      by_programs false are (Err e) is k = absurd (cc)
+      by_programs false are (Ok d) is k =
+          let ms : (ms : List BtfMember) × (members_at info.types held ≡ Ok ms) = with_members_at held d is in
+          ap (λ b. values_by b (inner_struct_definition t info o held)) (maps held ms.0 ms.1 are) ∙ ap (values_by false) (inner_struct_kept held d is) ∙ k
+
+  member_value_of_kept : (m : MapMember) (id : ℕ) (s : MemberValue) → member_value_of r info n m id ≡ Ok s → member_value_of t info o m id ≡ Ok s
   unfolding member_value_of
-  member_value_of_same (Number of) id s h = h
-  member_value_of_same Pinning id s h = h
-  member_value_of_same Key id s h = h
-  member_value_of_same Value id s h = h
-  member_value_of_same Values id s h =
-      via (inner_map_struct info.types n id) (inner_map_struct info.types o id) (λ held. values_by n held (are_programs reading info.types held)) (λ held. values_by o held (are_programs reading info.types held)) s (held_same id)
-      (λ held k. values_same held (are_programs reading info.types held) s k) h
-  member_value_of_same Other id s h = h
+  member_value_of_kept Values id s h =
+      via (inner_map_struct info.types n id) (inner_map_struct info.types o id) (λ held. values_by (are_programs r info.types held) (inner_struct_definition r info n held))
+      (λ held. values_by (are_programs t info.types held) (inner_struct_definition t info o held)) s (held_kept id) (λ held k. values_kept held s k) h
+  member_value_of_kept m id s h = plain m id s h
 
-  member_value_same : (m : BtfMember) (s : MemberValue) → member_value reading info n m ≡ Ok s → member_value reading info o m ≡ Ok s
+  member_value_kept : (m : BtfMember) (s : MemberValue) → member_value r info n m ≡ Ok s → member_value t info o m ≡ Ok s
   unfolding member_value
-  member_value_same m s h = via (map_member_at info.strings m) (map_member_at info.strings m) _ _ s (λ x k. k) (λ about k. member_value_of_same about m.btf_type s k) h
+  member_value_kept m s h = via (map_member_at info.strings m) (map_member_at info.strings m) _ _ s (λ x k. k) (λ about k. member_value_of_kept about m.btf_type s k) h
+
+  pub definitions_kept : (id : ℕ) (d : MapDefinitions) → struct_definitions r info n id ≡ Ok d → struct_definitions t info o id ≡ Ok d
+  definitions_kept id d h =
+      via (members_at info.types id) (members_at info.types id) (λ ms. definitions r info n ms) (λ ms. definitions t info o ms) d (λ ms k. k)
+      (λ ms k. with_same (member_value r info n) (member_value t info o) member_value_kept no_definitions d ms k) h
+
+-- what is read of one name it is of another
+module _ (reading : Reading) (info : TypeInfo) (n o : List ℕ) where
+  pub inner_struct_same : (id : ℕ) (d : BtfMapDef) → inner_struct_definition reading info n id ≡ Ok d → inner_struct_definition reading info o id ≡ Ok d
+  inner_struct_same = inner_struct_kept info reading reading n o (λ m id s h. h) (λ held h. h) (λ held ms is h. h)
 
   pub definitions_same : (id : ℕ) (d : MapDefinitions) → struct_definitions reading info n id ≡ Ok d → struct_definitions reading info o id ≡ Ok d
-  definitions_same id d h =
-      via (members_at info.types id) (members_at info.types id) (λ ms. definitions reading info n ms) (λ ms. definitions reading info o ms) d (λ ms k. k)
-      (λ ms k. with_same (member_value reading info n) (member_value reading info o) member_value_same no_definitions d ms k) h
+  definitions_same = definitions_kept info reading reading n o (λ m id s h. h) (λ held h. h) (λ held ms is h. h)
 
 pub equal_numbers : (k q : ℕ) → is_at (nat_cmp k) q ≡ true → k ≡ q
 equal_numbers k q h = grind (arith, nat_tests)

@@ -44,40 +44,23 @@ sets_number wanted (about.Number of) = same_number wanted of
 sets_number wanted about.Key = same_number wanted KeySize
 sets_number wanted about.Value = same_number wanted ValueSize
 sets_number wanted about.Values = same_number wanted ValueSize
-sets_number wanted about.Pinning = false
-sets_number wanted about.Other = false
+sets_number wanted _ = false
 
 abbrev sets_pinning : MapMember → Bool
 sets_pinning about.Pinning = true
-sets_pinning (about.Number of) = false
-sets_pinning about.Key = false
-sets_pinning about.Value = false
-sets_pinning about.Values = false
-sets_pinning about.Other = false
+sets_pinning _ = false
 
 abbrev sets_key : MapMember → Bool
 sets_key about.Key = true
-sets_key about.Pinning = false
-sets_key (about.Number of) = false
-sets_key about.Value = false
-sets_key about.Values = false
-sets_key about.Other = false
+sets_key _ = false
 
 abbrev sets_value : MapMember → Bool
 sets_value about.Value = true
-sets_value about.Pinning = false
-sets_value (about.Number of) = false
-sets_value about.Key = false
-sets_value about.Values = false
-sets_value about.Other = false
+sets_value _ = false
 
 abbrev sets_inner : MapMember → Bool
 sets_inner about.Values = true
-sets_inner about.Pinning = false
-sets_inner (about.Number of) = false
-sets_inner about.Key = false
-sets_inner about.Value = false
-sets_inner about.Other = false
+sets_inner _ = false
 
 chosen : (b : Bool) (n : ℕ) → is_some (if b then Some n else None) ≡ b
 chosen true n = refl
@@ -94,44 +77,20 @@ number_by w (Extra n) = chosen (same_number w MapExtra) n
 number_by w Nothing = refl
 
 pinning_by : (s : MemberValue) → is_some (pinning_field s) ≡ sets_pinning (subject s)
-pinning_by (Number of n) = refl
 pinning_by (Pinning how) = refl
-pinning_by (Key id size) = refl
-pinning_by (Value id size) = refl
-pinning_by (Values inner) = refl
-pinning_by Programs = refl
-pinning_by (Extra n) = refl
-pinning_by Nothing = refl
+pinning_by _ = refl
 
 key_by : (s : MemberValue) → is_some (key_type_field s) ≡ sets_key (subject s)
-key_by (Number of n) = refl
-key_by (Pinning how) = refl
 key_by (Key id size) = refl
-key_by (Value id size) = refl
-key_by (Values inner) = refl
-key_by Programs = refl
-key_by (Extra n) = refl
-key_by Nothing = refl
+key_by _ = refl
 
 value_by : (s : MemberValue) → is_some (value_type_field s) ≡ sets_value (subject s)
-value_by (Number of n) = refl
-value_by (Pinning how) = refl
-value_by (Key id size) = refl
 value_by (Value id size) = refl
-value_by (Values inner) = refl
-value_by Programs = refl
-value_by (Extra n) = refl
-value_by Nothing = refl
+value_by _ = refl
 
 inner_by : (s : MemberValue) → is_some (inner_def_field s) ≡ sets_inner (subject s)
-inner_by (Number of n) = refl
-inner_by (Pinning how) = refl
-inner_by (Key id size) = refl
-inner_by (Value id size) = refl
 inner_by (Values inner) = refl
-inner_by Programs = refl
-inner_by (Extra n) = refl
-inner_by Nothing = refl
+inner_by _ = refl
 
 -- ---- a member before a later one of the same field
 
@@ -253,11 +212,7 @@ extra_subject types id (Some n) s is = let e : Extra n ≡ s = cc in ap subject 
 number_subject : (reading : Reading) (types : List BtfType) (of : MapNumber) (id : ℕ) (s : MemberValue) → number_value reading types of id ≡ Ok s → subject s ≡ about.Number of
 number_subject Stated types of id s is = spelled types of id s is
 number_subject Broad types MapExtra id s is = extra_subject types id (own_number types id) s is
-number_subject Broad types MapType id s is = spelled types MapType id s is
-number_subject Broad types KeySize id s is = spelled types KeySize id s is
-number_subject Broad types ValueSize id s is = spelled types ValueSize id s is
-number_subject Broad types MaxEntries id s is = spelled types MaxEntries id s is
-number_subject Broad types MapFlags id s is = spelled types MapFlags id s is
+number_subject Broad types of id s is = spelled types of id s is
 
 -- values are programs or maps
 values_subject : (programs : Bool) (inner : Result BtfMapDef BtfError) (s : MemberValue)

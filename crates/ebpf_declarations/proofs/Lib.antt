@@ -2,8 +2,8 @@ pub mod LaterMembers
 pub mod AllGiven
 pub mod OnlyItem
 pub mod KnownStructs
+pub mod NumberedNames
+pub mod Kept
 pub mod NamedSections
-pub mod ExternNames
-pub mod AddedMaps
 pub mod Distinct
 pub mod BothReadings

@@ -1,5 +1,5 @@
 -- Externs: the kernel's functions and variables that an object names in its DATASEC `.ksyms`.
-use Rattle.std.specs.Prelude.{ℕ, Bool, true, false, ◌||◌, not, List, Option, Some, None, Result, Ok, Err, ◌==◌, codes, if◌then◌else◌}
+use Rattle.std.specs.Prelude.{◌≡◌, ℕ, Bool, true, false, ◌||◌, not, List, Option, Some, None, Result, Ok, Err, ◌==◌, codes, if◌then◌else◌}
 use Rattle.std.specs.FinMap.{FinMap, empty}
 use Rattle.std.specs.List.{flat_map}
 use Rattle.ebpf_base.specs.Faults.{first_some, or_else, fault_of}
@@ -57,6 +57,10 @@ extern_of info weak entry =
     (λ is_weak. if_ok (resolved info.types id) (λ r. Ok (name, new_extern entry.btf_type t is_weak r)))
     (Err InvalidSymbolName)))
     (Err InvalidDatasec))
+
+-- what the symbol of the name says
+abbrev pub IsWeak : (List ℕ → Option Bool) → List ℕ → ExternDesc → Type 0
+IsWeak weak name d = weak name ≡ Some d.is_weak
 
 -- ---- all of them
 

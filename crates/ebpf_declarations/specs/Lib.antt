@@ -9,7 +9,7 @@ pub mod Placeholders
 pub mod MemberValues
 -- What only private contracts and proofs name.
 pub mod NamedSections
+pub mod NumberedNames
 pub mod KnownStructs
-pub mod ExternNames
 pub mod DistinctMaps
 pub mod PrivateContracts

@@ -7,7 +7,6 @@ ghost use Rattle.ebpf_base.specs.Keyed.{put_all};
 ghost use Rattle.ebpf_btf.specs.Memory.{is_btf_memory};
 ghost use Rattle.ebpf_declarations.specs.DistinctMaps.{AreMapsOf, AreSectionMaps};
 ghost use Rattle.ebpf_declarations.specs.Maps.{btf_maps, btf_maps_fault};
-ghost use Rattle.ebpf_declarations.specs.NamedSections.{AreFound};
 ghost use Rattle.ebpf_parts.specs.Memory.{is_parse_memory};
 
 use crate::distinct_maps::DistinctMaps;
@@ -41,15 +40,13 @@ fn find_section_maps(
     read_section_maps(alloc, btf, reading, &mut known, &sections, name, symbols)
 }
 
-/// Types that declare maps, of which the DATASECs of some names were found before, and the maps of those names that
-/// have no fault, each name of a map once. Contracts see the types and how they are read.
+/// Types that declare maps, and the maps that the DATASECs of some names declare, each name of a map once. Contracts
+/// see the types and how they are read.
 #[derive(Drop)]
 pub struct BtfDefinedMaps<'b> {
     btf: &'b Btf,
     reading: Reading,
-    sections: NamedSections,
     distinct: ByName<DistinctMaps>,
-    ghost found: { AreFound btf.now sections },
     ghost kept: { AreSectionMaps reading btf.now distinct },
 }
 
@@ -80,7 +77,6 @@ impl<'b> BtfDefinedMaps<'b> {
         Ok(BtfDefinedMaps {
             btf,
             reading,
-            sections,
             distinct,
         })
     }
@@ -104,7 +100,7 @@ impl<'b> BtfDefinedMaps<'b> {
         distinct.put(alloc, maps, section, symbols)
     }
 
-    /// What the DATASECs of a name declare. Where the name is none of those that were given, they are looked for anew.
+    /// What the DATASECs of a name declare, of which the maps are not kept.
     fn read(
         &self,
         alloc: Global,
@@ -114,11 +110,6 @@ impl<'b> BtfDefinedMaps<'b> {
         ensures maps { IfOk result (λ distinct. AreMapsOf self.now.reading self.now.types name.now distinct) }
         ensures fault { Refuses is_parse_memory result (btf_maps_fault self.now.reading self.now.types (map.get symbols.now) 0 name.now) }
     {
-        let (btf, reading, sections) = (self.btf, self.reading, &self.sections);
-        if !sections.by_name.contains_key(name) {
-            return find_section_maps(alloc, btf, reading, name, symbols);
-        }
-        let mut known = KnownStructs::none(alloc);
-        read_section_maps(alloc, btf, reading, &mut known, sections, name, symbols)
+        find_section_maps(alloc, self.btf, self.reading, name, symbols)
     }
 }

@@ -1,10 +1,12 @@
 //! The DATASECs of a name.
 
-ghost use Rattle.std.specs.Prelude.{◌≡◌, IfOk, IfErr, Some, option_map};
+ghost use Rattle.std.specs.Prelude.{◌≡◌, IfOk, IfErr, Some, option_map, true};
 ghost use Rattle.ebpf_base.specs.Faults.{first_some};
+ghost use Rattle.ebpf_btf.specs.Memory.{is_btf_memory};
 ghost use Rattle.ebpf_declarations.specs.DataSections.{Named, UnreadableName, datasec_entries, datasec_match};
 
 use ebpf_btf::{Btf, BtfError, BtfType, DataSecEntry, Rows};
+use std::alloc::Global;
 
 /// The entries of a DATASEC.
 #[tactic(auto, unfolding(crate::specs::DataSections::datasec_entries))]
@@ -52,4 +54,16 @@ pub fn first_entries<'a>(
         }
     }
     Ok(None)
+}
+
+/// A copy of entries.
+pub fn copy_entries(
+    alloc: Global,
+    entries: &Rows<'_, DataSecEntry>,
+) -> Result<Vec<DataSecEntry>, BtfError>
+    ensures copy { IfOk result (λ copy. copy.items ≡ entries.now) }
+    ensures memory { IfErr result (λ e. is_btf_memory e ≡ true) }
+{
+    let copy = entries.iter().collect(alloc)?;
+    Ok(copy)
 }

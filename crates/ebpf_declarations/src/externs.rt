@@ -1,24 +1,23 @@
 //! The externs of an object.
 
-ghost use Rattle.std.specs.Prelude.{◌≡◌, None, IfOk, IfErr, OnOk, OnErr, is_some, true};
+ghost use Rattle.std.specs.Prelude.{◌≡◌, ℕ, List, Ok, Some, None, IfOk, IfErr, OnOk, OnErr, is_some, slice_get, true};
 ghost use Rattle.std.specs.FinMap as map;
-ghost use Rattle.std.specs.List.{flat_map};
-ghost use Rattle.ebpf_base.specs.Faults.{Refuses, fault_of, first_some, or_else};
+ghost use Rattle.std.specs.List.{AllZip, zip};
+ghost use Rattle.ebpf_base.specs.Faults.{Refuses, fault_of, or_else};
+ghost use Rattle.ebpf_base.specs.Keyed.{put_all};
 ghost use Rattle.ebpf_btf.specs.Memory.{is_btf_memory};
-ghost use Rattle.ebpf_declarations.specs.Attempts.{given};
-ghost use Rattle.ebpf_declarations.specs.ExternNames.{named, all_named, IsNamed, RemembersWeak};
-ghost use Rattle.ebpf_declarations.specs.Externs.{is_function, func_or_var_type, new_extern, extern_of, function_or_fault, first_function_or_fault, ksyms_datasec, types_with, types_fault, entries_externs, extern_entries_fault, extern_types, externs, extern_declarations_fault};
+ghost use Rattle.ebpf_declarations.specs.Externs.{is_function, func_or_var_type, IsWeak, extern_of, function_or_fault, first_function_or_fault, ksyms_datasec, types_with, types_fault, entries_externs, extern_entries_fault, extern_types, externs, extern_declarations_fault};
+ghost use Rattle.ebpf_declarations.specs.NumberedNames.{AreNumbered, HasNumber};
 ghost use Rattle.ebpf_declarations.specs.PrivateContracts.{Begins};
+ghost use Rattle.ebpf_model.specs.declared.extern_desc.ExternDesc.{ExternDesc};
 
-use crate::data_sections::first_entries;
-use crate::extern_names::weak_at;
-use crate::externs_by_name::by_name;
+use crate::data_sections::{copy_entries, first_entries};
+use crate::numbered_names::{NumberedNames, put_at};
 use crate::placeholders::add_placeholder;
-use ebpf_base::{ByName, Items};
-use ebpf_btf::{Btf, BtfError, BtfType, DataSecEntry, Rows};
+use ebpf_base::{ByName, Items, Text};
+use ebpf_btf::{Btf, BtfError, BtfType, DataSecEntry};
 use ebpf_model::ExternDesc;
 use std::alloc::Global;
-use std::collections::BTreeMap;
 
 /// The DATASEC of externs.
 const EXTERNS: &str = ".ksyms";
@@ -89,25 +88,41 @@ fn prepare_types(btf: &mut Btf, entries: &[DataSecEntry]) -> Result<(), BtfError
     }
 }
 
-/// What an entry declares, with the offset of its name.
-#[tactic(auto, unfolding(crate::specs::Externs::extern_of, crate::specs::ExternNames::named))]
+/// Whether the symbol of a name is weak, which is looked for at the first extern of the name.
+fn is_weak(weak: &ByName<bool>, last: &Items<ExternDesc>, number: usize, name: &str) -> Option<bool>
+    requires { (d : ExternDesc) → slice_get last.now number ≡ Some d → map.get weak.now name.now ≡ Some d.is_weak }
+    ensures { result ≡ map.get weak.now name.now }
+{
+    if let Some(before) = last.get(number) {
+        return Some(before.is_weak);
+    }
+    Some(*weak.get(name)?)
+}
+
+/// What an entry declares, with the number of its name.
+#[tactic(auto, unfolding(crate::specs::Externs::extern_of))]
 fn extern_of(
+    alloc: Global,
     btf: &Btf,
     weak: &ByName<bool>,
-    known: &mut BTreeMap<u32, bool>,
+    names: &mut NumberedNames,
+    last: &Items<ExternDesc>,
     entry: &DataSecEntry,
-) -> Result<(u32, ExternDesc), BtfError>
-    requires { RemembersWeak btf.now (map.get weak.now) known.old }
-    ensures declared { IfOk result (λ found. IsNamed btf.now (extern_of btf.now (map.get weak.now) entry.now) found.0 found.1) }
+) -> Result<(usize, ExternDesc), BtfError>
+    requires numbered { AreNumbered btf.now.strings names.old }
+    requires weak { AllZip (IsWeak (map.get weak.now)) names.old.names last.now }
+    ensures numbered { OnOk result (AreNumbered btf.now.strings names.new) }
+    ensures declared { IfOk result (λ found. (name : List ℕ) × (extern_of btf.now (map.get weak.now) entry.now ≡ Ok (name, found.1)) × HasNumber names.old.names names.new.names name found.0 × IsWeak (map.get weak.now) name found.1) }
     ensures fault { Refuses is_btf_memory result (fault_of (extern_of btf.now (map.get weak.now) entry.now)) }
-    ensures known { OnOk result (RemembersWeak btf.now (map.get weak.now) known.new) }
 {
     let ty = btf.type_by_id(entry.btf_type)?;
     let Some(type_id) = func_or_var_type(&ty) else {
         return Err(BtfError::InvalidDatasec);
     };
-    let name = ty.name_offset();
-    let is_weak = weak_at(btf, weak, known, name)?;
+    let number = names.number_at(alloc, btf, ty.name_offset())?;
+    let Some(is_weak) = is_weak(weak, last, number, names.name(number)) else {
+        return Err(BtfError::InvalidSymbolName);
+    };
     let resolved = btf.resolve_type(type_id)?;
     let declared = ExternDesc {
         btf_id: entry.btf_type,
@@ -117,29 +132,32 @@ fn extern_of(
         ksym_addr: None,
         is_resolved: false,
     };
-    Ok((name, declared))
+    Ok((number, declared))
 }
 
-/// The externs that entries declare, with the offsets of their names.
-fn all_externs(
+/// Externs by their names.
+fn by_name(
     alloc: Global,
-    btf: &Btf,
-    weak: &ByName<bool>,
-    entries: &[DataSecEntry],
-) -> Result<Items<(u32, ExternDesc)>, BtfError>
-    ensures externs { IfOk result (λ found. all_named btf.now found ≡ flat_map (λ entry. given (extern_of btf.now (map.get weak.now) entry)) entries.now) }
-    ensures readable { IfOk result (λ found. first_some (λ f. fault_of (named btf.now f.0 f.1)) found ≡ None) }
-    ensures fault { Refuses is_btf_memory result (extern_entries_fault btf.now (map.get weak.now) entries.now) }
+    names: &Items<Text>,
+    last: &Items<ExternDesc>,
+) -> Result<ByName<ExternDesc>, BtfError>
+    ensures externs { IfOk result (λ externs. externs ≡ put_all map.empty (zip names.now last.now)) }
+    ensures memory { IfErr result (λ e. is_btf_memory e ≡ true) }
 {
-    let mut found = Items::new(alloc);
-    let mut known = BTreeMap::new(alloc);
-    for entry in entries {
-        found.push(extern_of(btf, weak, &mut known, entry)?)?;
+    let mut externs = ByName::new(alloc);
+    for number in 0..names.len() {
+        let Some(name) = names.get(number) else {
+            return Ok(externs);
+        };
+        let Some(declared) = last.get(number) else {
+            return Ok(externs);
+        };
+        externs.insert(String::from_str(alloc, name.as_str())?, *declared)?;
     }
-    Ok(found)
+    Ok(externs)
 }
 
-/// The externs that entries declare, by name. The binding of a name, and the name itself, is read once.
+/// The externs that entries declare, by name. Each name is read once.
 fn entries_externs(
     alloc: Global,
     btf: &Btf,
@@ -149,8 +167,13 @@ fn entries_externs(
     ensures externs { IfOk result (λ found. found ≡ entries_externs btf.now (map.get weak.now) entries.now) }
     ensures fault { Refuses is_btf_memory result (extern_entries_fault btf.now (map.get weak.now) entries.now) }
 {
-    let found = all_externs(alloc, btf, weak, entries)?;
-    by_name(alloc, btf, found.as_slice())
+    let mut names = NumberedNames::none(alloc);
+    let mut last = Items::new(alloc);
+    for entry in entries {
+        let (number, declared) = extern_of(alloc, btf, weak, &mut names, &last, entry)?;
+        put_at(&mut last, number, declared)?;
+    }
+    by_name(alloc, &names.names, &last)
 }
 
 /// The externs that entries declare, by name, and where one is a function a placeholder among the types. After a
@@ -169,18 +192,6 @@ fn add_externs(
 {
     prepare_types(btf, entries)?;
     entries_externs(alloc, btf, weak, entries)
-}
-
-/// A copy of entries.
-fn copy_entries(
-    alloc: Global,
-    entries: &Rows<'_, DataSecEntry>,
-) -> Result<Vec<DataSecEntry>, BtfError>
-    ensures copy { IfOk result (λ copy. copy.items ≡ entries.now) }
-    ensures memory { IfErr result (λ e. is_btf_memory e ≡ true) }
-{
-    let copy = entries.iter().collect(alloc)?;
-    Ok(copy)
 }
 
 /// Whether types may declare externs: they have a DATASEC `.ksyms`, or one before it whose name can't be read.

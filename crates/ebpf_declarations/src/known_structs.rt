@@ -1,6 +1,6 @@
 //! What structs say of maps, remembered by their ids.
 
-ghost use Rattle.std.specs.Prelude.{◌≡◌, OnOk};
+ghost use Rattle.std.specs.Prelude.{OnOk};
 ghost use Rattle.ebpf_base.specs.Faults.{Gives};
 ghost use Rattle.ebpf_btf.specs.Memory.{is_btf_memory};
 ghost use Rattle.ebpf_btf.specs.TypeInfo.{TypeInfo};

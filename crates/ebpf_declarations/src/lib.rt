@@ -6,9 +6,7 @@ mod data_sections;
 mod definitions;
 mod distinct_maps;
 mod error;
-mod extern_names;
 mod externs;
-mod externs_by_name;
 mod known_structs;
 pub mod laws;
 mod map_member;
@@ -18,6 +16,7 @@ mod maps;
 mod member_value;
 mod member_values;
 mod named_sections;
+mod numbered_names;
 mod placeholders;
 mod section_maps;
 

@@ -1,8 +1,6 @@
 //! The types that the members of a map's struct lead to.
 
 ghost use Rattle.std.specs.Prelude.{◌≡◌, Some};
-ghost use Rattle.ebpf_base.specs.Faults.{Gives};
-ghost use Rattle.ebpf_btf.specs.Memory.{is_btf_memory};
 ghost use Rattle.ebpf_declarations.specs.MapMembers.{unexpected, pointee, struct_members, number, extended_enum_value, sole_value, own_number, sized_type};
 
 use ebpf_btf::{Btf, BtfError, BtfMember, BtfType, Rows};

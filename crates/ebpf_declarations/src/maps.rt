@@ -1,15 +1,17 @@
 //! What an entry of a DATASEC declares, and the map that it is.
 
-ghost use Rattle.std.specs.Prelude.{◌≡◌, OnOk};
-ghost use Rattle.ebpf_base.specs.Faults.{Gives};
+ghost use Rattle.std.specs.Prelude.{◌≡◌, ℕ, List, Ok, Err, ⊤, IfOk, IfErr, OnOk};
+ghost use Rattle.std.specs.Bool.{MatchBool};
 ghost use Rattle.ebpf_btf.specs.Memory.{is_btf_memory};
 ghost use Rattle.ebpf_declarations.specs.KnownStructs.{Knows};
 ghost use Rattle.ebpf_declarations.specs.Maps.{variable, declared, map_at};
+ghost use Rattle.ebpf_declarations.specs.NumberedNames.{AreNumbered, HasNumber};
 
 use crate::definitions::MapDefinitions;
 use crate::known_structs::{KnownStructs, struct_definitions};
 use crate::map_types::unexpected;
-use ebpf_base::{Items, Text};
+use crate::numbered_names::NumberedNames;
+use ebpf_base::Items;
 use ebpf_btf::{Btf, BtfError, BtfType, DataSecEntry};
 use ebpf_parts::Reading;
 use ebpf_parts::maps::{BtfMap, Map};
@@ -17,7 +19,7 @@ use std::alloc::Global;
 
 /// The id of the type that a VAR holds.
 #[tactic(auto, unfolding(crate::specs::Maps::variable))]
-pub fn variable(ty: &BtfType<'_>) -> Option<u32>
+fn variable(ty: &BtfType<'_>) -> Option<u32>
     ensures { result ≡ variable ty.now }
 {
     match ty {
@@ -26,27 +28,38 @@ pub fn variable(ty: &BtfType<'_>) -> Option<u32>
     }
 }
 
-/// What an entry declares, with its name.
+/// What an entry declares, with the number of its name.
 #[tactic(auto, unfolding(crate::specs::Maps::declared))]
 pub fn declared(
     alloc: Global,
     btf: &Btf,
     reading: Reading,
     known: &mut KnownStructs,
+    names: &mut NumberedNames,
     entry: &DataSecEntry,
-) -> Result<(Text, MapDefinitions), BtfError>
-    requires { Knows reading btf.now known.old }
-    ensures declared { Gives is_btf_memory result (declared reading btf.now entry.now) }
+) -> Result<(usize, MapDefinitions), BtfError>
+    requires known { Knows reading btf.now known.old }
+    requires numbered { AreNumbered btf.now.strings names.old }
     ensures known { OnOk result (Knows reading btf.now known.new) }
+    ensures numbered { OnOk result (AreNumbered btf.now.strings names.new) }
+    ensures declared { IfOk result (λ found. (name : List ℕ) × (declared reading btf.now entry.now ≡ Ok (name, found.1)) × HasNumber names.old.names names.new.names name found.0) }
+    ensures fault { IfErr result (λ e. MatchBool (is_btf_memory e) ⊤ (declared reading btf.now entry.now ≡ Err e)) }
 {
     let ty = btf.type_by_id(entry.btf_type)?;
-    let Some(struct_id) = variable(&ty) else {
+    let Some(type_id) = variable(&ty) else {
         return Err(unexpected(&ty));
     };
-    let name = Text::from_str(alloc, btf.type_name(&ty)?.as_str())?;
-    let struct_id = btf.resolve_type(struct_id)?;
-    let definitions = struct_definitions(alloc, btf, reading, known, name.as_str(), struct_id)?;
-    Ok((name, definitions))
+    let number = names.number_at(alloc, btf, ty.name_offset())?;
+    let struct_id = btf.resolve_type(type_id)?;
+    let definitions = struct_definitions(
+        alloc,
+        btf,
+        reading,
+        known,
+        names.name(number),
+        struct_id,
+    )?;
+    Ok((number, definitions))
 }
 
 /// The map with these definitions, of a section and a symbol with these indices.

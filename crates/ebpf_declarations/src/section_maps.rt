@@ -1,117 +1,56 @@
 //! The BTF-defined maps of sections of some names, read once for all sections.
 
-ghost use Rattle.std.specs.Prelude.{◌≡◌, ℕ, List, Ok, None, IfOk, ⊤, IfErr, IfSome, OnOk, is_some, true};
+ghost use Rattle.std.specs.Prelude.{◌≡◌, ℕ, List, Ok, Some, None, IfOk, ⊤, IfErr, OnOk, is_some, slice_get, true};
 ghost use Rattle.std.specs.Bool.{MatchBool};
 ghost use Rattle.std.specs.FinMap as map;
-ghost use Rattle.ebpf_base.specs.Faults.{Gives, Refuses, fault_of};
+ghost use Rattle.std.specs.List.{AllZip, flat_map};
+ghost use Rattle.ebpf_base.specs.Faults.{Refuses, fault_of};
 ghost use Rattle.ebpf_btf.specs.Memory.{is_btf_memory};
 ghost use Rattle.ebpf_declarations.specs.Attempts.{given};
-ghost use Rattle.ebpf_declarations.specs.DistinctMaps.{AreNamed, RemembersNames, IsKnown, IsWith, Adds, AreMapsOf, AreSectionMaps, distinct_fault, type_definitions};
+ghost use Rattle.ebpf_declarations.specs.DistinctMaps.{missing, HasSymbol, AreMapsOf, AreSectionMaps};
 ghost use Rattle.ebpf_declarations.specs.KnownStructs.{Knows};
-ghost use Rattle.ebpf_declarations.specs.Maps.{entry_map, entries_maps, entries_fault, btf_maps_fault};
-ghost use Rattle.ebpf_declarations.specs.NamedSections.{ids_maps, ids_fault, AreFound};
+ghost use Rattle.ebpf_declarations.specs.Maps.{declared, entry_map, entries_fault, btf_maps_fault};
+ghost use Rattle.ebpf_declarations.specs.NamedSections.{AreFound};
+ghost use Rattle.ebpf_declarations.specs.NumberedNames.{put_at, AreNumbered, HasNumber, AreKept};
 ghost use Rattle.ebpf_declarations.specs.declared.definitions.MapDefinitions.{MapDefinitions};
 ghost use Rattle.ebpf_parts.specs.Memory.{is_parse_memory};
 
 use crate::definitions::MapDefinitions;
 use crate::distinct_maps::DistinctMaps;
 use crate::error::parse_error;
-use crate::known_structs::{KnownStructs, struct_definitions};
-use crate::maps::{declared, variable};
-use crate::named_sections::{NamedSections, datasec_entries_at};
-use ebpf_base::ByName;
-use ebpf_btf::{Btf, BtfError, DataSecEntry, Rows};
+use crate::known_structs::KnownStructs;
+use crate::maps::declared;
+use crate::named_sections::NamedSections;
+use crate::numbered_names::put_at;
+use ebpf_base::{ByName, Items, Text};
+use ebpf_btf::{Btf, BtfError, DataSecEntry};
 use ebpf_parts::{ParseError, Reading};
 use std::alloc::Global;
 
-/// The number of the name of an entry's VAR, where a name was read at its offset before, and the id of the type that
-/// the VAR holds.
-fn known_name(distinct: &DistinctMaps, btf: &Btf, entry: &DataSecEntry) -> Option<(usize, u32)>
-    ensures { IfSome result (λ r. IsKnown btf.now distinct.now entry.now r.0 r.1) }
-{
-    let Ok(ty) = btf.type_by_id(entry.btf_type) else {
-        return None;
-    };
-    let struct_id = variable(&ty)?;
-    let number = distinct.offsets.get(&ty.name_offset())?;
-    Some((*number, struct_id))
-}
-
-/// What the type with an id says of the map with a name.
-fn type_definitions(
+/// `SymbolNotFound` of a name that no symbol has, which is looked for at the first map of the name.
+fn check_symbol(
     alloc: Global,
-    btf: &Btf,
-    reading: Reading,
-    known: &mut KnownStructs,
-    name: &str,
-    type_id: u32,
-) -> Result<MapDefinitions, BtfError>
-    requires { Knows reading btf.now known.old }
-    ensures says { Gives is_btf_memory result (type_definitions reading btf.now name.now type_id) }
-    ensures known { OnOk result (Knows reading btf.now known.new) }
-{
-    let struct_id = btf.resolve_type(type_id)?;
-    struct_definitions(alloc, btf, reading, known, name, struct_id)
-}
-
-/// Adds a map whose name has a number, and which a type defines.
-fn add_known(
-    alloc: Global,
-    distinct: &mut DistinctMaps,
-    btf: &Btf,
-    reading: Reading,
-    known: &mut KnownStructs,
-    number: usize,
-    type_id: u32,
-) -> Result<(), BtfError>
-    requires named { AreNamed distinct.old }
-    requires known { Knows reading btf.now known.old }
-    ensures known { OnOk result (Knows reading btf.now known.new) }
-    ensures added { (name : List ℕ) → map.get distinct.old.numbers name ≡ Some number → OnOk result ((d : MapDefinitions) × (type_definitions reading btf.now name type_id ≡ Ok d) × IsWith distinct.old name d distinct.new) }
-    ensures fault { (name : List ℕ) → map.get distinct.old.numbers name ≡ Some number → Refuses is_btf_memory result (fault_of (type_definitions reading btf.now name type_id)) }
-{
-    let Some(name) = distinct.names.get(number) else {
-        return Err(BtfError::InvalidSymbolName);
-    };
-    let definitions = type_definitions(alloc, btf, reading, known, name.as_str(), type_id)?;
-    distinct.set(number, definitions);
-    Ok(())
-}
-
-/// Adds a map whose name is read, unless the entry has a fault or the name no symbol.
-#[tactic(auto, unfolding(crate::specs::Maps::entry_map))]
-fn add_read(
-    alloc: Global,
-    distinct: &mut DistinctMaps,
-    btf: &Btf,
-    reading: Reading,
-    known: &mut KnownStructs,
     symbols: &ByName<usize>,
-    entry: &DataSecEntry,
+    last: &Items<MapDefinitions>,
+    number: usize,
+    name: &str,
 ) -> Result<(), ParseError>
-    requires named { AreNamed distinct.old }
-    requires remembers { RemembersNames btf.now distinct.old }
-    requires known { Knows reading btf.now known.old }
-    ensures known { OnOk result (Knows reading btf.now known.new) }
-    ensures remembers { OnOk result (RemembersNames btf.now distinct.new) }
-    ensures added { OnOk result (Adds distinct.old distinct.new (λ symbols section. given (entry_map reading btf.now symbols section entry.now)) (λ symbols section. fault_of (entry_map reading btf.now symbols section entry.now))) }
-    ensures fault { Refuses is_parse_memory result (fault_of (entry_map reading btf.now (map.get symbols.now) 0 entry.now)) }
+    requires { (d : MapDefinitions) → slice_get last.now number ≡ Some d → missing (map.get symbols.now) name.now ≡ None }
+    ensures { Refuses is_parse_memory result (missing (map.get symbols.now) name.now) }
 {
-    let (name, definitions) = match declared(alloc, btf, reading, known, entry) {
-        Ok(declared) => declared,
-        Err(error) => return Err(parse_error(error)),
-    };
-    let Some(_) = symbols.get(name.as_str()) else {
-        return Err(ParseError::SymbolNotFound { name });
-    };
-    let number = distinct.add(alloc, name, definitions)?;
-    let Ok(ty) = btf.type_by_id(entry.btf_type) else {
+    if let Some(_before) = last.get(number) {
         return Ok(());
-    };
-    distinct.remember(ty.name_offset(), number)
+    }
+    if let Some(_symbol) = symbols.get(name) {
+        return Ok(());
+    }
+    Err(ParseError::SymbolNotFound {
+        name: Text::from_str(alloc, name)?,
+    })
 }
 
-/// Adds what an entry declares, unless it has a fault or a name that no symbol has. The name at an offset is read once.
+/// Adds what an entry declares, unless it has a fault or a name that no symbol has.
+#[tactic(auto, unfolding(crate::specs::Maps::entry_map))]
 fn add_entry(
     alloc: Global,
     distinct: &mut DistinctMaps,
@@ -121,75 +60,55 @@ fn add_entry(
     symbols: &ByName<usize>,
     entry: &DataSecEntry,
 ) -> Result<(), ParseError>
-    requires named { AreNamed distinct.old }
-    requires remembers { RemembersNames btf.now distinct.old }
     requires known { Knows reading btf.now known.old }
-    requires clear { distinct_fault (map.get symbols.now) distinct.old ≡ None }
+    requires numbered { AreNumbered btf.now.strings distinct.old.names }
+    requires symbols { AllZip (HasSymbol (map.get symbols.now)) distinct.old.names.names distinct.old.last }
     ensures known { OnOk result (Knows reading btf.now known.new) }
-    ensures remembers { OnOk result (RemembersNames btf.now distinct.new) }
-    ensures added { OnOk result (Adds distinct.old distinct.new (λ symbols section. given (entry_map reading btf.now symbols section entry.now)) (λ symbols section. fault_of (entry_map reading btf.now symbols section entry.now))) }
+    ensures numbered { OnOk result (AreNumbered btf.now.strings distinct.new.names) }
+    ensures added { OnOk result ((name : List ℕ) × (n : ℕ) × (d : MapDefinitions) × (declared reading btf.now entry.now ≡ Ok (name, d)) × HasNumber distinct.old.names.names distinct.new.names.names name n × (distinct.new.last ≡ put_at distinct.old.last n d) × HasSymbol (map.get symbols.now) name d) }
     ensures fault { Refuses is_parse_memory result (fault_of (entry_map reading btf.now (map.get symbols.now) 0 entry.now)) }
 {
-    let Some((number, struct_id)) = known_name(distinct, btf, entry) else {
-        return add_read(alloc, distinct, btf, reading, known, symbols, entry);
+    let (number, definitions) = match declared(
+        alloc,
+        btf,
+        reading,
+        known,
+        &mut distinct.names,
+        entry,
+    ) {
+        Ok(found) => found,
+        Err(error) => return Err(parse_error(error)),
     };
-    match add_known(alloc, distinct, btf, reading, known, number, struct_id) {
-        Ok(()) => Ok(()),
-        Err(error) => Err(parse_error(error)),
-    }
+    check_symbol(
+        alloc,
+        symbols,
+        &distinct.last,
+        number,
+        distinct.names.name(number),
+    )?;
+    put_at(&mut distinct.last, number, definitions)?;
+    Ok(())
 }
 
-/// Adds what entries declare, unless one has a fault or a name that no symbol has.
-#[tactic(auto, using(ebpf_base::proofs::Walks::rest_more, ebpf_base::proofs::Walks::rest_none))]
-fn add_entries(
+/// What entries declare, or the first fault or name that no symbol has.
+fn read_entries(
     alloc: Global,
-    distinct: &mut DistinctMaps,
     btf: &Btf,
     reading: Reading,
     known: &mut KnownStructs,
     symbols: &ByName<usize>,
-    entries: &Rows<'_, DataSecEntry>,
-) -> Result<(), ParseError>
-    requires named { AreNamed distinct.old }
-    requires remembers { RemembersNames btf.now distinct.old }
-    requires known { Knows reading btf.now known.old }
-    requires clear { distinct_fault (map.get symbols.now) distinct.old ≡ None }
+    entries: &[DataSecEntry],
+) -> Result<DistinctMaps, ParseError>
+    requires { Knows reading btf.now known.old }
     ensures known { OnOk result (Knows reading btf.now known.new) }
-    ensures remembers { OnOk result (RemembersNames btf.now distinct.new) }
-    ensures added { OnOk result (Adds distinct.old distinct.new (λ symbols section. entries_maps reading btf.now symbols section entries.now) (λ symbols section. entries_fault reading btf.now symbols section entries.now)) }
+    ensures kept { IfOk result (λ distinct. AreKept distinct.names.names distinct.last (flat_map (λ entry. given (declared reading btf.now entry)) entries.now)) }
     ensures fault { Refuses is_parse_memory result (entries_fault reading btf.now (map.get symbols.now) 0 entries.now) }
 {
-    for index in 0..entries.len() {
-        let entry = entries.at(index);
-        add_entry(alloc, distinct, btf, reading, known, symbols, &entry)?;
+    let mut distinct = DistinctMaps::none(alloc);
+    for entry in entries {
+        add_entry(alloc, &mut distinct, btf, reading, known, symbols, entry)?;
     }
-    Ok(())
-}
-
-/// Adds what the DATASECs with these ids declare, unless an entry has a fault or a name that no symbol has.
-#[tactic(auto, using(ebpf_base::proofs::Walks::rest_more, ebpf_base::proofs::Walks::rest_none))]
-fn add_sections(
-    alloc: Global,
-    distinct: &mut DistinctMaps,
-    btf: &Btf,
-    reading: Reading,
-    known: &mut KnownStructs,
-    symbols: &ByName<usize>,
-    ids: &[u32],
-) -> Result<(), ParseError>
-    requires named { AreNamed distinct.old }
-    requires remembers { RemembersNames btf.now distinct.old }
-    requires known { Knows reading btf.now known.old }
-    requires clear { distinct_fault (map.get symbols.now) distinct.old ≡ None }
-    ensures known { OnOk result (Knows reading btf.now known.new) }
-    ensures added { OnOk result (Adds distinct.old distinct.new (λ symbols section. ids_maps reading btf.now symbols section ids.now) (λ symbols section. ids_fault reading btf.now symbols section ids.now)) }
-    ensures fault { Refuses is_parse_memory result (ids_fault reading btf.now (map.get symbols.now) 0 ids.now) }
-{
-    for id in ids {
-        let entries = datasec_entries_at(btf, *id);
-        add_entries(alloc, distinct, btf, reading, known, symbols, &entries)?;
-    }
-    Ok(())
+    Ok(distinct)
 }
 
 /// What the DATASECs of a name declare, which was looked for, or the first fault in a section of the name with these
@@ -210,19 +129,10 @@ pub fn read_section_maps(
     ensures maps { IfOk result (λ distinct. AreMapsOf reading btf.now name.now distinct) }
     ensures fault { Refuses is_parse_memory result (btf_maps_fault reading btf.now (map.get symbols.now) 0 name.now) }
 {
-    let Some(ids) = sections.by_name.get(name) else {
+    let Some(entries) = sections.by_name.get(name) else {
         unreachable!()
     };
-    let mut distinct = DistinctMaps::none(alloc);
-    add_sections(
-        alloc,
-        &mut distinct,
-        btf,
-        reading,
-        known,
-        symbols,
-        ids.as_slice(),
-    )?;
+    let distinct = read_entries(alloc, btf, reading, known, symbols, entries.as_slice())?;
     match sections.unreadable {
         Some(offset) => Err(ParseError::BtfError(BtfError::InvalidStringOffset { offset })),
         None => Ok(distinct),

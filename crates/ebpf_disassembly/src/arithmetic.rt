@@ -25,9 +25,7 @@ pub enum Arithmetic {
         source: Register,
     },
     /// A register is negated: `r1 = -r1`.
-    Negate {
-        register: Register,
-    },
+    Negate(Register),
     /// A register's byte order is changed: `r1 = be16 r1`.
     Swap {
         register: Register,
@@ -70,14 +68,6 @@ fn operator_of(operation: u8, offset: i16) -> Option<&'static str> {
         (_, 0) => plain_operator(operation),
         _ => None,
     }
-}
-
-/// The source register, or the number of an instruction.
-fn operand_of(instruction: bpf_insn, is_half: bool) -> Option<Operand> {
-    if instruction.code & BPF_X == 0 {
-        return Some(Operand::number(instruction.imm));
-    }
-    Some(Operand::Held(Register::of(instruction.src_reg(), is_half)?))
 }
 
 /// Whether a move may extend the sign of so many bits.
@@ -136,9 +126,8 @@ fn decode_negation(instruction: bpf_insn, is_half: bool) -> Option<Arithmetic> {
     if instruction.code & BPF_X != 0 {
         return None;
     }
-    Some(Arithmetic::Negate {
-        register: Register::of(instruction.dst_reg(), is_half)?,
-    })
+    let register = Register::of(instruction.dst_reg(), is_half)?;
+    Some(Arithmetic::Negate(register))
 }
 
 /// An operation with an operator.
@@ -146,7 +135,7 @@ fn decode_assignment(instruction: bpf_insn, operation: u8, is_half: bool) -> Opt
     Some(Arithmetic::Assign {
         register: Register::of(instruction.dst_reg(), is_half)?,
         operator: operator_of(operation, instruction.off)?,
-        operand: operand_of(instruction, is_half)?,
+        operand: Operand::of(instruction, is_half)?,
     })
 }
 
@@ -176,7 +165,7 @@ impl fmt::Display for Arithmetic {
                 bits,
                 source,
             } => write!(f, "{register} = (s{bits}){source}"),
-            Arithmetic::Negate { register } => write!(f, "{register} = -{register}"),
+            Arithmetic::Negate(register) => write!(f, "{register} = -{register}"),
             Arithmetic::Swap {
                 register,
                 word,

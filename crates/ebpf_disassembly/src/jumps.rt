@@ -2,7 +2,7 @@
 
 use crate::opcodes::{
     BPF_JEQ, BPF_JGE, BPF_JGT, BPF_JLE, BPF_JLT, BPF_JNE, BPF_JSET, BPF_JSGE, BPF_JSGT, BPF_JSLE,
-    BPF_JSLT, BPF_X, CALLX, JCOND, OPERATION,
+    BPF_JSLT, CALLX, JCOND, OPERATION,
 };
 use crate::operands::{Distance, Number, Operand, Register};
 use ebpf_parts::insn::bpf_insn;
@@ -25,13 +25,9 @@ pub enum Jump {
         by: Distance,
     },
     /// `call 0x5`
-    Call {
-        number: Number,
-    },
+    Call(Number),
     /// `callx r1`
-    CallHeld {
-        register: Register,
-    },
+    CallHeld(Register),
     /// `exit`
     Exit,
 }
@@ -64,21 +60,13 @@ fn comparison_of(operation: u8) -> Option<&'static str> {
     }
 }
 
-/// What a conditional jump compares with.
-fn compared(instruction: bpf_insn, is_half: bool) -> Option<Operand> {
-    if instruction.code & BPF_X == 0 {
-        return Some(Operand::number(instruction.imm));
-    }
-    Some(Operand::Held(Register::of(instruction.src_reg(), is_half)?))
-}
-
 /// A conditional jump.
 fn decode_condition(instruction: bpf_insn) -> Option<Jump> {
     let is_half = instruction.code % 8 == JMP32;
     Some(Jump::Where {
         register: Register::of(instruction.dst_reg(), is_half)?,
         comparison: comparison_of(instruction.code & OPERATION)?,
-        operand: compared(instruction, is_half)?,
+        operand: Operand::of(instruction, is_half)?,
         by: Distance(i32::from(instruction.off)),
     })
 }
@@ -95,12 +83,8 @@ pub fn decode_jump(instruction: bpf_insn) -> Option<Jump> {
         JA => always("goto", i32::from(instruction.off)),
         JA32 => always("gotol", instruction.imm),
         JCOND => always("may_goto", i32::from(instruction.off)),
-        CALL => Some(Jump::Call {
-            number: Number(i64::from(instruction.imm)),
-        }),
-        CALLX => Some(Jump::CallHeld {
-            register: Register::full(instruction.dst_reg())?,
-        }),
+        CALL => Some(Jump::Call(Number(i64::from(instruction.imm)))),
+        CALLX => Some(Jump::CallHeld(Register::full(instruction.dst_reg())?)),
         EXIT if instruction.imm == 0 => Some(Jump::Exit),
         _ => decode_condition(instruction),
     }
@@ -116,8 +100,8 @@ impl fmt::Display for Jump {
                 operand,
                 by,
             } => write!(f, "if {register} {comparison} {operand} goto {by}"),
-            Jump::Call { number } => write!(f, "call {number}"),
-            Jump::CallHeld { register } => write!(f, "callx {register}"),
+            Jump::Call(number) => write!(f, "call {number}"),
+            Jump::CallHeld(register) => write!(f, "callx {register}"),
             Jump::Exit => write!(f, "exit"),
         }
     }

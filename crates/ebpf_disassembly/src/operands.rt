@@ -1,5 +1,7 @@
 //! Registers and numbers.
 
+use crate::opcodes::BPF_X;
+use ebpf_parts::insn::bpf_insn;
 use std::fmt;
 
 /// How many registers have names: `r0` to `r10`, and `r11`, which the kernel alone writes.
@@ -81,6 +83,14 @@ impl Operand {
     /// A number of an instruction.
     pub fn number(number: i32) -> Operand {
         Operand::Given(Number(i64::from(number)))
+    }
+
+    /// The source register of an instruction, or its number.
+    pub fn of(instruction: bpf_insn, is_half: bool) -> Option<Operand> {
+        if instruction.code & BPF_X == 0 {
+            return Some(Operand::number(instruction.imm));
+        }
+        Some(Operand::Held(Register::of(instruction.src_reg(), is_half)?))
     }
 }
 

@@ -1,6 +1,3 @@
-pub mod Empty
 pub mod Ranges
-pub mod ShortNames
-pub mod Texts
-pub mod Sound
-pub mod Tables
+pub mod Names
+pub mod Entries

@@ -5,10 +5,10 @@ use Rattle.ebpf_base.specs.Faults.{Row}
 use Rattle.ebpf_elf.specs.declared.constants.TheConstants.{MAGIC, ELFCLASS64, ELFDATA2LSB, ELFDATA2MSB, SHN_XINDEX}
 use Rattle.ebpf_elf.specs.declared.error.ElfReadError.{ElfReadError}
 use Rattle.ebpf_elf.specs.declared.error.ElfReadError.TheVariants.{TooShort, BadMagic, NotElf64, BadByteOrder, BadSectionTable, BadStringTable, BadSymbolTable, BadRelocationTable, ExtendedNumbering}
-use Rattle.ebpf_elf.specs.File.{e_shoff, e_shentsize, e_shnum, e_shstrndx, section, section_indices, is_inside}
-use Rattle.ebpf_elf.specs.Strings.{is_string_table}
-use Rattle.ebpf_elf.specs.SymbolTable.{symbol_table_section, st_shndx_at, symbol_table_indices}
-use Rattle.ebpf_elf.specs.RelocationTables.{holds_relocations, is_bad_relocation_table}
+use Rattle.ebpf_elf.specs.Headers.{e_shoff, e_shentsize, e_shnum, e_shstrndx, section, section_indices, is_inside}
+use Rattle.ebpf_elf.specs.Names.{is_string_table}
+use Rattle.ebpf_elf.specs.Symbols.{symbol_table_section, st_shndx_at, symbol_table_indices}
+use Rattle.ebpf_elf.specs.Relocations.{holds_relocations, is_bad_relocation_table}
 
 -- the file's header: its size, EI_MAG0 to EI_MAG3, EI_CLASS and EI_DATA ('ELF Identification')
 unfoldable pub identity_faults : List ℕ → List (Row ElfReadError)

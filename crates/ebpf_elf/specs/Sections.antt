@@ -1,13 +1,13 @@
 -- The sections of a file (ELF-64 gABI, 'Sections').
-use Rattle.std.specs.Prelude.{ℕ, not, ◌&&◌, List, [], ◌∷◌, map, Option, ◌==◌, if◌then◌else◌}
+use Rattle.std.specs.Prelude.{ℕ, ◌-◌, not, ◌&&◌, List, [], ◌∷◌, map, Option, ◌==◌, if◌then◌else◌}
+use Rattle.std.specs.List.{range_with_len}
 use Rattle.ebpf_base.specs.Faults.{Row}
 use Rattle.ebpf_elf.specs.declared.constants.TheConstants.{SHT_NOBITS}
 use Rattle.ebpf_elf.specs.declared.error.ElfReadError.{ElfReadError}
 use Rattle.ebpf_elf.specs.declared.error.ElfReadError.TheVariants.{BadSectionRange}
 use Rattle.ebpf_elf.specs.declared.header.SectionHeader.{SectionHeader}
-use Rattle.ebpf_elf.specs.File.{section, section_indices, is_inside, range_of}
-use Rattle.ebpf_elf.specs.Strings.{section_names}
-use Rattle.ebpf_elf.specs.Names.{string_table_name}
+use Rattle.ebpf_elf.specs.Headers.{section, section_indices, is_inside, range_of}
+use Rattle.ebpf_elf.specs.Names.{section_names, string_table_name}
 
 -- a section, by its index in a file
 pub record SectionOf : Type 0 where
@@ -21,6 +21,10 @@ header s = section s.file s.index
 -- the sections of a file, in order
 abbrev pub sections : List ℕ → List SectionOf
 sections bytes = map (λ i. record { file = bytes; index = i }) (section_indices bytes)
+
+-- those from index a up to n
+abbrev pub sections_from : List ℕ → ℕ → ℕ → List SectionOf
+sections_from bytes a n = map (λ i. record { file = bytes; index = i }) (range_with_len a (n - a))
 
 -- its name, where it can be read
 unfoldable pub section_name : SectionOf → Option (List ℕ)

@@ -1,14 +1,33 @@
--- The symbols of a file (ELF-64 gABI, 'Symbol Table').
-use Rattle.std.specs.Prelude.{ℕ, ◌+◌, ◌/◌, ◌%◌, Bool, not, ◌&&◌, ◌||◌, List, [], map, Option, Some, None, nat_le, ◌==◌, if◌then◌else◌}
+-- The symbol table of a file and its symbols (ELF-64 gABI, 'Symbol Table').
+use Rattle.std.specs.Prelude.{ℕ, ◌+◌, ◌-◌, ◌*◌, ◌/◌, ◌%◌, Bool, not, ◌&&◌, ◌||◌, List, [], map, Option, Some, None, nat_le, ◌==◌, if◌then◌else◌}
+use Rattle.std.specs.List.{find, range_with_len}
 use Rattle.ebpf_base.specs.declared.endianness.Endianness.{Endianness}
 use Rattle.ebpf_base.specs.Numbers.{number_at}
-use Rattle.ebpf_elf.specs.declared.constants.TheConstants.{SHN_LORESERVE, STT_NOTYPE, STT_OBJECT, STT_FUNC, STT_SECTION, STT_FILE, STT_COMMON, STT_TLS, STT_GNU_IFUNC, STB_WEAK}
-use Rattle.ebpf_elf.specs.declared.entries.SymbolKind.{SymbolKind}
-use Rattle.ebpf_elf.specs.declared.entries.SymbolKind.TheVariants.{Unknown, Text, Data, Section, File, Tls}
-use Rattle.ebpf_elf.specs.declared.symbol_entry.SymbolEntry.{SymbolEntry}
-use Rattle.ebpf_elf.specs.File.{ei_data, section, range_of}
+use Rattle.ebpf_elf.specs.declared.constants.TheConstants.{SHN_LORESERVE, SHT_SYMTAB, STT_NOTYPE, STT_OBJECT, STT_FUNC, STT_SECTION, STT_FILE, STT_COMMON, STT_TLS, STT_GNU_IFUNC, STB_WEAK}
+use Rattle.ebpf_elf.specs.declared.symbol.SymbolKind.{SymbolKind}
+use Rattle.ebpf_elf.specs.declared.symbol.SymbolKind.TheVariants.{Unknown, Text, Data, Section, File, Tls}
+use Rattle.ebpf_elf.specs.declared.symbol.SymbolEntry.{SymbolEntry}
+use Rattle.ebpf_elf.specs.Headers.{ei_data, section, section_indices, range_of}
 use Rattle.ebpf_elf.specs.Names.{string_table_name}
-use Rattle.ebpf_elf.specs.SymbolTable.{symbol_table_section, symbol_offset, symbol_table_indices}
+
+-- the first section of kind SYMTAB
+unfoldable pub symbol_table_section : List ℕ → Option ℕ
+symbol_table_section bytes = find (λ i. (section bytes i).sh_type == SHT_SYMTAB) (section_indices bytes)
+
+-- where the entry of a symbol stands in the table i: each has 24 bytes
+abbrev pub symbol_offset : List ℕ → ℕ → ℕ → ℕ
+symbol_offset bytes i k = (section bytes i).sh_offset + 24 * k
+
+abbrev pub symbol_count : List ℕ → ℕ → ℕ
+symbol_count bytes i = (section bytes i).sh_size / 24
+
+-- the indices of the symbols of the table i; index 0 (STN_UNDEF) is no symbol
+abbrev pub symbol_table_indices : List ℕ → ℕ → List ℕ
+symbol_table_indices bytes i = range_with_len 1 (symbol_count bytes i - 1)
+
+-- st_shndx, the section index of a symbol
+unfoldable pub st_shndx_at : List ℕ → ℕ → ℕ → ℕ
+st_shndx_at bytes i k = number_at (ei_data bytes) 2 bytes (symbol_offset bytes i k + 6)
 
 -- an entry of 24 bytes (Elf64_Sym)
 unfoldable pub symbol_at : Endianness → List ℕ → ℕ → SymbolEntry
@@ -34,6 +53,10 @@ entry s = symbol_at (ei_data s.file) s.file (symbol_offset s.file s.table s.inde
 abbrev pub symbols_in : List ℕ → Option ℕ → List SymbolOf
 symbols_in bytes None = []
 symbols_in bytes (Some t) = map (λ k. record { file = bytes; table = t; index = k }) (symbol_table_indices bytes t)
+
+-- those of a table from index a up to n
+abbrev pub symbols_from : List ℕ → ℕ → ℕ → ℕ → List SymbolOf
+symbols_from bytes t a n = map (λ k. record { file = bytes; table = t; index = k }) (range_with_len a (n - a))
 
 abbrev pub symbols : List ℕ → List SymbolOf
 symbols bytes = symbols_in bytes (symbol_table_section bytes)

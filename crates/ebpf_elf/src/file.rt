@@ -1,24 +1,94 @@
 //! A file.
 
-ghost use Rattle.std.specs.Prelude.{◌≡◌, ◌<◌, ◌^◌, length, List, ℕ, IfOk, OnOk, IfErr, IfSome};
+ghost use Rattle.std.specs.Prelude.{◌≡◌, ◌<◌, ◌^◌, length, List, ℕ, None, Some, IfOk, OnOk, IfErr, option_map};
 ghost use Rattle.std.specs.List.{find};
+ghost use Rattle.std.specs.Option.{ForSome};
 ghost use Rattle.ebpf_base.specs.FirstFault.{IsFirstFault, IsClear, rows_of};
-ghost use Rattle.ebpf_base.specs.Faults.{first_in, fault_of};
-ghost use Rattle.ebpf_elf.specs.Faults.{faults};
-ghost use Rattle.ebpf_elf.specs.File.{ei_data, section_indices};
-ghost use Rattle.ebpf_elf.specs.Names.{is_name};
+ghost use Rattle.ebpf_base.specs.Faults.{first_of, first_in, fault_of};
+ghost use Rattle.ebpf_elf.specs.Faults.{faults, names_faults, symbol_table_faults, relocation_faults};
+ghost use Rattle.ebpf_elf.specs.Headers.{ei_data};
+ghost use Rattle.ebpf_elf.specs.Names.{section_names, is_name};
 ghost use Rattle.ebpf_elf.specs.Relocations.{relocation_sections};
 ghost use Rattle.ebpf_elf.specs.Sections.{sections, section_name};
-ghost use Rattle.ebpf_elf.specs.Symbols.{symbols};
+ghost use Rattle.ebpf_elf.specs.Symbols.{symbol_table_section, symbols};
 
 use crate::error::ElfReadError;
-use crate::layout::{Layout, layout_of};
-use crate::relocation_sections::RelocationSections;
-use crate::section::ElfSection;
-use crate::sections::Sections;
-use crate::symbols::Symbols;
+use crate::header::{SectionTable, identify, section_table};
+use crate::relocation::RelocationSections;
+use crate::section::{ElfSection, Sections, first_named};
+use crate::symbol::{SymbolTable, Symbols, find_symbol_table, open_symbol_table};
 use ebpf_base::Endianness;
+use ebpf_base::numbers::read_u16;
 use std::marker::Model;
+
+/// The string table of the section names.
+#[tactic(auto, unfolding(crate::specs::Faults::names_faults, crate::specs::Names::section_names, crate::specs::Headers::e_shstrndx))]
+fn names_of<'a>(table: &SectionTable<'a>) -> Result<&'a [u8], ElfReadError>
+    requires { 0 < table.now.count }
+    ensures fault { fault_of result ≡ first_of (names_faults table.now.bytes.now) }
+    ensures names { IfOk result (λ names. names.now ≡ section_names table.now.bytes.now) }
+{
+    let index = read_u16(table.endianness, table.bytes, 62) as usize;
+    if index == 0 {
+        return Ok(&[]);
+    }
+    table
+        .string_table(index)
+        .ok_or(ElfReadError::BadStringTable)
+}
+
+/// The symbol table in the section `index`, whose symbols and relocations are sound.
+fn sound_symbols<'a>(table: SectionTable<'a>, index: usize) -> Result<SymbolTable<'a>, ElfReadError>
+    requires { index < table.count }
+    ensures fault { fault_of result ≡ first_in (symbol_table_faults table.entry.bytes.now (Some index)) }
+    ensures table { IfOk result (λ s. s.table ≡ table.entry) }
+    ensures index { IfOk result (λ s. s.index ≡ index) }
+    ensures relocations { IfOk result (λ s. first_of (relocation_faults s.table.bytes.now s.index) ≡ None) }
+{
+    let symbols = open_symbol_table(table, index)?;
+    symbols.check_section_indices()?;
+    symbols.check_relocations()?;
+    Ok(symbols)
+}
+
+/// Where the parts of a file without faults stand.
+#[derive(Clone, Copy)]
+pub struct Layout<'a> {
+    pub table: SectionTable<'a>,
+    pub names: &'a [u8],
+    pub symbols: Option<SymbolTable<'a>>,
+    ghost strings: { 0 < table.count → names.now ≡ section_names table.bytes.now },
+    ghost symtab: { symbol_table_section table.bytes.now ≡ option_map (λ s. s.index) symbols },
+    ghost relocations: { ForSome symbols (λ s. first_of (relocation_faults s.table.bytes.now s.index) ≡ None) },
+    ghost same: { ForSome symbols (λ s. s.table.bytes.now ≡ table.bytes.now) },
+}
+
+/// Finds the parts of a file.
+#[tactic(auto, unfolding(crate::specs::Faults::faults, crate::specs::Symbols::symbol_table_section))]
+pub fn layout_of<'a>(bytes: &'a [u8]) -> Result<Layout<'a>, ElfReadError>
+    ensures fault { fault_of result ≡ first_in (faults bytes.now) }
+    ensures bytes { IfOk result (λ l. l.table.bytes.now ≡ bytes.now) }
+{
+    let endianness = identify(bytes)?;
+    let table = section_table(endianness, bytes)?;
+    if table.start == 0 {
+        return Ok(Layout {
+            table,
+            names: &[],
+            symbols: None,
+        });
+    }
+    let names = names_of(&table)?;
+    let symbols = match find_symbol_table(&table) {
+        None => None,
+        Some(index) => Some(sound_symbols(table, index)?),
+    };
+    Ok(Layout {
+        table,
+        names,
+        symbols,
+    })
+}
 
 /// An ELF64 file, with what `parse` has found sound. Contracts see its bytes.
 #[derive(Clone, Drop)]
@@ -30,18 +100,6 @@ impl<'a> Model for ElfFile<'a> {
     ghost Value = { List ℕ };
 
     ghost view = { λ f. f.layout.table.bytes.now };
-}
-
-/// The first section of this name.
-fn first_named<'a>(sections: Sections<'a>, name: &str) -> Option<ElfSection<'a>>
-    ensures { result ≡ find (λ s. is_name name.now (section_name s)) sections.entry }
-{
-    for section in sections {
-        if section.has_name(name) {
-            return Some(section);
-        }
-    }
-    None
 }
 
 impl<'a> ElfFile<'a> {
@@ -98,7 +156,7 @@ impl<'a> ElfFile<'a> {
         ensures list { result ≡ symbols self.now }
         ensures few { length result < 2 ^ 64 }
     {
-        Symbols::new(self.layout.symbols)
+        Symbols::new(self.layout)
     }
 
     /// The sections with relocations against the symbol table, in order of their indices.
@@ -107,6 +165,6 @@ impl<'a> ElfFile<'a> {
         ensures list { result ≡ relocation_sections self.now }
         ensures few { length result < 2 ^ 64 }
     {
-        RelocationSections::new(self.layout.symbols)
+        RelocationSections::new(self.layout)
     }
 }

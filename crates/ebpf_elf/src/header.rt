@@ -1,10 +1,38 @@
-//! A section header.
+//! The file's header, section headers, and the table of them.
 
-ghost use Rattle.std.specs.Prelude.{◌≡◌, ◌+◌, ◌≤◌, length};
-ghost use Rattle.ebpf_elf.specs.Headers.{header_at};
+ghost use Rattle.std.specs.Prelude.{◌≡◌, ◌↔◌, ◌+◌, ◌*◌, ◌<◌, ◌≤◌, ◌==◌, [], length, false, if◌then◌else◌, IfOk, IfSome, IsNone};
+ghost use Rattle.ebpf_base.specs.Faults.{first_of, fault_of};
+ghost use Rattle.ebpf_elf.specs.Faults.{identity_faults, table_faults};
+ghost use Rattle.ebpf_elf.specs.Headers.{ei_data, e_shoff, section_count, header_at, section, is_inside, range_of};
+ghost use Rattle.ebpf_elf.specs.Names.{is_string_table};
 
+use crate::constants::{ELFCLASS64, ELFDATA2LSB, ELFDATA2MSB, MAGIC, SHN_XINDEX, SHT_STRTAB};
+use crate::error::ElfReadError;
 use ebpf_base::Endianness;
-use ebpf_base::numbers::{read_u32, read_u64};
+use ebpf_base::numbers::{read_u16, read_u32, read_u64};
+
+/// The byte order of an ELF64 file.
+#[tactic(auto, unfolding(crate::specs::Headers::ei_data, crate::specs::Faults::identity_faults))]
+pub fn identify(bytes: &[u8]) -> Result<Endianness, ElfReadError>
+    ensures fault { fault_of result ≡ first_of (identity_faults bytes.now) }
+    ensures order { IfOk result (λ order. order ≡ ei_data bytes.now) }
+    ensures room { IfOk result (λ _. 64 ≤ length bytes.now) }
+{
+    if bytes.len() < 64 {
+        return Err(ElfReadError::TooShort);
+    }
+    if !bytes.starts_with(&MAGIC) {
+        return Err(ElfReadError::BadMagic);
+    }
+    if bytes[4] != ELFCLASS64 {
+        return Err(ElfReadError::NotElf64);
+    }
+    match bytes[5] {
+        ELFDATA2LSB => Ok(Endianness::Little),
+        ELFDATA2MSB => Ok(Endianness::Big),
+        _ => Err(ElfReadError::BadByteOrder),
+    }
+}
 
 /// A section header (Elf64_Shdr), without its alignment and entry size.
 #[derive(Clone, Copy)]
@@ -34,5 +62,101 @@ pub fn read_header(order: Endianness, bytes: &[u8], offset: usize) -> SectionHea
         sh_size: read_u64(order, bytes, offset + 32),
         sh_link: read_u32(order, bytes, offset + 40),
         sh_info: read_u32(order, bytes, offset + 44),
+    }
+}
+
+/// Where the section headers of a file stand.
+#[derive(Clone, Copy)]
+pub struct SectionTable<'a> {
+    pub bytes: &'a [u8],
+    pub endianness: Endianness,
+    pub start: usize,
+    pub count: usize,
+    ghost order: { endianness ≡ ei_data bytes.now },
+    ghost starts: { start ≡ e_shoff bytes.now },
+    ghost counts: { count ≡ section_count bytes.now },
+    ghost inside: { start + 64 * count ≤ length bytes.now },
+}
+
+/// The table of section headers. Without one its start is 0.
+#[tactic(auto, unfolding(crate::specs::Faults::table_faults, crate::specs::Headers::e_shoff, crate::specs::Headers::e_shnum, crate::specs::Headers::e_shentsize, crate::specs::Headers::e_shstrndx))]
+pub fn section_table<'a>(
+    endianness: Endianness,
+    bytes: &'a [u8],
+) -> Result<SectionTable<'a>, ElfReadError>
+    requires order { endianness ≡ ei_data bytes.now }
+    requires room { 64 ≤ length bytes.now }
+    ensures fault { fault_of result ≡ first_of (if e_shoff bytes.now == 0 then [] else table_faults bytes.now) }
+    ensures bytes { IfOk result (λ table. table.bytes.now ≡ bytes.now) }
+    ensures some { IfOk result (λ table. 0 < table.start → 0 < table.count) }
+{
+    let start = read_u64(endianness, bytes, 40) as usize;
+    if start == 0 {
+        return Ok(SectionTable {
+            bytes,
+            endianness,
+            start: 0,
+            count: 0,
+        });
+    }
+    let count = read_u16(endianness, bytes, 60) as usize;
+    let names = read_u16(endianness, bytes, 62);
+    if count == 0 || names == SHN_XINDEX {
+        return Err(ElfReadError::ExtendedNumbering);
+    }
+    if read_u16(endianness, bytes, 58) != 64 {
+        return Err(ElfReadError::BadSectionTable);
+    }
+    if start > bytes.len() || 64 * count > bytes.len() - start {
+        return Err(ElfReadError::BadSectionTable);
+    }
+    Ok(SectionTable {
+        bytes,
+        endianness,
+        start,
+        count,
+    })
+}
+
+impl<'a> SectionTable<'a> {
+    /// The header of a section.
+    #[tactic(auto, unfolding(crate::specs::Headers::section))]
+    pub fn header(&self, index: usize) -> SectionHeader
+        requires { index < self.now.count }
+        ensures { result ≡ section self.now.bytes.now index }
+    {
+        read_header(self.endianness, self.bytes, self.start + 64 * index)
+    }
+
+    /// The range of a section, where it is inside the file.
+    pub fn range(&self, header: &SectionHeader) -> Option<&'a [u8]>
+        ensures none { IsNone result ↔ (is_inside self.now.bytes.now header.now.sh_offset header.now.sh_size ≡ false) }
+        ensures some { IfSome result (λ part. part.now ≡ range_of self.now.bytes.now header.now) }
+    {
+        let offset = header.sh_offset as usize;
+        let size = header.sh_size as usize;
+        if size == 0 {
+            return Some(&[]);
+        }
+        if offset > self.bytes.len() || size > self.bytes.len() - offset {
+            return None;
+        }
+        Some(&self.bytes[offset..offset + size])
+    }
+
+    /// The string table in a section, where it is one.
+    #[tactic(auto, unfolding(crate::specs::Names::is_string_table))]
+    pub fn string_table(&self, index: usize) -> Option<&'a [u8]>
+        ensures none { IsNone result ↔ (is_string_table self.now.bytes.now index ≡ false) }
+        ensures some { IfSome result (λ part. part.now ≡ range_of self.now.bytes.now (section self.now.bytes.now index)) }
+    {
+        if index >= self.count {
+            return None;
+        }
+        let header = self.header(index);
+        if header.sh_type != SHT_STRTAB {
+            return None;
+        }
+        self.range(&header)
     }
 }

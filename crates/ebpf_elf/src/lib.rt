@@ -2,34 +2,19 @@
 #![tactic(auto)]
 
 pub mod constants;
-mod entries;
-mod entry_table;
 mod error;
 mod file;
 mod header;
-mod layout;
-mod names;
-mod relocation_entries;
-mod relocation_section;
-mod relocation_sections;
-mod relocation_tables;
-mod relocations;
+mod relocation;
 mod section;
-mod sections;
+mod string;
 mod symbol;
-mod symbol_entry;
-mod symbol_table;
-mod symbols;
-mod table;
 
-pub use entries::{ElfRelocation, SectionIndex, SymbolKind};
 pub use error::ElfReadError;
 pub use file::ElfFile;
-pub use relocation_entries::RelocationEntries;
-pub use relocation_section::{ElfRelocationSection, EntryExtent};
-pub use relocation_sections::RelocationSections;
-pub use relocations::Relocations;
-pub use section::ElfSection;
-pub use sections::Sections;
-pub use symbol::ElfSymbol;
-pub use symbols::Symbols;
+pub use relocation::{
+    ElfRelocation, ElfRelocationSection, EntryExtent, RelocationEntries, RelocationSections,
+    Relocations,
+};
+pub use section::{ElfSection, SectionIndex, Sections};
+pub use symbol::{ElfSymbol, SymbolKind, Symbols};

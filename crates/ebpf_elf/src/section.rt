@@ -1,22 +1,26 @@
-//! A section of a file.
+//! The sections of a file.
 
-ghost use Rattle.std.specs.Prelude.{◌≡◌, ◌<◌, ◌≤◌, None, Some, IfOk, IfErr};
+ghost use Rattle.std.specs.Prelude.{◌≡◌, ◌<◌, List, None, Some, IfOk, IfErr};
+ghost use Rattle.std.specs.Iterator.{YieldsFirst, item_count};
+ghost use Rattle.std.specs.List.{find};
 ghost use Rattle.ebpf_base.specs.Faults.{first_of, fault_of};
-ghost use Rattle.ebpf_elf.specs.File.{section};
+ghost use Rattle.ebpf_elf.specs.Headers.{section};
 ghost use Rattle.ebpf_elf.specs.Names.{is_name};
 ghost use Rattle.ebpf_elf.specs.Relocations.{relocations};
-ghost use Rattle.ebpf_elf.specs.Sections.{SectionOf, header, section_name, data_faults, data_of};
+ghost use Rattle.ebpf_elf.specs.Sections.{SectionOf, header, sections, sections_from, section_name, data_faults, data_of};
 ghost use Rattle.ebpf_elf.specs.declared.error.ElfReadError.TheVariants.{BadStringTable};
 
 use crate::constants::SHT_NOBITS;
-use crate::entries::SectionIndex;
 use crate::error::ElfReadError;
+use crate::file::Layout;
 use crate::header::SectionHeader;
-use crate::layout::Layout;
-use crate::names::{is_name_in, name_in};
-use crate::relocation_sections::RelocationSections;
-use crate::relocations::Relocations;
+use crate::relocation::{RelocationSections, Relocations};
+use crate::string::{is_name_in, name_in};
 use std::marker::Model;
+
+/// The index of a section in its file. The first section has index 1.
+#[derive(Clone, Copy, Debug, Default, PartialEq, Eq)]
+pub struct SectionIndex(pub usize);
 
 /// A section of a file. Contracts see the file and the section's index.
 #[derive(Clone, Drop)]
@@ -126,6 +130,58 @@ impl<'a> ElfSection<'a> {
     pub fn relocations(&self) -> Relocations<'a>
         ensures { result ≡ relocations self.now }
     {
-        Relocations::new(RelocationSections::new(self.layout.symbols), self.index)
+        Relocations::new(RelocationSections::new(self.layout), self.index)
     }
+}
+
+/// The sections of a file that are left, in order of their indices. Contracts see the list of them.
+#[derive(Clone, Drop)]
+pub struct Sections<'a> {
+    layout: Layout<'a>,
+    next: usize,
+}
+
+impl<'a> Model for Sections<'a> {
+    ghost Value = { List SectionOf };
+
+    ghost view = { λ s. sections_from s.layout.table.bytes.now s.next s.layout.table.count };
+}
+
+impl<'a> Sections<'a> {
+    /// The sections of the file from index 1 on.
+    pub(crate) fn new(layout: Layout<'a>) -> Sections<'a>
+        ensures { result ≡ sections layout.entry.table.bytes.now }
+    {
+        Sections { layout, next: 1 }
+    }
+}
+
+impl<'a> Iterator for Sections<'a> {
+    type Item = ElfSection<'a>;
+
+    ghost next_gives = { YieldsFirst (λ s. s) };
+
+    ghost remaining = { item_count (λ s. s) };
+
+    #[tactic(auto, using(ebpf_base::proofs::Ranges::range_more))]
+    fn next(&mut self) -> Option<ElfSection<'a>> {
+        if self.next >= self.layout.table.count {
+            return None;
+        }
+        let index = self.next;
+        self.next += 1;
+        Some(section_at(self.layout, index))
+    }
+}
+
+/// The first section of this name.
+pub fn first_named<'a>(sections: Sections<'a>, name: &str) -> Option<ElfSection<'a>>
+    ensures { result ≡ find (λ s. is_name name.now (section_name s)) sections.entry }
+{
+    for section in sections {
+        if section.has_name(name) {
+            return Some(section);
+        }
+    }
+    None
 }

@@ -1,19 +1,150 @@
-//! A symbol of a file.
+//! The symbol table of a file, and its symbols.
 
-ghost use Rattle.std.specs.Prelude.{◌≡◌, ◌<◌, None, Some, IfOk, IfErr};
-ghost use Rattle.ebpf_elf.specs.Symbols.{SymbolOf, entry, symbol_name, symbol_kind, symbol_section_index, is_definition, is_weak};
+ghost use Rattle.std.specs.Prelude.{◌≡◌, ◌+◌, ◌*◌, ◌<◌, ◌≤◌, ◌==◌, List, [], length, None, Some, IfOk, IfErr, IfSome, option_map, unwrap_or};
+ghost use Rattle.std.specs.Iterator.{YieldsFirst, item_count};
+ghost use Rattle.std.specs.List.{list_any};
+ghost use Rattle.ebpf_base.specs.Faults.{first_of, fault_of};
+ghost use Rattle.ebpf_elf.specs.Faults.{symbol_faults, xindex_faults};
+ghost use Rattle.ebpf_elf.specs.Headers.{section, range_of};
+ghost use Rattle.ebpf_elf.specs.Symbols.{symbol_table_section, symbol_count, symbol_table_indices, st_shndx_at, symbol_at, SymbolOf, entry, symbols, symbols_from, symbol_name, symbol_kind, symbol_section_index, is_definition, is_weak};
 ghost use Rattle.ebpf_elf.specs.declared.error.ElfReadError.TheVariants.{BadStringTable};
 
 use crate::constants::{
-    SHN_LORESERVE, STB_WEAK, STT_COMMON, STT_FILE, STT_FUNC, STT_GNU_IFUNC, STT_NOTYPE, STT_OBJECT,
-    STT_SECTION, STT_TLS,
+    SHN_LORESERVE, SHN_XINDEX, SHT_SYMTAB, STB_WEAK, STT_COMMON, STT_FILE, STT_FUNC, STT_GNU_IFUNC,
+    STT_NOTYPE, STT_OBJECT, STT_SECTION, STT_TLS,
 };
-use crate::entries::SymbolKind;
 use crate::error::ElfReadError;
-use crate::names::name_in;
-use crate::symbol_entry::{SymbolEntry, read_symbol};
-use crate::symbol_table::SymbolTable;
+use crate::file::Layout;
+use crate::header::SectionTable;
+use crate::string::name_in;
+use ebpf_base::Endianness;
+use ebpf_base::numbers::{read_u16, read_u32, read_u64};
 use std::marker::Model;
+
+/// What a symbol stands for, by its type (ELF-64 gABI, 'Symbol Table').
+#[derive(Clone, Copy, Debug, PartialEq, Eq)]
+pub enum SymbolKind {
+    /// No type (STT_NOTYPE), or one that is not listed here.
+    Unknown,
+    /// A function (STT_FUNC, STT_GNU_IFUNC).
+    Text,
+    /// An object (STT_OBJECT, STT_COMMON).
+    Data,
+    /// A section (STT_SECTION).
+    Section,
+    /// A source file (STT_FILE).
+    File,
+    /// A thread-local object (STT_TLS).
+    Tls,
+}
+
+/// An entry of a symbol table (Elf64_Sym), without its visibility.
+#[derive(Clone, Copy)]
+pub struct SymbolEntry {
+    pub st_name: u32,
+    pub st_info: u8,
+    pub st_shndx: u16,
+    pub st_value: u64,
+    pub st_size: u64,
+}
+
+/// The entry in the 24 bytes from `offset` on.
+#[tactic(auto, unfolding(crate::specs::Symbols::symbol_at, ebpf_base::specs::Numbers::number_at))]
+pub fn read_symbol(order: Endianness, bytes: &[u8], offset: usize) -> SymbolEntry
+    requires { offset + 24 ≤ length bytes.now }
+    ensures { result ≡ symbol_at order bytes.now offset }
+{
+    SymbolEntry {
+        st_name: read_u32(order, bytes, offset),
+        st_info: bytes[offset + 4],
+        st_shndx: read_u16(order, bytes, offset + 6),
+        st_value: read_u64(order, bytes, offset + 8),
+        st_size: read_u64(order, bytes, offset + 16),
+    }
+}
+
+/// The index of the first section of kind SYMTAB.
+#[tactic(auto, unfolding(crate::specs::Symbols::symbol_table_section))]
+pub fn find_symbol_table(table: &SectionTable<'_>) -> Option<usize>
+    ensures first { result ≡ symbol_table_section table.now.bytes.now }
+    ensures below { IfSome result (λ i. i < table.now.count) }
+{
+    (1..table.count).find(|i| table.header(*i).sh_type == SHT_SYMTAB)
+}
+
+/// Where a symbol table and its names stand.
+#[derive(Clone, Copy)]
+pub struct SymbolTable<'a> {
+    pub table: SectionTable<'a>,
+    pub index: usize,
+    pub offset: usize,
+    pub count: usize,
+    pub names: &'a [u8],
+    ghost offsets: { offset ≡ (section table.bytes.now index).sh_offset },
+    ghost counts: { count ≡ symbol_count table.bytes.now index },
+    ghost inside: { 0 < count → offset + 24 * count ≤ length table.bytes.now },
+    ghost strings: { names.now ≡ range_of table.bytes.now (section table.bytes.now (section table.bytes.now index).sh_link) },
+}
+
+/// The symbol table in the section `index`.
+#[tactic(auto, unfolding(crate::specs::Faults::symbol_faults))]
+pub fn open_symbol_table<'a>(
+    table: SectionTable<'a>,
+    index: usize,
+) -> Result<SymbolTable<'a>, ElfReadError>
+    requires { index < table.count }
+    ensures fault { fault_of result ≡ first_of (symbol_faults table.entry.bytes.now index) }
+    ensures table { IfOk result (λ s. s.table ≡ table.entry) }
+    ensures index { IfOk result (λ s. s.index ≡ index) }
+{
+    let header = table.header(index);
+    if header.sh_size % 24 != 0 || table.range(&header).is_none() {
+        return Err(ElfReadError::BadSymbolTable);
+    }
+    let Some(names) = table.string_table(header.sh_link as usize) else {
+        return Err(ElfReadError::BadStringTable);
+    };
+    Ok(SymbolTable {
+        table,
+        index,
+        offset: header.sh_offset as usize,
+        count: (header.sh_size / 24) as usize,
+        names,
+    })
+}
+
+impl SymbolTable<'_> {
+    /// The section index of a symbol.
+    #[tactic(auto, unfolding(crate::specs::Symbols::st_shndx_at))]
+    fn shndx_of(&self, symbol: usize) -> u16
+        requires { symbol < self.now.count }
+        ensures { result ≡ st_shndx_at self.now.table.bytes.now self.now.index symbol }
+    {
+        read_u16(
+            self.table.endianness,
+            self.table.bytes,
+            self.offset + 24 * symbol + 6,
+        )
+    }
+
+    /// Whether the section index of a symbol is kept elsewhere.
+    fn has_extended_index(&self) -> bool
+        ensures { result ≡ list_any (λ k. st_shndx_at self.now.table.bytes.now self.now.index k == SHN_XINDEX) (symbol_table_indices self.now.table.bytes.now self.now.index) }
+    {
+        (1..self.count).any(|k| self.shndx_of(k) == SHN_XINDEX)
+    }
+
+    /// Refuses section indices that are kept elsewhere.
+    #[tactic(auto, unfolding(crate::specs::Faults::xindex_faults))]
+    pub fn check_section_indices(&self) -> Result<(), ElfReadError>
+        ensures { fault_of result ≡ first_of (xindex_faults self.now.table.bytes.now self.now.index) }
+    {
+        if self.has_extended_index() {
+            return Err(ElfReadError::ExtendedNumbering);
+        }
+        Ok(())
+    }
+}
 
 /// A symbol of a file. Contracts see the file, the section of the symbol table and the symbol's index.
 #[derive(Clone, Drop)]
@@ -127,5 +258,49 @@ impl<'a> ElfSymbol<'a> {
         ensures { result ≡ is_weak (entry self.now) }
     {
         self.fields.st_info / 16 == STB_WEAK
+    }
+}
+
+/// The symbols of a file that are left, in order of their indices. Contracts see the list of them.
+#[derive(Clone, Drop)]
+pub struct Symbols<'a> {
+    table: Option<SymbolTable<'a>>,
+    next: usize,
+}
+
+impl<'a> Model for Symbols<'a> {
+    ghost Value = { List SymbolOf };
+
+    ghost view = { λ s. unwrap_or (option_map (λ t. symbols_from t.table.bytes.now t.index s.next t.count) s.table) [] };
+}
+
+impl<'a> Symbols<'a> {
+    /// The symbols of the file from index 1 on.
+    pub(crate) fn new(layout: Layout<'a>) -> Symbols<'a>
+        ensures { result ≡ symbols layout.entry.table.bytes.now }
+    {
+        Symbols {
+            table: layout.symbols,
+            next: 1,
+        }
+    }
+}
+
+impl<'a> Iterator for Symbols<'a> {
+    type Item = ElfSymbol<'a>;
+
+    ghost next_gives = { YieldsFirst (λ s. s) };
+
+    ghost remaining = { item_count (λ s. s) };
+
+    #[tactic(auto, using(ebpf_base::proofs::Ranges::range_more))]
+    fn next(&mut self) -> Option<ElfSymbol<'a>> {
+        let symbols = self.table?;
+        if self.next >= symbols.count {
+            return None;
+        }
+        let index = self.next;
+        self.next += 1;
+        Some(symbol_of(symbols, index))
     }
 }

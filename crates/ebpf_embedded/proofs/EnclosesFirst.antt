@@ -1,6 +1,6 @@
 -- What the first sections of an object need.
 use Rattle.std.specs.Prelude.{ℕ, ◌+◌, ◌*◌, ◌<◌, ◌≤◌, List, length}
-use Rattle.ebpf_elf.specs.File.{e_shoff, e_shnum}
+use Rattle.ebpf_elf.specs.Headers.{e_shoff, e_shnum}
 use Rattle.ebpf_embedded.specs.Objects.{section_data_end, within}
 
 -- nothing ends behind this place: the header, the section headers, so many sections

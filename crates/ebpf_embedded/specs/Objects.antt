@@ -4,8 +4,7 @@ use Rattle.std.specs.List.{starts_with}
 use Rattle.ebpf_base.specs.Numbers.{number_at}
 use Rattle.ebpf_elf.specs.declared.constants.TheConstants.{MAGIC, ELFCLASS64, ELFDATA2LSB, ELFDATA2MSB, SHT_NOBITS}
 use Rattle.ebpf_elf.specs.declared.header.SectionHeader.{SectionHeader}
-use Rattle.ebpf_elf.specs.Headers.{header_at}
-use Rattle.ebpf_elf.specs.File.{ei_data, e_shoff, e_shnum}
+use Rattle.ebpf_elf.specs.Headers.{header_at, ei_data, e_shoff, e_shnum}
 use Rattle.ebpf_embedded.specs.declared.header.TheConstants.{ET_REL, EM_BPF}
 use Rattle.ebpf_embedded.specs.declared.objects.ObjectRange.{ObjectRange}
 

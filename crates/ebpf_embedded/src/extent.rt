@@ -1,7 +1,7 @@
 //! Where an object ends.
 
 ghost use Rattle.std.specs.Prelude.{◌≡◌, ◌+◌, ◌*◌, ◌<◌, ◌≤◌, length};
-ghost use Rattle.ebpf_elf.specs.File.{ei_data, e_shoff, e_shnum};
+ghost use Rattle.ebpf_elf.specs.Headers.{ei_data, e_shoff, e_shnum};
 ghost use Rattle.ebpf_embedded.specs.Objects.{IsEnd, section_data_end, within};
 
 use crate::header::{HEADER_SIZE, order_of};
@@ -21,7 +21,7 @@ fn sum_within(first: usize, second: usize, limit: usize) -> usize
 }
 
 /// Where a section ends whose header stands at an offset; 0 where the header isn't inside, and of a section without bytes.
-#[tactic(auto, unfolding(ebpf_elf::specs::File::ei_data, ebpf_elf::specs::Headers::header_at))]
+#[tactic(auto, unfolding(ebpf_elf::specs::Headers::ei_data, ebpf_elf::specs::Headers::header_at))]
 fn section_end_at(order: Endianness, bytes: &[u8], offset: usize) -> usize
     requires order { order ≡ ei_data bytes.now }
     ensures end { result ≡ section_data_end bytes.now offset }
@@ -39,7 +39,7 @@ fn section_end_at(order: Endianness, bytes: &[u8], offset: usize) -> usize
 }
 
 /// How many of the bytes belong to the object that they begin with.
-#[tactic(auto, unfolding(ebpf_elf::specs::File::e_shoff, ebpf_elf::specs::File::e_shnum))]
+#[tactic(auto, unfolding(ebpf_elf::specs::Headers::e_shoff, ebpf_elf::specs::Headers::e_shnum))]
 pub fn object_length(bytes: &[u8]) -> usize
     requires { 64 ≤ length bytes.now }
     ensures least { IsEnd bytes.now result }

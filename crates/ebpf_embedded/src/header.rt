@@ -1,7 +1,7 @@
 //! Where an object begins.
 
 ghost use Rattle.std.specs.Prelude.{◌≡◌, ◌≤◌, length};
-ghost use Rattle.ebpf_elf.specs.File.{ei_data};
+ghost use Rattle.ebpf_elf.specs.Headers.{ei_data};
 ghost use Rattle.ebpf_embedded.specs.Objects.{is_object};
 
 use ebpf_base::Endianness;
@@ -18,7 +18,7 @@ pub const EM_BPF: u16 = 247;
 pub const HEADER_SIZE: usize = 64;
 
 /// The byte order of a file with a header.
-#[tactic(auto, unfolding(ebpf_elf::specs::File::ei_data))]
+#[tactic(auto, unfolding(ebpf_elf::specs::Headers::ei_data))]
 pub fn order_of(bytes: &[u8]) -> Endianness
     requires { 64 ≤ length bytes.now }
     ensures { result ≡ ei_data bytes.now }

@@ -1,6 +1,6 @@
 //! The objects in a file.
 
-ghost use Rattle.std.specs.Prelude.{◌≡◌, ◌<◌, ◌≤◌, IfOk, IfSome, MatchOption, length};
+ghost use Rattle.std.specs.Prelude.{◌<◌, ◌≤◌, IfOk, IfSome, MatchOption, length};
 ghost use Rattle.ebpf_embedded.specs.Objects.{AreObjects, HasNone, IsNext};
 
 use crate::extent::object_length;

@@ -1,18 +1,34 @@
--- What the bytes of `.BTF.ext` give, and their first fault: part by part, and in a part section by section.
-use Rattle.std.specs.Prelude.{ℕ, zero, suc, ◌+◌, ◌-◌, List, [], ◌∷◌, Result, Ok, Err, ◌==◌, if◌then◌else◌}
-use Rattle.std.specs.FinMap.{FinMap, empty}
+-- Func info and line info of `.BTF.ext`, by the names of sections.
+use Rattle.std.specs.Prelude.{ℕ, List, [], unwrap_or, zero, suc, ◌+◌, ◌-◌, ◌∷◌, Result, Ok, Err, ◌==◌, if◌then◌else◌, ◌≡◌, None}
+use Rattle.std.specs.FinMap.{FinMap, get, empty}
 use Rattle.ebpf_base.specs.Keyed.{put_all}
 use Rattle.ebpf_base.specs.Keys.{text_cmp}
+use Rattle.ebpf_base.specs.Results.{if_ok}
 use Rattle.ebpf_base.specs.declared.endianness.Endianness.{Endianness}
+use Rattle.ebpf_btf.specs.Next.{if_some}
+use Rattle.ebpf_btf.specs.Strings.{text_at}
 use Rattle.ebpf_btf.specs.declared.error.BtfError.{BtfError}
 use Rattle.ebpf_btf.specs.declared.error.BtfError.TheVariants.{InvalidInfo}
+use Rattle.ebpf_ext.specs.ExtFormat.{ext_header_fault, func_part, line_part, core_relo_part, part_fault, record_size, sections_start, sections_end, sec_name_off_at, num_info_at, section_end, info_sec_fault, func_infos, line_infos, core_relos_at}
 use Rattle.ebpf_ext.specs.declared.ext_infos.FuncSecInfo.{FuncSecInfo}
 use Rattle.ebpf_ext.specs.declared.ext_infos.LineSecInfo.{LineSecInfo}
 use Rattle.ebpf_ext.specs.declared.relocation.Relocation.{Relocation}
-use Rattle.ebpf_ext.specs.ExtFormat.{ext_header_fault, func_part, line_part, core_relo_part, part_fault, record_size, sections_start, sections_end, sec_name_off_at, num_info_at, section_end, info_sec_fault, func_infos, line_infos, core_relos_at}
-use Rattle.ebpf_base.specs.Results.{if_ok}
-use Rattle.ebpf_btf.specs.Next.{if_some}
-use Rattle.ebpf_btf.specs.Strings.{text_at}
+
+-- nothing
+abbrev pub no_func_info : FuncSecInfo
+no_func_info = record { sec_name_offset = 0; num_info = 0; func_info = [] }
+
+abbrev pub no_line_info : LineSecInfo
+no_line_info = record { sec_name_offset = 0; num_info = 0; line_info = [] }
+
+-- the func info or line info of a section, nothing where it is not named
+abbrev pub func_info_at : FinMap text_cmp FuncSecInfo → List ℕ → FuncSecInfo
+func_info_at sections name = unwrap_or (get sections name) no_func_info
+
+abbrev pub line_info_at : FinMap text_cmp LineSecInfo → List ℕ → LineSecInfo
+line_info_at sections name = unwrap_or (get sections name) no_line_info
+
+-- ---- what the bytes of `.BTF.ext` give, and their first fault: part by part, and in a part section by section
 
 -- ---- one section, and the offset after it; its own faults come first, then those of its records
 
@@ -96,3 +112,34 @@ read_ext o bytes strings =
       func_record_size = record_size o bytes func_part;
       line_record_size = record_size o bytes line_part;
     })))))
+
+-- ---- what the bytes of `.BTF.ext` spell (the kernel's Documentation/bpf/btf.rst, 4.2 ".BTF.ext section"): three parts,
+-- each of sections one after the other
+
+-- A section stands from an offset up to the next one, inside its part, and has these records. They have a size that is
+-- not below a least one.
+pub record IsSectionAt {S : Type 0} (o : Endianness) (bytes : List ℕ) (least size end : ℕ) (records : ℕ → Result S BtfError) (offset next : ℕ) (s : S) : Type 0 where
+  pub sound : info_sec_fault o bytes least size offset end ≡ None
+  pub ends : next ≡ section_end o bytes size offset
+  pub gives : records offset ≡ Ok s
+
+-- the bytes from an offset up to an end are those of some sections, one after the other
+abbrev pub AreSectionsAt : {S : Type 0} → Endianness → List ℕ → ℕ → ℕ → ℕ → (ℕ → Result S BtfError) → ℕ → List S → Type 0
+AreSectionsAt o bytes least size end records offset [] = offset ≡ end
+AreSectionsAt o bytes least size end records offset (s ∷ sections) =
+    (next : ℕ) × IsSectionAt o bytes least size end records offset next s × AreSectionsAt o bytes least size end records next sections
+
+-- a part is sound and has these sections
+pub record IsPart {S : Type 0} (o : Endianness) (bytes : List ℕ) (at least : ℕ) (records : ℕ → ℕ → Result S BtfError) (sections : List S) : Type 0 where
+  pub sound : part_fault o bytes at ≡ None
+  pub sections_are : AreSectionsAt o bytes least (record_size o bytes at) (sections_end o bytes at) (records (record_size o bytes at)) (sections_start o bytes at) sections
+
+-- The header is sound, and the parts are these func info, line info and relocations; of sections of func info or
+-- line info with equal names the later stands.
+pub record SpellsExt (o : Endianness) (bytes strings : List ℕ) (ext : ExtInfo) : Type 0 where
+  pub header : ext_header_fault o bytes ≡ None
+  pub funcs : (sections : List (List ℕ × FuncSecInfo)) × (ext.func_info ≡ put_all empty sections) × IsPart o bytes func_part 8 (named_func_info o bytes strings) sections
+  pub lines : (sections : List (List ℕ × LineSecInfo)) × (ext.line_info ≡ put_all empty sections) × IsPart o bytes line_part 16 (named_line_info o bytes strings) sections
+  pub relocations : IsPart o bytes core_relo_part 16 (section_core_relos o bytes) ext.relocations
+  pub func_record_size : ext.func_record_size ≡ record_size o bytes func_part
+  pub line_record_size : ext.line_record_size ≡ record_size o bytes line_part

@@ -1,11 +1,13 @@
--- Sections by the names at their offsets in some strings.
-use Rattle.std.specs.Prelude.{ℕ, List, [], ◌∷◌, Result, Ok, Err}
+-- Names of sections in .BTF.ext, and copies of them.
+use Rattle.std.specs.Prelude.{ℕ, List, [], ◌∷◌, Result, Ok, Err, ◌≡◌}
 use Rattle.std.specs.FinMap.{FinMap, empty}
-use Rattle.std.specs.List.{flat_map}
+use Rattle.std.specs.List.{flat_map, AllZip}
 use Rattle.ebpf_base.specs.Keyed.{put_all}
 use Rattle.ebpf_base.specs.Keys.{text_cmp}
 use Rattle.ebpf_btf.specs.Strings.{text_at}
 use Rattle.ebpf_btf.specs.declared.error.BtfError.{BtfError}
+
+-- ---- sections by the names at their offsets in some strings
 
 -- ---- by names
 
@@ -22,3 +24,21 @@ unfoldable pub by_offsets : {S : Type 0} → List ℕ → List (ℕ × S) → Fi
 by_offsets strings sections = put_all empty (sections_with_names strings sections)
 
 -- ---- the indices of the last sections of some names
+
+-- ---- names of sections that are copied out of the strings that they stand in
+
+-- the text at an offset of the strings stands at another one of the names
+pub record IsCopied (strings names : List ℕ) (offset copied : ℕ) : Type 0 where
+  pub text : List ℕ
+  pub was : text_at strings offset ≡ Ok text
+  pub is : text_at names copied ≡ Ok text
+
+-- the names of the sections stand at these offsets of the names
+abbrev pub AreCopied : {S : Type 0} → List ℕ → List ℕ → List (ℕ × S) → List ℕ → Type 0
+AreCopied strings names sections offsets = AllZip (λ s copied. IsCopied strings names s.0 copied) sections offsets
+
+-- sections with these offsets instead of theirs, as far as there are some
+abbrev pub with_offsets : {S : Type 0} → List ℕ → List (ℕ × S) → List (ℕ × S)
+with_offsets [] sections = sections
+with_offsets (o ∷ offsets) [] = []
+with_offsets (o ∷ offsets) (s ∷ sections) = (o, s.1) ∷ with_offsets offsets sections

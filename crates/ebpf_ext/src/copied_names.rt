@@ -1,7 +1,7 @@
 //! The names of sections, copied out of the strings that they stand in.
 
 ghost use Rattle.std.specs.Prelude.{◌≡◌, ◌++◌, length, IfOk, IfSome};
-ghost use Rattle.ebpf_ext.specs.CopiedNames.{with_offsets, AreCopied, IsCopied};
+ghost use Rattle.ebpf_ext.specs.SectionNames.{with_offsets, AreCopied, IsCopied};
 
 use ebpf_base::Items;
 use ebpf_btf::strings::{first_zero, near_bytes};
@@ -20,7 +20,7 @@ pub struct CopiedNames {
 /// The offset that the name at an offset of the strings gets behind the names so far, and its bytes with the zero
 /// byte. `None` where it can't be read, or where the names would be longer than the strings; no more of it is looked at
 /// than would fit.
-#[tactic(auto, using(crate::proofs::CopiedNames::one_copied))]
+#[tactic(auto, using(crate::proofs::SectionNames::one_copied))]
 fn next_name<'s>(strings: &'s [u8], names: &[u8], offset: u32) -> Option<(u32, &'s [u8])>
     ensures { IfSome result (λ n. IsCopied strings.now (names.now ++ n.1.now) offset n.0) }
 {

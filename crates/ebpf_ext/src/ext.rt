@@ -1,9 +1,8 @@
 //! `.BTF.ext`, read.
 
-ghost use Rattle.std.specs.Prelude.{◌≡◌, ◌≤◌, length, IfOk, Ok};
+ghost use Rattle.std.specs.Prelude.{◌≡◌, length, IfOk, Ok};
 ghost use Rattle.ebpf_base.specs.Faults.{Gives};
-ghost use Rattle.ebpf_ext.specs.ExtReading.{ExtInfo, read_ext, func_sections, line_sections, core_relo_sections};
-ghost use Rattle.ebpf_ext.specs.ExtSpelling.{SpellsExt};
+ghost use Rattle.ebpf_ext.specs.ExtReading.{ExtInfo, read_ext, func_sections, line_sections, core_relo_sections, SpellsExt};
 ghost use Rattle.ebpf_ext.specs.ExtFormat.{func_part, line_part, record_size};
 ghost use Rattle.ebpf_btf.specs.Memory.{is_btf_memory};
 ghost use Rattle.ebpf_btf.specs.Reading.{header_length};
@@ -100,7 +99,7 @@ impl BtfExt {
     /// shorter than 8 bytes (functions) or 16 bytes (lines, relocations) in a section that has some.
     /// `InvalidStringOffset`: a section's name of func info or line info can't be read. `InvalidRelocationKind`: a
     /// relocation whose kind is past 11. `OutOfMemory` where memory is refused.
-    #[tactic(auto, using(crate::proofs::ExtSpelled::ext_found, crate::proofs::ExtSpelled::ext_only))]
+    #[tactic(auto, using(crate::proofs::ExtSections::ext_found, crate::proofs::ExtSections::ext_only))]
     pub fn parse(
         alloc: Global,
         data: &[u8],

@@ -2,7 +2,7 @@
 
 ghost use Rattle.std.specs.Prelude.{◌≡◌, ℕ, List};
 
-use crate::sections_by_name::SectionsByName;
+use crate::found_sections::SectionsByName;
 use ebpf_base::Items;
 use ebpf_btf::rows::Row;
 

@@ -7,10 +7,9 @@ ghost use Rattle.ebpf_ext.specs.ExtReading.{by_names, func_section, line_section
 ghost use Rattle.ebpf_ext.specs.PrivateContracts.{GivesByOffset, info_section};
 
 use crate::ext_infos::{FuncInfo, LineInfo, SectionInfo};
-use crate::ext_part::{Part, SECTION_HEAD, read_section_head};
-use crate::ext_records::read_relocations;
+use crate::ext_part::{Part, SECTION_HEAD, read_relocations, read_section_head};
+use crate::found_sections::SectionsByName;
 use crate::relocation::Relocation;
-use crate::sections_by_name::SectionsByName;
 use ebpf_base::Items;
 use ebpf_btf::rows::read_rows;
 use ebpf_btf::{Btf, BtfError, Endianness};

@@ -6,17 +6,14 @@ mod ext;
 mod ext_clones;
 mod ext_infos;
 mod ext_part;
-mod ext_records;
 mod ext_sections;
 mod found_sections;
 pub mod laws;
 mod relocation;
-mod sections_by_name;
 
 pub use ext::BtfExt;
 pub use ext_infos::{
     FuncInfo, FuncSecInfo, LineInfo, LineSecInfo, SectionInfo, bpf_func_info, bpf_line_info,
 };
-pub use found_sections::FoundSections;
+pub use found_sections::{FoundSections, SectionsByName};
 pub use relocation::{Relocation, RelocationKind};
-pub use sections_by_name::SectionsByName;

@@ -1,2 +1,1 @@
-pub mod LastSlots
-pub mod NoSlots
+pub mod InitialSlots

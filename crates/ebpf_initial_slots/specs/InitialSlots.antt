@@ -1,10 +1,9 @@
--- The initial values of maps of maps and of programs (libbpf 1.5, libbpf.c: bpf_object__collect_map_relos): for the
--- relocations of the section `.maps`, by map and index, what stands there.
-use Rattle.std.specs.Prelude.{ℕ, ◌+◌, ◌-◌, ◌/◌, ◌%◌, ◌==◌, ◌&&◌, ◌||◌, nat_le, nat_lt, not, Bool, false, List, [], ◌∷◌, map, fold, Option, Some, None, option_map, unwrap_or, Result, Ok, Err, if◌then◌else◌}
+-- The one answer that no definition states: want of memory.
+use Rattle.std.specs.Prelude.{Bool, true, false, ℕ, ◌+◌, ◌-◌, ◌/◌, ◌%◌, ◌==◌, ◌&&◌, ◌||◌, nat_le, nat_lt, not, List, [], ◌∷◌, map, fold, Option, Some, None, option_map, unwrap_or, Result, Ok, Err, if◌then◌else◌, ◌≡◌}
 use Rattle.std.specs.FinMap.{FinMap, get, insert, contains_key, entries, empty}
 use Rattle.std.specs.List.{find, flat_map}
 use Rattle.std.specs.Option.{option_and_then, option_map_or}
-use Rattle.std.specs.Ordering.{nat_cmp}
+use Rattle.std.specs.Ordering.{nat_cmp, eq_by_cmp}
 use Rattle.ebpf_base.specs.Faults.{fault_of, first_in, first_some, or_else}
 use Rattle.ebpf_base.specs.Keys.{text_cmp}
 use Rattle.ebpf_base.specs.Results.{if_ok}
@@ -12,17 +11,24 @@ use Rattle.ebpf_btf.specs.Next.{if_some}
 use Rattle.ebpf_elf.specs.Faults.{faults}
 use Rattle.ebpf_elf.specs.Relocations.{relocations}
 use Rattle.ebpf_elf.specs.Sections.{sections}
-use Rattle.ebpf_elf.specs.declared.entries.ElfRelocation.{ElfRelocation}
+use Rattle.ebpf_elf.specs.declared.relocation.ElfRelocation.{ElfRelocation}
 use Rattle.ebpf_initial_slots.specs.MapVariables.{maps_section_name, map_variables}
 use Rattle.ebpf_initial_slots.specs.declared.error.InitialSlotError.{InitialSlotError}
-use Rattle.ebpf_initial_slots.specs.declared.error.InitialSlotError.TheVariants.{ElfError, UnknownSymbol, OutsideMaps, UnsupportedMapType, NotInMaps, UnsupportedKeySize, UnknownMap, UnknownProgram, NotAnEntryPoint, NoValues, OutsideValues, Misaligned}
-use Rattle.ebpf_initial_slots.specs.declared.slot.InitialSlot.{InitialSlot}
+use Rattle.ebpf_initial_slots.specs.declared.error.InitialSlotError.TheVariants.{OutOfMemory, ElfError, UnknownSymbol, OutsideMaps, UnsupportedMapType, NotInMaps, UnsupportedKeySize, UnknownMap, UnknownProgram, NotAnEntryPoint, NoValues, OutsideValues, Misaligned}
+use Rattle.ebpf_initial_slots.specs.declared.slots.InitialSlot.{InitialSlot}
 use Rattle.ebpf_initial_slots.specs.declared.target.InitialTarget.{InitialTarget}
 use Rattle.ebpf_initial_slots.specs.declared.target.InitialTarget.TheVariants as targets
 use Rattle.ebpf_initial_slots.specs.declared.variables.MapVariable.{MapVariable}
 use Rattle.ebpf_model.specs.declared.program.Program.{Program}
 use Rattle.ebpf_model.specs.declared.symbol.Symbol.{Symbol}
 use Rattle.ebpf_object.specs.declared.object.Object.{Object}
+
+abbrev pub is_initial_slot_memory : InitialSlotError → Bool
+is_initial_slot_memory OutOfMemory = true
+is_initial_slot_memory _ = false
+
+-- ---- the initial values of maps of maps and of programs (libbpf 1.5, libbpf.c: bpf_object__collect_map_relos): for the
+-- relocations of the section `.maps`, by map and index, what stands there
 
 -- ---- what stands in a slot: the map or the program that a symbol names
 
@@ -145,3 +151,17 @@ initial_slots_fault bytes object =
     or_else
     (option_map ElfError (first_in (faults bytes)))
     (option_and_then (λ section. slots_fault object section (map_variables object section) (relocations_at bytes section)) (maps_section object))
+
+-- ---- what stands at an index of a map: of the slots that relocations put there the last
+
+-- the slot at an index of a map
+abbrev pub standing_slot : FinMap text_cmp (FinMap nat_cmp InitialSlot) → List ℕ → ℕ → Option InitialSlot
+standing_slot found name index = option_and_then (λ own. get own index) (get found name)
+
+-- the last of these slots at an index of a map, else the one before
+abbrev pub last_slot : List ℕ → ℕ → Option InitialSlot → List InitialSlot → Option InitialSlot
+last_slot name index before slots =
+    fold (λ found s. if eq_by_cmp text_cmp name s.map && eq_by_cmp nat_cmp index s.index then Some s else found) before slots
+
+abbrev pub LastSlotsStand : Type 0
+LastSlotsStand = (slots : List InitialSlot) (name : List ℕ) (index : ℕ) → standing_slot (by_map_and_index slots) name index ≡ last_slot name index None slots

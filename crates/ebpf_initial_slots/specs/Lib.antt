@@ -1,5 +1,3 @@
 pub mod MapVariables
 pub mod InitialSlots
-pub mod InitialSlotMemory
-pub mod SlotLaws
 pub mod PrivateContracts

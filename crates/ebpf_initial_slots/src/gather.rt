@@ -1,16 +1,15 @@
 //! What relocations put into maps, by map and index.
 
-ghost use Rattle.std.specs.Prelude.{◌≡◌, ◌<◌, ◌/◌, ◌++◌, ◌∷◌, [], map, fold, IfOk, IfSome, IsTrue, OnOk};
+ghost use Rattle.std.specs.Prelude.{◌≡◌, ◌<◌, ◌/◌, ◌++◌, map, fold, IfOk, IfSome, IsTrue, OnOk};
 ghost use Rattle.std.specs.FinMap as finite;
 ghost use Rattle.std.specs.List.{find};
 ghost use Rattle.std.specs.Option.{option_copied};
 ghost use Rattle.ebpf_base.specs.Faults.{Gives, Refuses};
-ghost use Rattle.ebpf_initial_slots.specs.InitialSlotMemory.{is_initial_slot_memory};
-ghost use Rattle.ebpf_initial_slots.specs.InitialSlots.{by_map_and_index, holds_slot, index_from, initial_slot, slot_index, slots_fault, slots_in_order, slots_put};
+ghost use Rattle.ebpf_initial_slots.specs.InitialSlots.{is_initial_slot_memory, by_map_and_index, holds_slot, index_from, initial_slot, slot_index, slots_fault, slots_in_order, slots_put};
 ghost use Rattle.ebpf_initial_slots.specs.PrivateContracts.{with_slot_in};
 
 use crate::error::InitialSlotError;
-use crate::slot::InitialSlot;
+use crate::slots::InitialSlot;
 use crate::target::initial_target;
 use crate::variables::MapVariable;
 use ebpf_base::{ByName, ByNumber, Items};

@@ -4,13 +4,10 @@
 mod error;
 mod gather;
 pub mod laws;
-mod slot;
 mod slots;
 mod target;
-mod values;
 mod variables;
 
 pub use error::InitialSlotError;
-pub use slot::InitialSlot;
-pub use slots::initial_slots;
+pub use slots::{InitialSlot, initial_slots};
 pub use target::InitialTarget;

@@ -4,18 +4,19 @@ ghost use Rattle.std.specs.Prelude.{◌≡◌, ◌==◌, [], unwrap_or, IfOk};
 ghost use Rattle.std.specs.List.{find};
 ghost use Rattle.ebpf_base.specs.Faults.{Refuses};
 ghost use Rattle.ebpf_elf.specs.Sections.{sections};
-ghost use Rattle.ebpf_initial_slots.specs.InitialSlotMemory.{is_initial_slot_memory};
-ghost use Rattle.ebpf_initial_slots.specs.InitialSlots.{by_map_and_index, initial_slots, initial_slots_fault, maps_section, relocations_at, slots_fault, slots_in_order, slots_of_section, slots_put};
-ghost use Rattle.ebpf_initial_slots.specs.MapVariables.{map_variables};
+ghost use Rattle.ebpf_initial_slots.specs.InitialSlots.{is_initial_slot_memory, by_map_and_index, initial_slots, initial_slots_fault, maps_section, relocations_at, slots_fault, slots_in_order, slots_of_section, slots_put};
+ghost use Rattle.ebpf_initial_slots.specs.MapVariables.{map_variables, last_member, values_at, values_offset};
 
 use crate::error::InitialSlotError;
 use crate::gather::{gather, slots_in_order};
-use crate::slot::InitialSlot;
+use crate::target::InitialTarget;
 use crate::variables::{MAPS, map_variables};
-use ebpf_base::Items;
+use ebpf_base::{Items, Text};
+use ebpf_btf::strings::is_text_at;
+use ebpf_btf::{Btf, BtfMember, BtfType};
 use ebpf_elf::{ElfFile, ElfSection, Relocations, Sections};
 use ebpf_object::Object;
-use std::alloc::Global;
+use std::alloc::{AllocError, Global};
 
 /// The section with an index.
 fn section_at<'a>(sections: Sections<'a>, index: usize) -> Option<ElfSection<'a>>
@@ -71,7 +72,7 @@ fn slots_put(
 }
 
 /// What the relocations of the section with an index put into its maps.
-#[tactic(auto, using(crate::proofs::NoSlots::none_in_order))]
+#[tactic(auto, using(crate::proofs::InitialSlots::none_in_order))]
 fn slots_of_section(
     alloc: Global,
     file: &ElfFile<'_>,
@@ -133,4 +134,60 @@ pub fn initial_slots(
         Some(index) => slots_of_section(alloc, &file, object, index),
         None => Ok(Items::new(alloc)),
     }
+}
+
+/// An initial value of a map.
+#[derive(Debug, Drop)]
+pub struct InitialSlot {
+    /// The name of the map that has it.
+    pub map: Text,
+    /// Its index in the map, which is also the key that it has there.
+    pub index: u32,
+    /// What stands there.
+    pub target: InitialTarget,
+}
+
+impl Clone for InitialSlot {
+    ghost is_clone = { λ old copy. copy ≡ old };
+
+    fn clone(&self) -> Result<InitialSlot, AllocError> {
+        Ok(InitialSlot {
+            map: self.map.clone()?,
+            index: self.index,
+            target: self.target.clone()?,
+        })
+    }
+}
+
+/// The last member of a STRUCT.
+#[tactic(auto, unfolding(crate::specs::MapVariables::last_member))]
+fn last_member(ty: &BtfType<'_>) -> Option<BtfMember>
+    ensures { result ≡ last_member ty.now }
+{
+    match ty {
+        BtfType::Struct { members, .. } => members.get(members.len().saturating_sub(1)),
+        _ => None,
+    }
+}
+
+/// Where a member stands that is `values`, in bytes.
+fn values_at(types: &Btf, ty: &BtfType<'_>, member: &BtfMember) -> Option<u32>
+    ensures { result ≡ values_at types.now ty.now member.now }
+{
+    if is_text_at(types.strings(), member.name_offset, "values") {
+        return Some(ty.member_bit_offset(member) / 8);
+    }
+    None
+}
+
+/// Where `values` stand in the type of an id, in bytes, where it ends in them.
+#[tactic(auto, unfolding(crate::specs::MapVariables::values_offset))]
+pub fn values_offset(types: &Btf, type_id: u32) -> Option<u32>
+    ensures { result ≡ values_offset types.now type_id }
+{
+    let Ok(ty) = types.resolved_type(type_id) else {
+        return None;
+    };
+    let member = last_member(&ty)?;
+    values_at(types, &ty, &member)
 }

@@ -1,9 +1,8 @@
 //! The maps and the programs that stand in maps.
 
-ghost use Rattle.std.specs.Prelude.{◌≡◌, [], ◌==◌, unwrap_or};
+ghost use Rattle.std.specs.Prelude.{◌≡◌, ◌==◌};
 ghost use Rattle.ebpf_base.specs.Faults.{Gives};
-ghost use Rattle.ebpf_initial_slots.specs.InitialSlotMemory.{is_initial_slot_memory};
-ghost use Rattle.ebpf_initial_slots.specs.InitialSlots.{initial_target, is_entry_point, program_or_fault, stands_in, symbol_text, target_map, target_program};
+ghost use Rattle.ebpf_initial_slots.specs.InitialSlots.{is_initial_slot_memory, initial_target, is_entry_point, stands_in, symbol_text, target_map, target_program};
 
 use crate::error::InitialSlotError;
 use crate::variables::MapVariable;

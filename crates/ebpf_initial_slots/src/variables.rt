@@ -1,16 +1,16 @@
 //! The variables of the section `.maps`.
 
-ghost use Rattle.std.specs.Prelude.{◌≡◌, ◌++◌, [], IfOk, IfErr, OnOk, true};
+ghost use Rattle.std.specs.Prelude.{◌≡◌, ◌++◌, [], IfOk, IfErr, true};
 ghost use Rattle.std.specs.FinMap as finite;
 ghost use Rattle.std.specs.Option.{option_copied, option_to_list};
 ghost use Rattle.std.specs.Result.{result_ok};
 ghost use Rattle.ebpf_btf.specs.Strings.{id_of_name, text_at};
 ghost use Rattle.ebpf_btf.specs.declared.kind.BtfKind.TheVariants as kinds;
-ghost use Rattle.ebpf_initial_slots.specs.InitialSlotMemory.{is_initial_slot_memory};
-ghost use Rattle.ebpf_initial_slots.specs.MapVariables.{declared_in, lacks_offsets, map_variable, map_variables, maps_datasec, maps_entries, maps_section_name, name_and_type, named_variable, variable_of, variable_offset, variables_in, variables_of};
+ghost use Rattle.ebpf_initial_slots.specs.InitialSlots.{is_initial_slot_memory};
+ghost use Rattle.ebpf_initial_slots.specs.MapVariables.{declared_in, lacks_offsets, map_variable, map_variables, maps_datasec, maps_entries, maps_section_name, name_and_type, named_variable, variable_of, variable_offset, variables_of};
 
 use crate::error::InitialSlotError;
-use crate::values::values_offset;
+use crate::slots::values_offset;
 use ebpf_base::{Items, Text};
 use ebpf_btf::{Btf, BtfError, BtfKind, BtfType, DataSecEntry, Rows};
 use ebpf_model::Symbol;

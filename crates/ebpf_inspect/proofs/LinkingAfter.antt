@@ -1,5 +1,5 @@
 -- An object that is prepared without linking its programs, and then linked.
-use Rattle.std.proofs.Common.{◌≡◌, ◌∙◌, ℕ, true, false, List, Option, None, sym, subst}
+use Rattle.std.proofs.Common.{◌≡◌, ◌∙◌, ℕ, true, false, List, None, sym, subst}
 use Rattle.ebpf_inspect.specs.Inspected.{with_linking, AreReports, AreReportsOf, IsInspected}
 use Rattle.ebpf_inspect.specs.declared.report.ProgramReport.{ProgramReport}
 use Rattle.ebpf_ksyms.specs.Sources.{Source}
@@ -7,9 +7,7 @@ use Rattle.ebpf_object.proofs.Headline.{finished}
 use Rattle.ebpf_object.specs.LinkedPrograms.{programs_in_order}
 use Rattle.ebpf_object.specs.Objects.{object_as, parse_fault_as}
 use Rattle.ebpf_object.specs.Prepared.{IsStageFault, IsParsed, IsPrepared, Stages}
-use Rattle.ebpf_object.specs.StageFaults.{Wrapped}
-use Rattle.ebpf_object.specs.Stages.{LinksPrograms, LinkingFault}
-use Rattle.ebpf_object.specs.Steps.{Chosen}
+use Rattle.ebpf_object.specs.Stages.{Wrapped, LinksPrograms, LinkingFault, Chosen}
 use Rattle.ebpf_object.specs.declared.object.Object.{Object}
 use Rattle.ebpf_object.specs.declared.prepare_error.PrepareError.{PrepareError}
 use Rattle.ebpf_object.specs.declared.prepare_error.PrepareError.TheVariants.{Parse, Types, Maps, Ksyms, Externs, Calls, OutOfMemory}

@@ -1,24 +1,21 @@
 -- The reports of programs, from their maps and the linked object.
-use Rattle.std.proofs.Common.{◌≡◌, ◌⊎◌, inl, inr, ℕ, true, List, [], ◌∷◌, ◌++◌, map, All, refl, sym, ap, ◌∙◌, subst, Some, None, Option}
+use Rattle.std.proofs.Common.{◌≡◌, inl, inr, true, List, [], ◌∷◌, ◌++◌, map, refl, ap, ◌∙◌, subst, Some}
 use Rattle.std.proofs.lemmas.List.{append_assoc}
 use Rattle.std.proofs.lemmas.Bool.{or_left, or_right, MatchBool-at_true}
 use Rattle.std.specs.Cmp.{eq_by_cmp_equiv}
-use Rattle.std.specs.FinMap.{FinMap, get}
-use Rattle.std.specs.List.{list_any}
+use Rattle.std.specs.FinMap.{get}
 use Rattle.std.specs.Ordering.{eq_by_cmp}
 use Rattle.ebpf_base.specs.Keys.{key_cmp, key_total}
-use Rattle.ebpf_inspect.specs.Inspected.{link_map_of, IsReport, AreReports}
-use Rattle.ebpf_inspect.specs.Named.{IsNamedMap, AreMaps, OneRefused, function_slots, function_slots_at, report_of}
+use Rattle.ebpf_inspect.specs.Inspected.{IsReport, AreReports}
+use Rattle.ebpf_inspect.specs.Named.{IsNamedMap, AreMaps, OneRefused, function_slots, report_of}
 use Rattle.ebpf_inspect.specs.declared.maps.NamedMap.{NamedMap}
 use Rattle.ebpf_object.specs.Headline.{linkable}
-use Rattle.ebpf_object.specs.LinkedPrograms.{programs_in_order, is_program_key, ProgramsAreLinked}
+use Rattle.ebpf_object.specs.LinkedPrograms.{programs_in_order, is_program_key}
 use Rattle.ebpf_object.specs.Stages.{LinksPrograms}
 use Rattle.ebpf_object.specs.declared.object.Object.{Object}
-use Rattle.ebpf_reloc.proofs.OneLinkMap.{link_maps_match}
-use Rattle.ebpf_reloc.proofs.OneResult.{not_refused}
-use Rattle.ebpf_reloc.specs.LinkMaps.{IsLinkMapAt}
-use Rattle.ebpf_reloc.specs.Linking.{ProgramValue, key_of, IsLinked, IsProgramRefusal}
-use Rattle.ebpf_model.specs.Keys.{FunctionKey}
+use Rattle.ebpf_reloc.proofs.OneResult.{link_maps_match, not_refused}
+use Rattle.ebpf_reloc.specs.Linking.{ProgramValue, key_of, IsLinked}
+use Rattle.ebpf_model.specs.Symbols.{FunctionKey}
 use Rattle.ebpf_model.specs.declared.error.EbpfRelocationError.{EbpfRelocationError}
 use Rattle.ebpf_model.specs.declared.function.Function.{Function}
 

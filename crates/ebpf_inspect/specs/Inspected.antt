@@ -1,16 +1,15 @@
 -- What is told of a file's programs, once they are linked.
-use Rattle.std.specs.Prelude.{◌≡◌, ℕ, true, List, [], ◌∷◌, Option, Some}
+use Rattle.std.specs.Prelude.{◌≡◌, ℕ, true, List, [], ◌∷◌, Some}
 use Rattle.std.specs.FinMap.{get}
 use Rattle.ebpf_inspect.specs.declared.report.ProgramReport.{ProgramReport}
 use Rattle.ebpf_ksyms.specs.Sources.{Source}
 use Rattle.ebpf_object.specs.Headline.{Headline, linkable}
 use Rattle.ebpf_object.specs.LinkedPrograms.{programs_in_order}
 use Rattle.ebpf_object.specs.Prepared.{Stages}
-use Rattle.ebpf_object.specs.Steps.{Chosen}
+use Rattle.ebpf_object.specs.Stages.{Chosen}
 use Rattle.ebpf_object.specs.declared.object.Object.{Object}
-use Rattle.ebpf_reloc.specs.LinkMaps.{IsLinkMapAt}
-use Rattle.ebpf_reloc.specs.Linking.{ProgramValue, key_of, IsLinked}
-use Rattle.ebpf_reloc.specs.LinkMapLaws.{MatchesLinked}
+use Rattle.ebpf_reloc.specs.Linking.{IsLinkMapAt, ProgramValue, key_of, IsLinked}
+use Rattle.ebpf_reloc.specs.Laws.{MatchesLinked}
 use Rattle.ebpf_model.specs.declared.function.Function.{Function}
 use Rattle.ebpf_reloc.specs.declared.link_map.LinkMap.{LinkMap}
 use Rattle.ebpf_parts.specs.declared.reading.Reading.{Reading}

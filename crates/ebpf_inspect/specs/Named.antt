@@ -6,9 +6,8 @@ use Rattle.ebpf_inspect.specs.declared.report.ProgramReport.{ProgramReport}
 use Rattle.ebpf_object.specs.Headline.{linkable}
 use Rattle.ebpf_object.specs.declared.object.Object.{Object}
 use Rattle.ebpf_parts.specs.declared.insn.bpf_insn.{bpf_insn}
-use Rattle.ebpf_reloc.specs.LinkMaps.{IsLinkMapAt}
-use Rattle.ebpf_reloc.specs.Linking.{ProgramValue, key_of, IsProgramRefusal}
-use Rattle.ebpf_model.specs.Keys.{FunctionKey}
+use Rattle.ebpf_reloc.specs.Linking.{IsLinkMapAt, ProgramValue, key_of, IsProgramRefusal}
+use Rattle.ebpf_model.specs.Symbols.{FunctionKey}
 use Rattle.ebpf_model.specs.declared.error.EbpfRelocationError.{EbpfRelocationError}
 use Rattle.ebpf_model.specs.declared.function.Function.{Function}
 

@@ -5,9 +5,7 @@ ghost use Rattle.ebpf_inspect.specs.Inspected.{with_linking, AreReports, AreRepo
 ghost use Rattle.ebpf_inspect.specs.Named.{report_of, function_slots_at};
 ghost use Rattle.ebpf_object.specs.LinkedPrograms.{programs_in_order};
 ghost use Rattle.ebpf_object.specs.Prepared.{IsParsed, IsStageFault, IsFirstPrepareFault, RefusesPreparing};
-ghost use Rattle.ebpf_object.specs.StageFaults.{Wrapped};
-ghost use Rattle.ebpf_object.specs.Stages.{LinksPrograms, LinkingFault};
-ghost use Rattle.ebpf_object.specs.Steps.{chosen};
+ghost use Rattle.ebpf_object.specs.Stages.{Wrapped, LinksPrograms, LinkingFault, chosen};
 ghost use Rattle.ebpf_object.specs.declared.prepare_error.PrepareError.TheVariants.{Calls};
 ghost use Rattle.ebpf_parts.specs.declared.reading.Reading.{Reading};
 ghost use Rattle.ebpf_parts.specs.declared.reading.Reading.TheVariants.{Stated};

@@ -8,10 +8,10 @@ ghost use Rattle.ebpf_object.specs.Headline.{linkable};
 ghost use Rattle.ebpf_object.specs.LinkedPrograms.{programs_in_order};
 ghost use Rattle.ebpf_object.specs.PrivateContracts.{program_with};
 ghost use Rattle.ebpf_object.specs.Prepared.{RefusesPreparing};
-ghost use Rattle.ebpf_object.specs.StageFaults.{Wrapped};
-ghost use Rattle.ebpf_object.specs.TextSections.{has_function_in};
+ghost use Rattle.ebpf_object.specs.Stages.{Wrapped};
+ghost use Rattle.ebpf_object.specs.Names.{has_function_in};
 ghost use Rattle.ebpf_object.specs.declared.prepare_error.PrepareError.TheVariants.{Calls};
-ghost use Rattle.ebpf_model.specs.TextSections.{text_sections_in};
+ghost use Rattle.ebpf_model.specs.Symbols.{text_sections_in};
 ghost use Rattle.ebpf_reloc.specs.SlotTargets.{read};
 
 use ebpf_base::Text;

@@ -1,14 +1,12 @@
 //! What `ebpf inspect --json` prints.
 
-use crate::limits::{CHAIN, FUNCTIONS, MAPS, SLOTS};
-use crate::parts::ProgramParts;
+use crate::parts::{CHAIN, FUNCTIONS, MAPS, ProgramParts, SLOTS};
 use crate::text::reference_word;
 use ebpf_object::relocation::{CodeCopy, Reference};
-use ebpf_report::helper_names::helper_name;
-use ebpf_report::json::separate;
-use ebpf_report::names::Quoted;
+use ebpf_report::helper_calls::helper_name;
+use ebpf_report::names::{Quoted, separate};
 use ebpf_report::programs::ObjectProgram;
-use ebpf_report::type_names::program_type_name;
+use ebpf_report::types::program_type_name;
 use std::collections::BTreeSet;
 use std::io::{self, Write};
 

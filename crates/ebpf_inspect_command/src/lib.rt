@@ -2,10 +2,8 @@
 #![tactic(auto)]
 
 mod chain;
-mod edges;
 mod json;
 mod kernel_calls;
-mod limits;
 mod parts;
 mod run;
 mod text;

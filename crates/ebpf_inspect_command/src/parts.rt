@@ -1,7 +1,6 @@
 //! What a linked program is made of.
 
-use crate::chain::deepest_chain;
-use crate::edges::{Edge, edges_of};
+use crate::chain::{Edge, deepest_chain, edges_of};
 use crate::uses::{FunctionUses, ProgramUses};
 use ebpf_object::relocation::LinkMap;
 use ebpf_report::programs::ObjectProgram;
@@ -66,3 +65,15 @@ pub fn all_parts<'a>(
     }
     Ok(all)
 }
+
+/// Slots, where the loader isn't privileged or the kernel is older than 5.2 (BPF_MAXINSNS).
+pub const SLOTS: usize = 4096;
+
+/// Functions, the program's own among them (BPF_MAX_SUBPROGS).
+pub const FUNCTIONS: usize = 256;
+
+/// Functions that wait for one another, the program's own among them (MAX_CALL_FRAMES).
+pub const CHAIN: usize = 8;
+
+/// Maps (MAX_USED_MAPS).
+pub const MAPS: usize = 64;

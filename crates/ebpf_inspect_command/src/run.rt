@@ -9,7 +9,7 @@ use ebpf_object::Object;
 use ebpf_object::relocation::LinkMap;
 use ebpf_prepared::{MapSlots, PrepareWords, Prepared, prepare_file};
 use ebpf_report::programs::ObjectProgram;
-use ebpf_report::stop::Stop;
+use ebpf_report::refuse::Stop;
 use std::io::{BufWriter, Write};
 
 /// What is told of an object.

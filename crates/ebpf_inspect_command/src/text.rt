@@ -1,14 +1,13 @@
 //! What `ebpf inspect` prints for people.
 
-use crate::edges::Edge;
-use crate::limits::{CHAIN, FUNCTIONS, MAPS, SLOTS};
-use crate::parts::ProgramParts;
+use crate::chain::Edge;
+use crate::parts::{CHAIN, FUNCTIONS, MAPS, ProgramParts, SLOTS};
 use ebpf_object::Object;
 use ebpf_object::relocation::{CodeCopy, Reference};
 use ebpf_report::names::Shown;
-use ebpf_report::stop::Stop;
+use ebpf_report::refuse::Stop;
 use ebpf_report::table::{Column, Table};
-use ebpf_report::type_names::program_type_name;
+use ebpf_report::types::program_type_name;
 use std::alloc::{AllocError, Global};
 use std::collections::BTreeSet;
 use std::io::Write;

@@ -1,4 +1,2 @@
 pub mod ConfigLines
-pub mod DataSizes
 pub mod DefinedSymbols
-pub mod FinishedObjects

@@ -1,6 +1,5 @@
--- The externs that the kernel's configuration gives: the variables of the first DATASEC `.kconfig` (libbpf 1.5, libbpf.c:
--- bpf_object__collect_externs).
-use Rattle.std.specs.Prelude.{ℕ, Bool, false, ◌||◌, nat_eq, List, [], ◌∷◌, codes, Option, Some, None, unwrap_or, Result, Ok, Err, slice_get, if◌then◌else◌}
+-- The one answer that no definition states: want of memory.
+use Rattle.std.specs.Prelude.{Bool, true, false, ℕ, ◌||◌, nat_eq, List, [], ◌∷◌, codes, Option, Some, None, unwrap_or, Result, Ok, Err, slice_get, if◌then◌else◌}
 use Rattle.std.specs.FinMap.{FinMap, get, entries, empty}
 use Rattle.std.specs.List.{flat_map, starts_with}
 use Rattle.std.specs.Map.{keys_of}
@@ -19,10 +18,23 @@ use Rattle.ebpf_btf.specs.declared.types.BtfType.{BtfType}
 use Rattle.ebpf_btf.specs.declared.types.BtfType.TheVariants.{DataSec, Var}
 use Rattle.ebpf_kconfig.specs.KconfigTypes.{kconfig_type}
 use Rattle.ebpf_kconfig.specs.declared.error.KconfigError.{KconfigError}
-use Rattle.ebpf_kconfig.specs.declared.error.KconfigError.TheVariants.{NotAVariable, UnreadableName, UnknownName, UnsupportedType}
+use Rattle.ebpf_kconfig.specs.declared.error.KconfigError.TheVariants.{OutOfMemory, NotAVariable, UnreadableName, UnknownName, UnsupportedType}
 use Rattle.ebpf_kconfig.specs.declared.externs.KconfigExtern.{KconfigExtern}
 use Rattle.ebpf_kconfig.specs.declared.kconfig_type.KconfigType.{KconfigType}
+use Rattle.ebpf_kconfig.specs.declared.numbers.ValueFault.{ValueFault}
+use Rattle.ebpf_kconfig.specs.declared.numbers.ValueFault.TheVariants as faults
 use Rattle.ebpf_model.specs.declared.symbol.Symbol.{Symbol}
+
+abbrev pub is_kconfig_memory : KconfigError → Bool
+is_kconfig_memory OutOfMemory = true
+is_kconfig_memory _ = false
+
+abbrev pub is_value_memory : ValueFault → Bool
+is_value_memory faults.OutOfMemory = true
+is_value_memory _ = false
+
+-- The externs that the kernel's configuration gives: the variables of the first DATASEC `.kconfig` (libbpf 1.5, libbpf.c:
+-- bpf_object__collect_externs).
 
 -- ---- entries
 

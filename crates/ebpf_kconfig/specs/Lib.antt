@@ -1,8 +1,5 @@
 pub mod KconfigTypes
 pub mod KconfigExterns
-pub mod KconfigLaws
-pub mod KconfigLayout
 pub mod KconfigMaps
+pub mod KconfigLayout
 pub mod ConfiguredValues
-pub mod KconfigMemory
-pub mod PrivateContracts

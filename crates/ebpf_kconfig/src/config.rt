@@ -5,7 +5,7 @@ ghost use Rattle.std.specs.List.{position};
 ghost use Rattle.std.specs.Option.{option_copied};
 ghost use Rattle.ebpf_base.specs.Faults.{Gives, or_else};
 ghost use Rattle.ebpf_kconfig.specs.ConfiguredValues.{behind, configured_value, given_in_line, loader_value, setting, text_value, with_name};
-ghost use Rattle.ebpf_kconfig.specs.KconfigMemory.{is_kconfig_memory};
+ghost use Rattle.ebpf_kconfig.specs.KconfigExterns.{is_kconfig_memory};
 
 use crate::error::KconfigError;
 use crate::externs::KconfigExtern;

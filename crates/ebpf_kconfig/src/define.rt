@@ -3,9 +3,8 @@
 ghost use Rattle.std.specs.Prelude.{◌≡◌, IfOk, OnOk, OnErr, if◌then◌else◌};
 ghost use Rattle.std.specs.FinMap as finite;
 ghost use Rattle.ebpf_base.specs.Faults.{Refuses};
-ghost use Rattle.ebpf_kconfig.specs.KconfigExterns.{kconfig_externs, kconfig_externs_fault, kconfig_section};
+ghost use Rattle.ebpf_kconfig.specs.KconfigExterns.{kconfig_externs, kconfig_externs_fault, kconfig_section, is_kconfig_memory};
 ghost use Rattle.ebpf_kconfig.specs.KconfigMaps.{kconfig_fault, symbols_defined, with_kconfig_map};
-ghost use Rattle.ebpf_kconfig.specs.KconfigMemory.{is_kconfig_memory};
 
 use crate::error::KconfigError;
 use crate::externs::{KconfigExtern, kconfig_externs};

@@ -4,8 +4,7 @@ ghost use Rattle.std.specs.Prelude.{◌≡◌, ◌++◌, IfOk, Ok, Err, unwrap_o
 ghost use Rattle.std.specs.FinMap as finite;
 ghost use Rattle.std.specs.List.{starts_with};
 ghost use Rattle.ebpf_base.specs.Faults.{Refuses, Gives, fault_of};
-ghost use Rattle.ebpf_kconfig.specs.KconfigExterns.{extern_at, extern_name, externs_fault_in, externs_in, externs_or_none, is_kconfig_name, kconfig_externs, kconfig_externs_fault, kconfig_variable, name_or_fault, typed_or_fault};
-ghost use Rattle.ebpf_kconfig.specs.KconfigMemory.{is_kconfig_memory};
+ghost use Rattle.ebpf_kconfig.specs.KconfigExterns.{extern_at, extern_name, externs_fault_in, externs_in, externs_or_none, is_kconfig_name, kconfig_externs, kconfig_externs_fault, kconfig_variable, name_or_fault, typed_or_fault, is_kconfig_memory};
 
 use crate::error::KconfigError;
 use crate::kconfig_type::{KconfigType, kconfig_type};

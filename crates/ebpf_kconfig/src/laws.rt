@@ -1,8 +1,9 @@
 //! What holds of the map of externs, and of objects with values set.
 
-ghost use Rattle.ebpf_kconfig.specs.KconfigLaws.{DataIsValueSized, PreparedIsFinished};
+ghost use Rattle.ebpf_kconfig.specs.KconfigMaps.{DataIsValueSized, PreparedIsFinished};
 
 /// The data of the map `.kconfig` is as long as its value, where no value is at fault.
+#[tactic(auto, using(crate::proofs::DefinedSymbols::data_sized))]
 pub fn data_is_value_sized()
     ensures { DataIsValueSized }
 {}

@@ -8,7 +8,7 @@ ghost use Rattle.ebpf_base.specs.Faults.{fault_of};
 ghost use Rattle.ebpf_base.specs.Keyed.{put_all};
 ghost use Rattle.ebpf_base.specs.Keys.{lent_bytes};
 ghost use Rattle.ebpf_kconfig.specs.KconfigLayout.{extern_end, extern_groups, extern_offset, extern_offsets, group_externs, layout_end, layout_key, size_fault_from};
-ghost use Rattle.ebpf_kconfig.specs.PrivateContracts.{lent_externs, with_extern_in};
+ghost use Rattle.ebpf_kconfig.specs.KconfigMaps.{lent_externs, with_extern_in};
 
 use crate::error::KconfigError;
 use crate::externs::KconfigExtern;

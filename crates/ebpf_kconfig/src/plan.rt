@@ -5,9 +5,8 @@ ghost use Rattle.std.specs.FinMap as finite;
 ghost use Rattle.ebpf_base.specs.Faults.{Refuses};
 ghost use Rattle.ebpf_base.specs.Keyed.{put_all};
 ghost use Rattle.ebpf_kconfig.specs.KconfigLayout.{bytes_from, extern_offsets, kconfig_offsets, laid_out, layout_end, size_fault_from, values_fault};
-ghost use Rattle.ebpf_kconfig.specs.KconfigMaps.{externs_map, kconfig_map};
-ghost use Rattle.ebpf_kconfig.specs.KconfigMemory.{is_kconfig_memory};
-ghost use Rattle.ebpf_kconfig.specs.PrivateContracts.{lent_externs};
+ghost use Rattle.ebpf_kconfig.specs.KconfigMaps.{externs_map, kconfig_map, lent_externs};
+ghost use Rattle.ebpf_kconfig.specs.KconfigExterns.{is_kconfig_memory};
 
 use crate::error::KconfigError;
 use crate::externs::KconfigExtern;

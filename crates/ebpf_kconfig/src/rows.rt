@@ -4,8 +4,7 @@ ghost use Rattle.std.specs.Prelude.{◌≡◌, [], slice_get, IfOk, IfErr, true}
 ghost use Rattle.std.specs.Option.{option_map_or};
 ghost use Rattle.ebpf_btf.specs.Strings.{id_of_name};
 ghost use Rattle.ebpf_btf.specs.declared.kind.BtfKind.TheVariants as kinds;
-ghost use Rattle.ebpf_kconfig.specs.KconfigExterns.{kconfig_entries, kconfig_section, section_rows};
-ghost use Rattle.ebpf_kconfig.specs.KconfigMemory.{is_kconfig_memory};
+ghost use Rattle.ebpf_kconfig.specs.KconfigExterns.{kconfig_entries, kconfig_section, section_rows, is_kconfig_memory};
 
 use crate::error::KconfigError;
 use ebpf_btf::{Btf, BtfError, BtfKind, BtfType, DataSecEntry, Rows};

@@ -3,7 +3,7 @@
 ghost use Rattle.std.specs.Prelude.{◌≡◌, ◌∷◌, [], IfOk};
 ghost use Rattle.ebpf_base.specs.Faults.{Gives};
 ghost use Rattle.ebpf_kconfig.specs.ConfiguredValues.{cut_string, integer_value, is_letter, is_quoted, letter_value, loader_value, ranged_value, string_value, text_value, tristate_number};
-ghost use Rattle.ebpf_kconfig.specs.KconfigMemory.{is_value_memory};
+ghost use Rattle.ebpf_kconfig.specs.KconfigExterns.{is_value_memory};
 
 use crate::kconfig_type::KconfigType;
 use crate::numbers::{ValueFault, is_in_range, number_bytes, text_number};

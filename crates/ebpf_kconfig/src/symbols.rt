@@ -7,8 +7,7 @@ ghost use Rattle.std.specs.Map.{keys_of};
 ghost use Rattle.ebpf_base.specs.Keyed.{put_all};
 ghost use Rattle.ebpf_base.specs.Mapped.{map_values};
 ghost use Rattle.ebpf_kconfig.specs.KconfigExterns.{weak_entry_at, weak_symbols};
-ghost use Rattle.ebpf_kconfig.specs.KconfigMaps.{defined_symbol};
-ghost use Rattle.ebpf_kconfig.specs.PrivateContracts.{with_defined};
+ghost use Rattle.ebpf_kconfig.specs.KconfigMaps.{defined_symbol, with_defined};
 ghost use Rattle.std.specs.Option.{option_and_then};
 
 use ebpf_base::{ByIndex, ByName};

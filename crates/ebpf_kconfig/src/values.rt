@@ -3,8 +3,8 @@
 ghost use Rattle.std.specs.Prelude.{◌≡◌, ◌<◌, ◌++◌, IfOk, None, OnOk, replicate, length};
 ghost use Rattle.ebpf_base.specs.Faults.{Refuses, first_some};
 ghost use Rattle.ebpf_kconfig.specs.KconfigLayout.{bytes_from, given_fault, size_fault_from, value_fault, value_or_zeros};
-ghost use Rattle.ebpf_kconfig.specs.KconfigMemory.{is_kconfig_memory};
-ghost use Rattle.ebpf_kconfig.specs.PrivateContracts.{lent_externs};
+ghost use Rattle.ebpf_kconfig.specs.KconfigExterns.{is_kconfig_memory};
+ghost use Rattle.ebpf_kconfig.specs.KconfigMaps.{lent_externs};
 
 use crate::error::KconfigError;
 use crate::externs::KconfigExtern;

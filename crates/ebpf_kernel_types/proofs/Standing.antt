@@ -15,7 +15,7 @@ use Rattle.ebpf_btf.proofs.KindRows.{kinds_by_number}
 use Rattle.ebpf_btf.proofs.Lengths.{length_here}
 use Rattle.ebpf_btf.proofs.SameWords.{spelled_same}
 use Rattle.ebpf_kernel_types.specs.KernelTypeList.{changed_at, named_param}
-use Rattle.ebpf_kernel_types.specs.TypePlaces.{type_end, type_starts}
+use Rattle.ebpf_kernel_types.specs.TypeSources.{type_end, type_starts}
 
 -- ---- types by their lengths
 

@@ -10,8 +10,7 @@ use Rattle.ebpf_btf.specs.declared.members.DataSecEntry.{DataSecEntry}
 use Rattle.ebpf_btf.specs.declared.types.BtfType.{BtfType}
 use Rattle.ebpf_btf.specs.declared.types.BtfType.TheVariants.{DataSec, Func, FuncProto, Var}
 use Rattle.ebpf_kernel_types.specs.DataSections.{placed_rows}
-use Rattle.ebpf_kernel_types.specs.KernelTypeLaws.{OtherTypesStay, StandinsAreLast, TypesKeepIds}
-use Rattle.ebpf_kernel_types.specs.KernelTypeList.{TypeChange, changed_at, changed_by, changes_of, data_changes, extern_changes, externs_changes, global_changes, kconfig_changes, kernel_type_info, ksyms_changes, may_change, section_changes, standin_types, standins_of, static_changes, types_changes, with_change, with_changes, with_entries, with_linkage, with_named_params, with_type_and_linkage}
+use Rattle.ebpf_kernel_types.specs.KernelTypeList.{OtherTypesStay, StandinsAreLast, TypesKeepIds, TypeChange, changed_at, changed_by, changes_of, data_changes, extern_changes, externs_changes, global_changes, kconfig_changes, kernel_type_info, ksyms_changes, may_change, section_changes, standin_types, standins_of, static_changes, types_changes, with_change, with_changes, with_entries, with_linkage, with_named_params, with_type_and_linkage}
 use Rattle.ebpf_kernel_types.specs.TypeSources.{TypeSources}
 use Rattle.ebpf_kernel_types.specs.declared.appended.Standins.{Standins}
 use Rattle.ebpf_kernel_types.specs.declared.data_sections.PlacedRow.{PlacedRow}

@@ -1,22 +1,107 @@
--- DATASECs of the kernel's symbols (libbpf 1.5, libbpf.c: bpf_object__collect_externs). The kernel takes variables alone
--- there, of a type that has a size; so each entry is 4 bytes behind the one before it.
-use Rattle.std.specs.Prelude.{ℕ, ◌+◌, ◌*◌, nat_lt, not, ◌&&◌, ◌==◌, List, [], ◌∷◌, ◌++◌, length, Option, Some, None, Result, Ok, Err, slice_get, if◌then◌else◌}
-use Rattle.std.specs.List.{flat_map}
+-- The INT and the VAR that stand in for what `.ksyms` names, since the kernel takes variables alone in a DATASEC. They are
+-- appended, so that ids and offsets stay. libbpf 1.5 appends the VAR alone (libbpf.c: add_dummy_ksym_var): where it finds no
+-- INT of 4 bytes (find_int_btf_id), its variables have the type void, which the kernel refuses.
+use Rattle.std.specs.Prelude.{ℕ, ◌+◌, nat_lt, Bool, false, true, not, ◌&&◌, ◌||◌, ◌==◌, List, [], ◌∷◌, ◌++◌, length, codes, Option, Some, None, Result, Ok, Err, slice_get, if◌then◌else◌, ◌*◌}
+use Rattle.std.specs.List.{flat_map, list_any, position_from}
 use Rattle.ebpf_base.specs.Faults.{first_some, fault_of}
 use Rattle.ebpf_base.specs.Results.{if_ok}
+use Rattle.ebpf_base.specs.declared.endianness.Endianness.{Endianness}
+use Rattle.ebpf_btf.specs.Strings.{is_text, text_at}
 use Rattle.ebpf_btf.specs.TypeInfo.{TypeInfo}
+use Rattle.ebpf_btf.specs.Words.{word_bytes}
 use Rattle.ebpf_btf.specs.declared.members.BtfParam.{BtfParam}
 use Rattle.ebpf_btf.specs.declared.members.DataSecEntry.{DataSecEntry}
 use Rattle.ebpf_btf.specs.declared.types.BtfType.{BtfType}
-use Rattle.ebpf_btf.specs.declared.types.BtfType.TheVariants.{Func, FuncProto, Var}
-use Rattle.ebpf_kernel_types.specs.SectionRows.{section_words}
-use Rattle.ebpf_kernel_types.specs.Standins.{is_func}
-use Rattle.ebpf_kernel_types.specs.TypePlaces.{start_of}
-use Rattle.ebpf_kernel_types.specs.TypeSources.{TypeSources, list_or_none, place_in, if_no_fault}
+use Rattle.ebpf_btf.specs.declared.types.BtfType.TheVariants.{Int, Func, DataSec, FuncProto, Var}
+use Rattle.ebpf_kernel_types.specs.DataSections.{section_words}
+use Rattle.ebpf_kernel_types.specs.TypeSources.{start_of, TypeSources, list_or_none, place_in, if_no_fault}
 use Rattle.ebpf_kernel_types.specs.declared.appended.Standins.{Standins}
 use Rattle.ebpf_kernel_types.specs.declared.error.KernelTypesError.{KernelTypesError}
-use Rattle.ebpf_kernel_types.specs.declared.error.KernelTypesError.TheVariants.{NotAVariable, TooLarge}
+use Rattle.ebpf_kernel_types.specs.declared.error.KernelTypesError.TheVariants.{TooLarge, NotAVariable}
 use Rattle.ebpf_kernel_types.specs.declared.words.WrittenWord.{WrittenWord}
+
+unfoldable pub is_int_of_4 : BtfType → Bool
+is_int_of_4 (Int _ size _) = size == 4
+is_int_of_4 _ = false
+
+-- the id of the first INT of 4 bytes
+abbrev pub first_int : TypeInfo → Option ℕ
+first_int types = position_from is_int_of_4 0 types.types
+
+-- ---- what `.ksyms` names
+
+abbrev pub is_func_type : Option BtfType → Bool
+is_func_type (Some (Func _ _)) = true
+is_func_type _ = false
+
+-- whether the type with an id is a FUNC
+unfoldable pub is_func : TypeInfo → ℕ → Bool
+is_func types id = is_func_type (slice_get types.types id)
+
+abbrev pub names_func : TypeInfo → List DataSecEntry → Bool
+names_func types rows = list_any (λ row. is_func types row.btf_type) rows
+
+abbrev pub is_ksyms : TypeInfo → ℕ → Bool
+is_ksyms types name = is_text (codes ".ksyms") (text_at types.strings name)
+
+-- whether a type is a DATASEC `.ksyms` with entries
+unfoldable pub takes_variables : TypeInfo → BtfType → Bool
+takes_variables types (DataSec name size rows) = is_ksyms types name && not (length rows == 0)
+takes_variables types _ = false
+
+-- whether it has a FUNC among its entries
+unfoldable pub takes_functions : TypeInfo → BtfType → Bool
+takes_functions types (DataSec name size rows) = is_ksyms types name && names_func types rows
+takes_functions types _ = false
+
+-- ---- what is appended
+
+abbrev pub standins_with : TypeInfo → Option ℕ → Standins
+standins_with types (Some id) = record {
+  int_id = id;
+  adds_int = false;
+  variable_id = length types.types;
+  name_offset = length types.strings;
+  adds_variable = list_any (takes_functions types) types.types;
+}
+standins_with types None = record {
+  int_id = length types.types;
+  adds_int = list_any (takes_variables types) types.types;
+  variable_id = length types.types + 1;
+  name_offset = length types.strings + 4;
+  adds_variable = list_any (takes_functions types) types.types;
+}
+
+-- the first INT of 4 bytes, or else `int`; a variable where `.ksyms` names a FUNC
+abbrev pub standins_or_fault : TypeInfo → Result Standins KernelTypesError
+standins_or_fault types =
+    if nat_lt 0xfffffff0 (length types.types) || nat_lt 0xffffff00 (length types.strings)
+    then Err TooLarge
+    else Ok (standins_with types (first_int types))
+
+-- `int`, signed, of 32 bits: its name, its kind, its size, its encoding
+abbrev pub int_words : ℕ → Bool → List ℕ
+int_words name adds = if adds then name ∷ 0x01000000 ∷ 4 ∷ 0x01000020 ∷ [] else []
+
+-- the variable: its name, its kind, its type, global linkage
+abbrev pub variable_words : Standins → List ℕ
+variable_words s = if s.adds_variable then s.name_offset ∷ 0x0e000000 ∷ s.int_id ∷ 1 ∷ [] else []
+
+abbrev pub standin_bytes : Endianness → ℕ → Standins → List ℕ
+standin_bytes order int_name s = flat_map (word_bytes order) (int_words int_name s.adds_int) ++ flat_map (word_bytes order) (variable_words s)
+
+-- the strings, and the names of what is appended, each with its zero byte
+abbrev pub int_name_bytes : Bool → List ℕ
+int_name_bytes adds = if adds then codes "int\0" else []
+
+abbrev pub variable_name_bytes : Bool → List ℕ
+variable_name_bytes adds = if adds then codes "ksym_func_placeholder\0" else []
+
+abbrev pub all_strings : TypeInfo → Standins → List ℕ
+all_strings types s = types.strings ++ (int_name_bytes s.adds_int ++ variable_name_bytes s.adds_variable)
+
+-- DATASECs of the kernel's symbols (libbpf 1.5, libbpf.c: bpf_object__collect_externs). The kernel takes variables alone
+-- there, of a type that has a size; so each entry is 4 bytes behind the one before it.
 
 -- ---- functions
 

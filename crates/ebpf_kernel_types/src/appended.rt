@@ -1,10 +1,10 @@
 //! What stands in for the kernel's functions and variables.
 
-ghost use Rattle.std.specs.Prelude.{◌≡◌, ◌++◌, ◌==◌, ◌≤◌, ◌<◌, ◌^◌, IfOk, OnOk, length};
+ghost use Rattle.std.specs.Prelude.{◌≡◌, ◌++◌, ◌==◌, ◌<◌, ◌^◌, IfOk, OnOk, length};
 ghost use Rattle.std.specs.List.{list_any};
 ghost use Rattle.std.specs.List.{flat_map};
 ghost use Rattle.ebpf_btf.specs.Words.{word_bytes};
-ghost use Rattle.ebpf_kernel_types.specs.Standins.{all_strings, first_int, int_words, is_func, is_int_of_4, names_func, standin_bytes, standins_or_fault, takes_functions, takes_variables, variable_words};
+ghost use Rattle.ebpf_kernel_types.specs.KsymsSections.{all_strings, first_int, int_words, is_func, is_int_of_4, names_func, standin_bytes, standins_or_fault, takes_functions, takes_variables, variable_words};
 
 use crate::error::KernelTypesError;
 use ebpf_base::Endianness;
@@ -28,7 +28,7 @@ pub struct Standins {
 }
 
 /// Whether a type is an INT of 4 bytes.
-#[tactic(auto, unfolding(crate::specs::Standins::is_int_of_4))]
+#[tactic(auto, unfolding(crate::specs::KsymsSections::is_int_of_4))]
 fn is_int_of_4(ty: &BtfType<'_>) -> bool
     ensures { result ≡ is_int_of_4 ty.now }
 {
@@ -51,7 +51,7 @@ fn first_int(types: &Btf) -> Option<u32>
 }
 
 /// Whether the type with an id is a FUNC.
-#[tactic(auto, unfolding(crate::specs::Standins::is_func))]
+#[tactic(auto, unfolding(crate::specs::KsymsSections::is_func))]
 pub fn is_func(types: &Btf, type_id: u32) -> bool
     ensures { result ≡ is_func types.now type_id }
 {
@@ -74,7 +74,7 @@ fn names_func(types: &Btf, rows: &Rows<'_, DataSecEntry>) -> bool
 }
 
 /// Whether a type is a DATASEC `.ksyms` with entries.
-#[tactic(auto, unfolding(crate::specs::Standins::takes_variables))]
+#[tactic(auto, unfolding(crate::specs::KsymsSections::takes_variables))]
 fn takes_variables(types: &Btf, ty: &BtfType<'_>) -> bool
     ensures { result ≡ takes_variables types.now ty.now }
 {
@@ -89,7 +89,7 @@ fn takes_variables(types: &Btf, ty: &BtfType<'_>) -> bool
 }
 
 /// Whether a type is a DATASEC `.ksyms` that names a FUNC.
-#[tactic(auto, unfolding(crate::specs::Standins::takes_functions))]
+#[tactic(auto, unfolding(crate::specs::KsymsSections::takes_functions))]
 fn takes_functions(types: &Btf, ty: &BtfType<'_>) -> bool
     ensures { result ≡ takes_functions types.now ty.now }
 {

@@ -1,12 +1,11 @@
 //! The bytes that the kernel takes.
 
-ghost use Rattle.std.specs.Prelude.{◌≡◌, ◌<◌, ◌≤◌, ◌^◌, ◌++◌, ◌∷◌, length, option_map, IfOk, Ok};
+ghost use Rattle.std.specs.Prelude.{◌≡◌, ◌<◌, ◌^◌, length, option_map, IfOk, Ok};
 ghost use Rattle.std.specs.Option.{option_copied};
 ghost use Rattle.ebpf_base.specs.Faults.{Gives, Refuses, fault_of};
 ghost use Rattle.ebpf_btf.specs.Header.{first_word, header_bytes};
-ghost use Rattle.ebpf_kernel_types.specs.KernelTypes.{all_types, assembled, btf_section, no_file_fault, kernel_types_of, part_of, types_read, sources_of, types_of_bytes, types_of_found, types_of_section, types_of_sources, written_types};
-ghost use Rattle.ebpf_kernel_types.specs.KernelTypesMemory.{is_kernel_types_memory};
-ghost use Rattle.ebpf_kernel_types.specs.PrivateContracts.{given_of};
+ghost use Rattle.ebpf_kernel_types.specs.KernelTypes.{all_types, assembled, btf_section, no_file_fault, kernel_types_of, part_of, types_read, sources_of, types_of_bytes, types_of_found, types_of_section, types_of_sources, written_types, is_kernel_types_memory};
+ghost use Rattle.ebpf_kernel_types.specs.TypeSources.{given_of};
 
 use crate::appended::{Standins, all_strings, append_types, append_words, standins_for};
 use crate::error::KernelTypesError;

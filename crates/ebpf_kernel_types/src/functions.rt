@@ -1,9 +1,9 @@
 //! Functions that are hidden.
 
-ghost use Rattle.std.specs.Prelude.{◌≡◌, ◌<◌, ◌≤◌, ◌^◌, ◌++◌, ◌==◌, IfOk, length};
+ghost use Rattle.std.specs.Prelude.{◌≡◌, ◌<◌, ◌==◌, IfOk};
 ghost use Rattle.ebpf_elf.specs.Symbols.{symbols};
-ghost use Rattle.ebpf_kernel_types.specs.HiddenFunctions.{hidden_func, function_word, hidden_words, hidden_words_in, is_function_of, is_global, is_hidden_function, text_index};
-ghost use Rattle.ebpf_kernel_types.specs.PrivateContracts.{given_of};
+ghost use Rattle.ebpf_kernel_types.specs.FunctionLinkages.{hidden_func, function_word, hidden_words, hidden_words_in, is_function_of, is_global, is_hidden_function, text_index};
+ghost use Rattle.ebpf_kernel_types.specs.TypeSources.{given_of};
 
 use crate::places::start_of;
 use crate::sections::{Sources, place_in};
@@ -19,7 +19,7 @@ use std::alloc::{AllocError, Global};
 const STATIC_FUNC: u32 = 0x0c00_0000;
 
 /// Whether the FUNC with an id is of global linkage, which its info word has in place of a count.
-#[tactic(auto, unfolding(crate::specs::HiddenFunctions::is_global))]
+#[tactic(auto, unfolding(crate::specs::FunctionLinkages::is_global))]
 fn is_global(sources: &Sources<'_>, type_id: u32) -> bool
     ensures { result ≡ is_global (given_of sources.now) type_id }
 {
@@ -31,7 +31,7 @@ fn is_global(sources: &Sources<'_>, type_id: u32) -> bool
 }
 
 /// Whether a type with an id is a global FUNC that has the name of a symbol.
-#[tactic(auto, unfolding(crate::specs::HiddenFunctions::is_function_of))]
+#[tactic(auto, unfolding(crate::specs::FunctionLinkages::is_function_of))]
 fn is_function_of(
     sources: &Sources<'_>,
     symbol: &ElfSymbol<'_>,

@@ -1,10 +1,10 @@
 //! The DATASEC of the kernel's symbols.
 
-ghost use Rattle.std.specs.Prelude.{◌≡◌, ◌+◌, ◌*◌, ◌<◌, ◌≤◌, ◌^◌, ◌++◌, length, IfOk};
+ghost use Rattle.std.specs.Prelude.{◌≡◌, ◌+◌, ◌*◌, ◌<◌, ◌^◌, length, IfOk};
 ghost use Rattle.ebpf_base.specs.Faults.{Gives, Refuses};
-ghost use Rattle.ebpf_kernel_types.specs.KernelTypesMemory.{is_kernel_types_memory};
+ghost use Rattle.ebpf_kernel_types.specs.KernelTypes.{is_kernel_types_memory};
 ghost use Rattle.ebpf_kernel_types.specs.KsymsSections.{extern_function_words, extern_variable_words, extern_words, ksyms_fault, externs_words, ksyms_rows, ksyms_words, own_ksyms_words, params_or_fault, params_words, proto_words, standing_type};
-ghost use Rattle.ebpf_kernel_types.specs.PrivateContracts.{given_of};
+ghost use Rattle.ebpf_kernel_types.specs.TypeSources.{given_of};
 
 use crate::appended::{Standins, is_func};
 use crate::error::KernelTypesError;

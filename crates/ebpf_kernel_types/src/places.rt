@@ -2,8 +2,7 @@
 
 ghost use Rattle.std.specs.Prelude.{◌≡◌, ◌*◌, ◌<◌, ◌≤◌, ◌^◌, length, IfOk};
 ghost use Rattle.ebpf_btf.specs.Format.{further_words, info_vlen};
-ghost use Rattle.ebpf_btf.specs.Types.{kind_of};
-ghost use Rattle.ebpf_kernel_types.specs.TypePlaces.{type_end, type_starts, start_of};
+ghost use Rattle.ebpf_kernel_types.specs.TypeSources.{type_end, type_starts, start_of};
 
 use ebpf_base::numbers::read_u32;
 use ebpf_base::{Endianness, Items};
@@ -37,7 +36,7 @@ fn info_vlen(info: u32) -> u32
 }
 
 /// Where a type of a kind that begins at an offset ends: there where it has no bytes, or passes the end.
-#[tactic(auto, unfolding(crate::specs::TypePlaces::type_end))]
+#[tactic(auto, unfolding(crate::specs::TypeSources::type_end))]
 fn type_end(order: Endianness, part: &[u8], offset: u32, kind: BtfKind) -> u32
     requires small { length part.now < 2 ^ 32 }
     ensures end { result ≡ type_end order part.now offset kind }

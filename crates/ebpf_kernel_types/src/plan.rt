@@ -1,10 +1,9 @@
 //! The words that are written.
 
-ghost use Rattle.std.specs.Prelude.{◌≡◌, ◌<◌, ◌≤◌, ◌+◌, ◌^◌, ◌++◌, length, IfOk};
+ghost use Rattle.std.specs.Prelude.{◌≡◌, ◌<◌, ◌+◌, ◌^◌, length, IfOk};
 ghost use Rattle.ebpf_base.specs.Faults.{Gives, Refuses};
-ghost use Rattle.ebpf_kernel_types.specs.KernelTypesMemory.{is_kernel_types_memory};
-ghost use Rattle.ebpf_kernel_types.specs.PrivateContracts.{given_of};
-ghost use Rattle.ebpf_kernel_types.specs.WordsOfTypes.{all_words, few_rows_words, section_type_words, type_words_fault, types_words};
+ghost use Rattle.ebpf_kernel_types.specs.KernelTypes.{is_kernel_types_memory, all_words, few_rows_words, section_type_words, type_words_fault, types_words};
+ghost use Rattle.ebpf_kernel_types.specs.TypeSources.{given_of};
 
 use crate::appended::Standins;
 use crate::data_sections::data_words;
@@ -45,7 +44,7 @@ fn few_rows_words(
 }
 
 /// The words of a type, where it is a DATASEC.
-#[tactic(auto, unfolding(crate::specs::WordsOfTypes::section_type_words))]
+#[tactic(auto, unfolding(crate::specs::KernelTypes::section_type_words))]
 fn section_type_words(
     alloc: Global,
     sources: &Sources<'_>,

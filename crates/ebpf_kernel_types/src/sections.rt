@@ -4,10 +4,9 @@ ghost use Rattle.std.specs.Prelude.{◌≡◌, ◌≤◌, ◌<◌, ◌^◌};
 ghost use Rattle.std.specs.List.{find};
 ghost use Rattle.std.specs.Option.{option_copied};
 ghost use Rattle.ebpf_elf.specs.Sections.{section_name, sections};
-ghost use Rattle.ebpf_kernel_types.specs.DataSections.{file_section, file_size, full_size, linked_variable};
+ghost use Rattle.ebpf_kernel_types.specs.DataSections.{file_size, full_size, linked_variable};
 ghost use Rattle.ebpf_kernel_types.specs.KernelSymbols.{is_btf_name, variable_symbol};
-ghost use Rattle.ebpf_kernel_types.specs.PrivateContracts.{given_of};
-ghost use Rattle.ebpf_kernel_types.specs.TypeSources.{place_in};
+ghost use Rattle.ebpf_kernel_types.specs.TypeSources.{given_of, place_in};
 
 use crate::error::KernelTypesError;
 use crate::places::start_of;

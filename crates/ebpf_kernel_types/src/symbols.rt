@@ -1,8 +1,8 @@
 //! Symbols by binding, type and visibility.
 
-ghost use Rattle.std.specs.Prelude.{◌≡◌, ◌<◌, ◌==◌, ◌&&◌, nat_eq};
+ghost use Rattle.std.specs.Prelude.{◌≡◌, ◌<◌, ◌==◌, ◌&&◌};
 ghost use Rattle.std.specs.List.{find};
-ghost use Rattle.ebpf_elf.specs.Sections.{header, sections};
+ghost use Rattle.ebpf_elf.specs.Sections.{sections};
 ghost use Rattle.ebpf_elf.specs.Symbols.{symbols};
 ghost use Rattle.ebpf_kernel_types.specs.KernelSymbols.{symbol_byte, entry_bytes, is_bound, is_hidden, is_object_symbol, is_function_symbol, has_btf_name, is_variable_symbol, variable_symbol, symbol_table_bytes, is_symbol_table};
 

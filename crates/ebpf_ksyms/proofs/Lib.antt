@@ -1,12 +1,7 @@
 pub mod Cuts
-pub mod Cutting
-pub mod Flavors
-pub mod FromText
-pub mod Identities
-pub mod Listed
-pub mod Numbers
 pub mod Outcomes
+pub mod FromText
+pub mod Listed
 pub mod Pieces
 pub mod Reading
 pub mod Resolving
-pub mod Values

@@ -1,22 +1,31 @@
--- The entries of a map by their names, and the map of some entries.
-use Rattle.std.proofs.Common.{◌≡◌, ℕ, Bool, true, false, cond, ◌&&◌, T, List, [], ◌∷◌, ◌++◌, map, Option, Some, None, refl, ap, sym, subst, ◌∙◌}
+-- The entries of a map by their names, the map of some entries, and values by name after a change.
+use Rattle.std.proofs.Common.{◌≡◌, ℕ, Bool, true, false, cond, ◌&&◌, T, List, [], ◌∷◌, ◌++◌, map, Option, Some, None, refl, ap, sym, subst, ◌∙◌, ◌+◌, ◌<◌, ◌≤◌, zero, suc, ◌||◌, length, arith, drop, get_or, add-one, drop-cons}
 use Rattle.std.specs.declared.cmp.Ordering.TheVariants.{Less}
 use Rattle.std.specs.Cmp.{eq_by_cmp_equiv}
-use Rattle.std.specs.FinMap.{FinMap, empty, entries, entries_sorted, find, from_sorted, get, get-empty, get-entries, get-from_sorted, is_sorted, same_map}
+use Rattle.std.specs.FinMap.{empty, entries, entries_sorted, find, from_sorted, get, get-empty, get-entries, get-from_sorted, is_sorted, same_map}
 use Rattle.std.specs.FinMap.Entries.{below_all}
 use Rattle.std.specs.List.{AllByRecursion, flat_map}
 use Rattle.std.specs.List.Sorted.{IsStrictlySortedBy}
 use Rattle.std.specs.Map.{keys_of}
-use Rattle.std.specs.Ordering.{eq_by_cmp, is_eq, is_lt}
-use Rattle.ebpf_base.specs.Keyed.{last_at, put_all}
-use Rattle.ebpf_base.specs.Keys.{text_cmp, text_total}
+use Rattle.std.specs.Ordering.{eq_by_cmp, is_eq, is_lt, nat_cmp}
+use Rattle.std.specs.Prelude.{IsSome, if◌then◌else◌, option_map}
+use Rattle.std.specs.BTreeMap.{BTreeMap}
+use Rattle.std.specs.Cmp.Lexicographic.{slice_cmp}
+use Rattle.std.specs.Str.{bytes_eq}
+use Rattle.std.proofs.lemmas.Map.Text.{btree_map_updates_str}
+use Rattle.std.proofs.lemmas.Slice.Eq.{bytes_eq-Decides}
+use Rattle.std.specs.BTreeMap as tree
+use denote.Ref.{Bor}
 use Rattle.ebpf_base.proofs.Keyed.{later_text_stands}
+use Rattle.ebpf_base.proofs.Orderings.{is_equal}
 use Rattle.ebpf_base.proofs.Sorted.{entries_rise}
 use Rattle.ebpf_base.proofs.TextMaps.{text_exact}
-use Rattle.ebpf_base.proofs.Orderings.{is_equal}
-use Rattle.ebpf_model.specs.declared.extern_desc.ExternDesc.{ExternDesc}
-use Rattle.ebpf_ksyms.specs.Entries.{entry_named, externs_from}
+use Rattle.ebpf_base.specs.Keyed.{last_at}
+use Rattle.ebpf_base.specs.Keys.{text_cmp, text_total, lent_bytes}
+use Rattle.ebpf_ksyms.specs.Addresses.{is_one_of}
 use Rattle.ebpf_ksyms.specs.Externs.{NamedExtern, Externs, renew, renewed}
+use Rattle.ebpf_ksyms.specs.PrivateContracts.{entry_named, externs_from}
+use Rattle.ebpf_model.specs.declared.extern_desc.ExternDesc.{ExternDesc}
 
 -- a name below another is not equal to it
 apart : (a b : List ℕ) → text_cmp a b ≡ Less → eq_by_cmp text_cmp b a ≡ false
@@ -117,3 +126,51 @@ renewed-renewed g f (e ∷ es) = ap (λ fs. (e.0, g (e.0, f e)) ∷ fs) (renewed
 pub renewed-same : (f g : NamedExtern → ExternDesc) (es : List NamedExtern) → AllByRecursion (λ e. f e ≡ g e) es → renewed f es ≡ renewed g es
 renewed-same f g [] h = refl
 renewed-same f g (e ∷ es) h = λ i. (e.0, h.0 i) ∷ renewed-same f g es h.1 i
+
+-- ---- values by name after a change
+
+module _ {V : Type 0} where
+  -- a value put where one is, and none put where none is
+  pub put_there : (b : Bool) (v : V) (o : Option V) → (b ≡ true → IsSome o) → cond b (Some v) o ≡ cond b (option_map (λ _. v) o) o
+  put_there true v None h = let e : IsSome {T = V} None = h refl in cc
+  put_there true v (Some w) h = refl
+  put_there false v o h = refl
+
+  pub not_there : (b : Bool) (v : V) (o : Option V) → (b ≡ true → o ≡ None) → o ≡ cond b (option_map (λ _. v) o) o
+  not_there true v None h = refl
+  not_there true v (Some w) h = let e : Some w ≡ None = h refl in cc
+  not_there false v o h = refl
+
+  pub put-more : (a b : Bool) (x o : Option V) → cond a x (cond b x o) ≡ cond (b || a) x o
+  put-more true true x o = refl
+  put-more true false x o = refl
+  put-more false true x o = refl
+  put-more false false x o = refl
+
+-- equal by their bytes
+pub same_bytes : (a b : List ℕ) → bytes_eq a b ≡ true → a ≡ b
+same_bytes a b e = (bytes_eq-Decides a b).0 e
+
+module _ {V : Type 0} (names : List (Bor (List ℕ))) (i : ℕ) (d : Bor (List ℕ)) (value : V) (old new : BTreeMap (Bor (List ℕ)) V) where
+  -- one more of some names is put
+  pub named-step : i < length names → tree.UpdatesBy (λ x y. slice_cmp nat_cmp x.now y.now) (λ k. slice_cmp nat_cmp (get_or names i d).now k.now) old new (Some value) → (q : List ℕ) →
+      (if is_one_of (lent_bytes (drop (i + 1) names)) q then Some value else tree.get_by (λ k. text_cmp q k.now) new)
+      ≡ (if is_one_of (lent_bytes (drop i names)) q then Some value else tree.get_by (λ k. text_cmp q k.now) old)
+  named-step inside updates q =
+      let name : Bor (List ℕ) = get_or names i d in
+      let a : Bool = is_one_of (lent_bytes (drop (i + 1) names)) q in
+      ap (λ o. cond a (Some value) o) (btree_map_updates_str name.now old new (Some value) updates q)
+      ∙ put-more a (bytes_eq name.now q) (Some value) (tree.get_by (λ k. text_cmp q k.now) old)
+      ∙ ap (λ ns. cond (is_one_of (lent_bytes ns) q) (Some value) (tree.get_by (λ k. text_cmp q k.now) old)) (sym (drop-cons names i d inside ∙ ap (λ n. name ∷ drop n names) (sym (add-one i))))
+
+none_left : (xs : List (Bor (List ℕ))) (n : ℕ) → length xs ≤ n → drop n xs ≡ []
+none_left [] zero h = refl
+none_left [] (suc n) h = refl
+none_left (x ∷ xs) zero h = absurd (omega arith)
+none_left (x ∷ xs) (suc n) h = none_left xs n (omega arith)
+
+module _ {V : Type 0} (names : List (Bor (List ℕ))) (i : ℕ) (value : V) (known : BTreeMap (Bor (List ℕ)) V) where
+  -- no name is left
+  pub named-end : length names ≤ i → (q : List ℕ) →
+      tree.get_by (λ k. text_cmp q k.now) known ≡ (if is_one_of (lent_bytes (drop i names)) q then Some value else tree.get_by (λ k. text_cmp q k.now) known)
+  named-end over q = ap (λ ns. cond (is_one_of (lent_bytes ns) q) (Some value) (tree.get_by (λ k. text_cmp q k.now) known)) (sym (none_left names i over))

@@ -1,27 +1,150 @@
--- Ids of the kernel by a table of the names that are looked up, in place of a search for each.
-use Rattle.std.proofs.Common.{◌≡◌, ℕ, Bool, true, false, cond, ◌||◌, List, [], ◌∷◌, Option, Some, None, Result, Ok, Err, refl, ap, sym, ◌∙◌}
-use Rattle.std.specs.Prelude.{MatchOption, ⊤, option_map}
-use Rattle.std.specs.List.{AllByRecursion, cons_option, filter_map}
+-- What the kernel has for names that are looked up: without flavors, the lowest ids, by a table.
+use Rattle.std.proofs.Common.{◌≡◌, ℕ, ◌<◌, ◌≤◌, ◌+◌, suc, zero, Bool, true, false, cond, List, [], ◌∷◌, ◌++◌, length, Option, Some, None, refl, ap, sym, ◌∙◌, arith, take, drop, eqb, ◌&&◌, ◌||◌, Result, Ok, Err}
+use Rattle.std.specs.Prelude.{find, nat_eq, unwrap_or, option_map, MatchOption, ⊤}
+use Rattle.std.specs.List.{range_with_len, starts_with, position_from, AllByRecursion, cons_option, filter_map}
+use Rattle.std.specs.Str.Pattern.{FindsText, LacksTextAt}
+use Rattle.std.proofs.lemmas.Slice.Eq.{starts_is, bytes_eq-Decides}
+use Rattle.std.proofs.lemmas.Bool.Decides.{Decides-eqb}
 use Rattle.std.specs.Option.{option_and_then}
 use Rattle.std.specs.Result.{result_ok}
 use Rattle.std.specs.Str.{bytes_eq}
-use Rattle.std.proofs.lemmas.Slice.Eq.{bytes_eq-Decides}
 use Rattle.std.proofs.lemmas.Bool.{or_right}
-use Rattle.ebpf_base.specs.Faults.{fault_of, first_some, or_else}
+use Rattle.ebpf_base.specs.Faults.{or_else, fault_of, first_some}
+use Rattle.ebpf_btf.specs.EssentialNames.{essential_name, flavor_mark}
 use Rattle.ebpf_btf.specs.Steps.{type_at}
+use Rattle.ebpf_btf.specs.Strings.{is_named, is_text, type_name}
 use Rattle.ebpf_btf.specs.TypeInfo.{TypeInfo}
+use Rattle.ebpf_btf.specs.Types.{is_kind, kind_number, kind_of, name_off}
 use Rattle.ebpf_btf.specs.declared.error.BtfError.{BtfError}
+use Rattle.ebpf_btf.specs.declared.kind.BtfKind.{BtfKind}
+use Rattle.ebpf_btf.specs.declared.kind.BtfKind.TheVariants as kinds
 use Rattle.ebpf_btf.specs.declared.types.BtfType.{BtfType}
+use Rattle.ebpf_btf.specs.declared.types.BtfType.TheVariants.{Func, Var}
+use Rattle.ebpf_ksyms.specs.Addresses.{is_one_of}
+use Rattle.ebpf_ksyms.specs.Externs.{NamedExtern, kernel_ids_of, is_typed, outcome_by, renewed, with_outcome}
+use Rattle.ebpf_ksyms.specs.KernelOutcomes.{at_found, at_lookup_key, at_type, kernel_ids_in, lookup_key_of, LookupKeyValue}
+use Rattle.ebpf_ksyms.specs.PrivateContracts.{finished, sort_of, with_sort, with_type_ids, sort_of_kind, with_head_ids, id_at, id_of, ids_in, only_at, lookup_name, lookup_names, typed_as, typed_refused}
 use Rattle.ebpf_ksyms.specs.declared.ids.Ids.{Ids}
 use Rattle.ebpf_ksyms.specs.declared.lookup_key.Sort.{Sort}
 use Rattle.ebpf_ksyms.specs.declared.lookup_key.Sort.TheVariants.{Function, Variable}
-use Rattle.ebpf_ksyms.specs.Externs.{NamedExtern, kernel_ids_of, is_typed, outcome_by, renewed, with_outcome}
-use Rattle.ebpf_ksyms.specs.Ids.{id_at, id_of, ids_in}
-use Rattle.ebpf_ksyms.specs.Named.{is_one_of}
-use Rattle.ebpf_ksyms.specs.PrivateContracts.{only_at}
-use Rattle.ebpf_ksyms.specs.KernelOutcomes.{at_found, at_lookup_key, at_type, kernel_ids_in, lookup_key_of}
-use Rattle.ebpf_ksyms.specs.LookupKeyValue.{LookupKeyValue}
-use Rattle.ebpf_ksyms.specs.Typed.{lookup_name, lookup_names, typed_as, typed_refused}
+
+-- ---- the name before the first three underscores, by where a search finds them
+
+-- the first number of a range that passes
+find-none : (p : ℕ → Bool) (a n : ℕ) → ((k : ℕ) → a ≤ k → k < a + n → p k ≡ false) → find p (range_with_len a n) ≡ None
+find-none p a zero h = refl
+find-none p a (suc n) h =
+    let no : p a ≡ false = h a (omega arith) (omega arith) in
+    rw no (find-none p (a + 1) n (λ k low high. h k (omega arith) (omega arith)))
+
+find-first : (p : ℕ → Bool) (a n i : ℕ) → a ≤ i → i < a + n → ((k : ℕ) → a ≤ k → k < i → p k ≡ false) → p i ≡ true → find p (range_with_len a n) ≡ Some i
+find-first p a zero i low high before here = absurd (omega arith)
+find-first p a (suc n) i low high before here =
+    elim (eqb a i) as (λ b. eqb a i ≡ b → find p (range_with_len a (suc n)) ≡ Some i) [
+      | true ↦ λ e. let same : a ≡ i = grind (arith) in let yes : p a ≡ true = ap p same ∙ here in rw yes (ap Some same)
+      | false ↦ λ e. let more : a < i = grind (arith) in let no : p a ≡ false = before a (omega arith) more in rw no (find-first p (a + 1) n i (omega arith) (omega arith) (λ k l h. before k (omega arith) h) here)
+    ] refl
+
+is_marked : List ℕ → ℕ → Bool
+is_marked name k = starts_with nat_eq (drop k name) flavor_mark
+
+-- three underscores stand where the search says so, and nowhere else
+lacks_mark : (name : List ℕ) (k : ℕ) → LacksTextAt flavor_mark name k → is_marked name k ≡ false
+unfolding is_marked
+lacks_mark name k lacks =
+    let is = starts_is Decides-eqb (drop k name) flavor_mark (starts_with nat_eq (drop k name) flavor_mark) refl in
+    elim (starts_with nat_eq (drop k name) flavor_mark) as (λ b. (b ≡ true → drop k name ≡ flavor_mark ++ drop 3 (drop k name)) → b ≡ false) [
+      | true ↦ λ h. absurd (lacks _ (h refl))
+      | false ↦ λ h. refl
+    ] is.0
+
+has_mark : (name rest : List ℕ) (k : ℕ) → drop k name ≡ flavor_mark ++ rest → is_marked name k ≡ true
+unfolding is_marked
+has_mark name rest k h = (starts_is Decides-eqb (drop k name) flavor_mark (starts_with nat_eq (drop k name) flavor_mark) refl).1 rest h
+
+pub no_flavor : (name : List ℕ) → FindsText flavor_mark name None → essential_name name ≡ take (length name) name
+unfolding essential_name is_marked
+no_flavor name none = ap (λ o. take (unwrap_or o (length name)) name) (find-none (is_marked name) 0 (length name) (λ k low high. lacks_mark name k (none k (omega arith))))
+
+pub with_flavor : (name : List ℕ) (i j : ℕ) → i < length name → FindsText flavor_mark name (Some (i, j)) → essential_name name ≡ take i name
+unfolding essential_name is_marked
+with_flavor name i j inside found =
+    ap (λ o. take (unwrap_or o (length name)) name) (find-first (is_marked name) 0 (length name) i (omega arith) (omega arith)
+    (λ k low high. lacks_mark name k (found.0 k high)) (has_mark name (drop j name) i found.1.split))
+
+pub take_all : (name : List ℕ) → take (length name) name ≡ name
+take_all [] = refl
+take_all (b ∷ name) = ap (λ rest. b ∷ rest) (take_all name)
+
+-- ---- the lowest ids of a name, type by type
+
+is_function : Option Sort → Bool
+is_function (Some Function) = true
+is_function _ = false
+
+is_variable : Option Sort → Bool
+is_variable (Some Variable) = true
+is_variable _ = false
+
+kind_Func : (t : BtfType) → is_kind kinds.Func t ≡ is_function (sort_of t)
+unfolding kind_of kind_number sort_of is_function
+kind_Func (Func _ _) = refl
+kind_Func (Var _ _ _) = refl
+kind_Func _ = refl
+
+kind_Var : (t : BtfType) → is_kind kinds.Var t ≡ is_variable (sort_of t)
+unfolding kind_of kind_number sort_of is_variable
+kind_Var (Func _ _) = refl
+kind_Var (Var _ _ _) = refl
+kind_Var _ = refl
+
+-- one id, then those after it
+chosen : (b : Bool) (o : Option ℕ) (id : ℕ) (rest : Option ℕ) → or_else o (cond b (Some id) rest) ≡ or_else (cond b (or_else o (Some id)) o) rest
+chosen true None id rest = refl
+chosen true (Some x) id rest = refl
+chosen false o id rest = refl
+
+one_more : (s : Option Sort) (b : Bool) (ids : Ids) (id : ℕ) (fs vs : Option ℕ) → ◌≡◌ {A = Ids}
+    (record { function = or_else ids.function (cond (is_function s && b) (Some id) fs); variable = or_else ids.variable (cond (is_variable s && b) (Some id) vs) })
+    (record { function = or_else (cond b (with_sort ids id s) ids).function fs; variable = or_else (cond b (with_sort ids id s) ids).variable vs })
+unfolding is_function is_variable
+one_more None b ids id fs vs = elim b as (λ b. ◌≡◌ {A = Ids} (record { function = or_else ids.function fs; variable = or_else ids.variable vs }) (record { function = or_else (cond b ids ids).function fs; variable = or_else (cond b ids ids).variable vs })) [ true ↦ refl | false ↦ refl ]
+one_more (Some Function) true ids id fs vs = λ i. record { function = chosen true ids.function id fs i; variable = or_else ids.variable vs }
+one_more (Some Function) false ids id fs vs = refl
+one_more (Some Variable) true ids id fs vs = λ i. record { function = or_else ids.function fs; variable = chosen true ids.variable id vs i }
+one_more (Some Variable) false ids id fs vs = refl
+
+-- one type, then those after it
+pub finished-cons : (kernel : TypeInfo) (name : List ℕ) (id : ℕ) (t : BtfType) (types : List BtfType) (ids : Ids) → finished kernel name id (t ∷ types) ids ≡ finished kernel name (id + 1) types (with_type_ids kernel name id t ids)
+finished-cons kernel name id t types ids =
+    rw (kind_Func t, kind_Var t) (
+    one_more (sort_of t) (is_text name (type_name kernel t)) ids id (position_from (is_named kernel name kinds.Func) (id + 1) types) (position_from (is_named kernel name kinds.Var) (id + 1) types))
+
+option-step : {A B C : Type 0} (f : B → C) (g : A → B) (h : A → C) (o : Option A) → ((x : A) → h x ≡ f (g x)) → option_map h o ≡ option_map f (option_map g o)
+option-step f g h None e = refl
+option-step f g h (Some x) e = ap Some (e x)
+
+-- a pass with one more type
+pub more-types : (kernel : TypeInfo) (name : List ℕ) (id : ℕ) (t : BtfType) (types : List BtfType) (before after : Option Ids) → after ≡ option_map (with_type_ids kernel name id t) before → option_map (finished kernel name id (t ∷ types)) before ≡ option_map (finished kernel name (id + 1) types) after
+more-types kernel name id t types before after e =
+    option-step (finished kernel name (id + 1) types) (with_type_ids kernel name id t) (finished kernel name id (t ∷ types)) before (finished-cons kernel name id t types)
+    ∙ ap (option_map (finished kernel name (id + 1) types)) (sym e)
+
+-- a type by its kind and the offset of its name
+sort_by_kind : (t : BtfType) → sort_of t ≡ sort_of_kind (kind_of t)
+unfolding sort_of kind_of sort_of_kind
+sort_by_kind (Func _ _) = refl
+sort_by_kind (Var _ _ _) = refl
+sort_by_kind _ = refl
+
+pub by_head : (kernel : TypeInfo) (name : List ℕ) (id : ℕ) (t : BtfType) (kind : BtfKind) (offset : ℕ) (before : Option Ids) → kind_of t ≡ kind → name_off t ≡ offset
+    → option_map (with_head_ids kernel name id kind offset) before ≡ option_map (with_type_ids kernel name id t) before
+by_head kernel name id t kind offset before of_kind named =
+    ap (λ k. option_map (with_head_ids kernel name id k offset) before) (sym of_kind)
+    ∙ ap (λ n. option_map (with_head_ids kernel name id (kind_of t) n) before) (sym named)
+    ∙ ap (λ sort. option_map (λ ids. cond (is_text name (type_name kernel t)) (with_sort ids id sort) ids) before) (sym (sort_by_kind t))
+
+-- ---- ids of the kernel by a table of the names that are looked up, in place of a search for each
 
 -- a name, where there is one, is among others
 IsListed : List (List ℕ) → Option (List ℕ) → Type 0

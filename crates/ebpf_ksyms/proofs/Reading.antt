@@ -11,11 +11,8 @@ use Rattle.ebpf_base.specs.Faults.{first_some, or_else}
 use Rattle.ebpf_base.specs.Keys.{lent_bytes}
 use Rattle.ebpf_base.proofs.Faults.{first_some-push, or_else-None}
 use Rattle.ebpf_ksyms.specs.declared.error.KsymsError.{KsymsError}
-use Rattle.ebpf_ksyms.specs.Addresses.{Item, Line, address_of, addresses, address_in_line, line_fault, line_of_item, lines_fault, named_address_fault, address_if_named, stated_fault, with_before}
-use Rattle.ebpf_ksyms.specs.Lines.{address_and_name, stated_address}
-use Rattle.ebpf_ksyms.specs.Named.{is_one_of}
-use Rattle.ebpf_ksyms.specs.PrivateContracts.{only_at}
-use Rattle.ebpf_ksyms.specs.AddressesByLine.{AreRead, KnownAddresses, with_read_line, read_line_fault, named_line_fault}
+use Rattle.ebpf_ksyms.specs.Addresses.{Item, Line, address_of, addresses, address_in_line, line_fault, line_of_item, lines_fault, named_address_fault, address_if_named, stated_fault, with_before, address_and_name, stated_address, is_one_of}
+use Rattle.ebpf_ksyms.specs.PrivateContracts.{only_at, AreRead, KnownAddresses, with_read_line, read_line_fault, named_line_fault}
 
 -- ---- one more line at the end
 

@@ -10,15 +10,10 @@ use Rattle.ebpf_base.specs.Faults.{first_some, or_else}
 use Rattle.ebpf_btf.specs.TypeInfo.{TypeInfo}
 use Rattle.ebpf_model.specs.declared.extern_desc.ExternDesc.{ExternDesc}
 use Rattle.ebpf_ksyms.specs.declared.error.KsymsError.{KsymsError}
-use Rattle.ebpf_ksyms.specs.Addresses.{Item, Line, address_of, line_of_item}
-use Rattle.ebpf_ksyms.specs.Entries.{externs_from}
+use Rattle.ebpf_ksyms.specs.Addresses.{Item, Line, address_of, line_of_item, is_one_of}
+use Rattle.ebpf_ksyms.specs.PrivateContracts.{externs_from, only_at, AreRead, KnownAddresses, StopsAt, flattened, known_at, typeless_as, typeless_refused, typed_as, typed_refused}
 use Rattle.ebpf_ksyms.specs.Externs.{NamedExtern, Externs, IsResolutionFault, IsResolved, kernel_ids_of, is_typed, is_typeless, left_without, name_refused, names_read, names_refused, outcome, renewed, resolved_externs, resolved_as, types_refused, wanted_names, with_address, with_outcome}
-use Rattle.ebpf_ksyms.specs.Named.{is_one_of}
-use Rattle.ebpf_ksyms.specs.PrivateContracts.{only_at}
-use Rattle.ebpf_ksyms.specs.AddressesByLine.{AreRead, KnownAddresses, StopsAt}
-use Rattle.ebpf_ksyms.specs.TypelessExterns.{flattened, known_at, typeless_as, typeless_refused}
 use Rattle.ebpf_ksyms.specs.KernelOutcomes.{Outcome}
-use Rattle.ebpf_ksyms.specs.Typed.{typed_as, typed_refused}
 use Rattle.ebpf_ksyms.proofs.Listed.{externs_from-entries, externs_from-renewed, renewed-renewed, renewed-same}
 use Rattle.ebpf_ksyms.proofs.Reading.{lines_fault-none}
 

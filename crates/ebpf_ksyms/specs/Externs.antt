@@ -10,9 +10,7 @@ use Rattle.ebpf_btf.specs.TypeInfo.{TypeInfo}
 use Rattle.ebpf_model.specs.declared.extern_desc.ExternDesc.{ExternDesc}
 use Rattle.ebpf_ksyms.specs.declared.error.KsymsError.{KsymsError}
 use Rattle.ebpf_ksyms.specs.declared.error.KsymsError.TheVariants.{TypedKsymRequiresKernelBtf, VariableNotFound}
-use Rattle.ebpf_ksyms.specs.Addresses.{Item, Line, line_of_item, lines_fault, address_of}
-use Rattle.ebpf_ksyms.specs.Counted.{Counts}
-use Rattle.ebpf_ksyms.specs.Named.{is_one_of}
+use Rattle.ebpf_ksyms.specs.Addresses.{Item, Line, line_of_item, lines_fault, address_of, Counts, is_one_of}
 use Rattle.ebpf_ksyms.specs.KernelOutcomes.{KernelIds, Outcome, at_type, kernel_ids_in, unless_weak}
 
 abbrev pub Externs : Type 0

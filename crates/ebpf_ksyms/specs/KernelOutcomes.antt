@@ -1,9 +1,7 @@
--- What the kernel has for an extern with a type.
-use Rattle.std.specs.Prelude.{ℕ, Bool, true, false, List, Option, Some, None, Result, Ok, Err, if◌then◌else◌, unwrap_or}
-use Rattle.ebpf_base.specs.Faults.{fault_of}
-use Rattle.ebpf_candidates.specs.Compatibility.{types_compatible}
-use Rattle.ebpf_btf.specs.EssentialNames.{essential_name}
+-- What an extern with a type is looked up by, and what the kernel has for it.
+use Rattle.std.specs.Prelude.{ℕ, List, Bool, true, false, Option, Some, None, Result, Ok, Err, unwrap_or}
 use Rattle.ebpf_base.specs.Results.{if_ok}
+use Rattle.ebpf_btf.specs.EssentialNames.{essential_name}
 use Rattle.ebpf_btf.specs.Steps.{resolved, type_at}
 use Rattle.ebpf_btf.specs.Strings.{id_of_name}
 use Rattle.ebpf_btf.specs.TypeInfo.{TypeInfo}
@@ -13,12 +11,20 @@ use Rattle.ebpf_btf.specs.declared.kind.BtfKind.{BtfKind}
 use Rattle.ebpf_btf.specs.declared.kind.BtfKind.TheVariants as kinds
 use Rattle.ebpf_btf.specs.declared.types.BtfType.{BtfType}
 use Rattle.ebpf_btf.specs.declared.types.BtfType.TheVariants.{Func, Var}
+use Rattle.ebpf_core_candidates.specs.Compatibility.{types_compatible}
+use Rattle.ebpf_ksyms.specs.Faults.{of_type_fault}
 use Rattle.ebpf_ksyms.specs.declared.error.KsymsError.{KsymsError}
-use Rattle.ebpf_ksyms.specs.declared.error.KsymsError.TheVariants.{FunctionNotFound, IncompatibleFunctionSignature, IncompatibleVariableType, InvalidExternType, TypedKsymRequiresKernelBtf, VariableNotFound}
+use Rattle.ebpf_ksyms.specs.declared.error.KsymsError.TheVariants.{FunctionNotFound, IncompatibleFunctionSignature, IncompatibleVariableType, InvalidExternType, VariableNotFound}
 use Rattle.ebpf_ksyms.specs.declared.lookup_key.Sort.{Sort}
 use Rattle.ebpf_ksyms.specs.declared.lookup_key.Sort.TheVariants.{Function, Variable}
-use Rattle.ebpf_ksyms.specs.Faults.{of_type_fault}
-use Rattle.ebpf_ksyms.specs.LookupKeyValue.{LookupKeyValue}
+
+-- whether a function or a variable is looked up, its name, and the type id of the local one
+pub record LookupKeyValue : Type 0 where
+  pub sort : Sort
+  pub name : List ℕ
+  pub type_id : ℕ
+
+-- ---- what the kernel has for an extern with a type
 
 -- ---- what is looked up
 

@@ -1,17 +1,83 @@
--- What contracts of private functions name and no public one.
-use Rattle.std.specs.Prelude.{ℕ, List, Option, Some, None, if◌then◌else◌}
+-- What contracts of private functions name and no public one: entries, ids and addresses in tables.
+use Rattle.std.specs.Prelude.{ℕ, List, [], ◌∷◌, Option, Some, None, if◌then◌else◌, ◌≡◌, true, ◌++◌, length, map, nat_lt, Ok, Err, option_map}
+use Rattle.std.specs.FinMap.{empty}
+use Rattle.std.specs.List.{position_from, filter_map}
+use Rattle.std.specs.Option.{option_and_then}
 use Rattle.std.specs.BTreeMap.{get_by}
+use Rattle.std.specs.Iterator.{Yields}
+use Rattle.std.specs.Result.{result_ok}
+use Rattle.ebpf_base.specs.Faults.{or_else, fault_of}
+use Rattle.ebpf_base.specs.Keyed.{put_all}
 use Rattle.ebpf_base.specs.Keys.{text_cmp}
-use Rattle.ebpf_btf.specs.Strings.{is_text, text_at}
+use Rattle.ebpf_btf.specs.Steps.{type_at}
+use Rattle.ebpf_btf.specs.Strings.{is_named, is_text, id_of_name, type_name, text_at}
 use Rattle.ebpf_btf.specs.TypeInfo.{TypeInfo}
 use Rattle.ebpf_btf.specs.declared.kind.BtfKind.{BtfKind}
 use Rattle.ebpf_btf.specs.declared.kind.BtfKind.TheVariants as kinds
-use Rattle.ebpf_ksyms.specs.Ids.{with_sort}
+use Rattle.ebpf_btf.specs.declared.types.BtfType.{BtfType}
+use Rattle.ebpf_btf.specs.declared.types.BtfType.TheVariants.{Func, Var}
+use Rattle.ebpf_ksyms.specs.Addresses.{is_one_of, Item, Line, address_of, line_of_item, lines_fault, address_if_named, stated_fault, Counts, address_and_name, stated_address}
+use Rattle.ebpf_ksyms.specs.Externs.{NamedExtern, Externs, is_typeless, left_without, with_address, is_typed, outcome_by, with_outcome}
+use Rattle.ebpf_ksyms.specs.KernelOutcomes.{KernelIds, lookup_key_of}
+use Rattle.ebpf_ksyms.specs.declared.error.KsymsError.{KsymsError}
 use Rattle.ebpf_ksyms.specs.declared.ids.Ids.{Ids}
 use Rattle.ebpf_ksyms.specs.declared.lookup_key.Sort.{Sort}
 use Rattle.ebpf_ksyms.specs.declared.lookup_key.Sort.TheVariants.{Function, Variable}
 use Rattle.ebpf_ksyms.specs.declared.named.Named.{Named}
-use Rattle.ebpf_ksyms.specs.Named.{is_one_of}
+use Rattle.ebpf_model.specs.declared.extern_desc.ExternDesc.{ExternDesc}
+
+-- ---- externs as a list and as a map
+
+-- the entry of a name, where it has an extern
+abbrev pub entry_named : List ℕ → Option ExternDesc → List NamedExtern
+entry_named name None = []
+entry_named name (Some d) = (name, d) ∷ []
+
+-- the map of some entries
+abbrev pub externs_from : List NamedExtern → Externs
+externs_from es = put_all empty es
+
+-- ---- the ids of a kernel's functions and variables, by name
+
+-- the lowest ids of a FUNC and of a VAR with a name
+abbrev pub ids_in : TypeInfo → List ℕ → Ids
+ids_in kernel name = record { function = id_of_name kernel name kinds.Func; variable = id_of_name kernel name kinds.Var }
+
+-- the one of a sort
+abbrev pub id_of : Sort → Ids → Option ℕ
+id_of Function ids = ids.function
+id_of Variable ids = ids.variable
+
+abbrev pub id_at : (List ℕ → Option Ids) → Sort → List ℕ → Option ℕ
+id_at known sort name = option_and_then (id_of sort) (known name)
+
+-- whether a type is a function or a variable
+unfoldable pub sort_of : BtfType → Option Sort
+sort_of (Func _ _) = Some Function
+sort_of (Var _ _ _) = Some Variable
+sort_of _ = None
+
+-- with one more id, which does not count where a lower one is there
+abbrev pub with_lower_id : Ids → Sort → ℕ → Ids
+with_lower_id ids Function id = record ids { function = or_else ids.function (Some id) }
+with_lower_id ids Variable id = record ids { variable = or_else ids.variable (Some id) }
+
+abbrev pub with_sort : Ids → ℕ → Option Sort → Ids
+with_sort ids id None = ids
+with_sort ids id (Some sort) = with_lower_id ids sort id
+
+-- the ids of a name, with one more type
+abbrev pub with_type_ids : TypeInfo → List ℕ → ℕ → BtfType → Ids → Ids
+with_type_ids kernel name id t ids = if is_text name (type_name kernel t) then with_sort ids id (sort_of t) else ids
+
+-- the ids of a name, with types that have ids from a number on
+abbrev pub finished : TypeInfo → List ℕ → ℕ → List BtfType → Ids → Ids
+finished kernel name id types ids = record {
+  function = or_else ids.function (position_from (is_named kernel name kinds.Func) id types);
+  variable = or_else ids.variable (position_from (is_named kernel name kinds.Var) id types);
+}
+
+-- ---- what contracts of private functions name and no public one
 
 -- the value at a name
 unfoldable pub value_named : {V : Type 0} → Named V → List ℕ → Option V
@@ -30,3 +96,85 @@ sort_of_kind _ = None
 -- the ids of a name, with one more type, of a kind and with its name at an offset
 abbrev pub with_head_ids : TypeInfo → List ℕ → ℕ → BtfKind → ℕ → Ids → Ids
 with_head_ids kernel name id kind offset ids = if is_text name (text_at kernel.strings offset) then with_sort ids id (sort_of_kind kind) else ids
+
+-- ---- the addresses of names, line by line, and where reading stops
+
+-- the address of each name that is wanted, as far as lines gave it
+abbrev pub KnownAddresses : Type 0
+KnownAddresses = List ℕ → Option (Option ℕ)
+
+-- what is known after a line
+abbrev pub with_line : KnownAddresses → List ℕ → KnownAddresses
+with_line known line name = option_map (λ before. or_else before (address_if_named name (address_and_name line))) (known name)
+
+abbrev pub with_read_line : KnownAddresses → Line → KnownAddresses
+with_read_line known (Ok line) = with_line known line
+with_read_line known (Err e) = known
+
+-- the fault of a line by what is known
+abbrev pub known_fault : List ℕ → List ℕ → Option (Option ℕ) → Option KsymsError
+known_fault name word None = None
+known_fault name word (Some before) = stated_fault name before word (stated_address word)
+
+abbrev pub named_line_fault : KnownAddresses → Option (List ℕ × List ℕ) → Option KsymsError
+named_line_fault known None = None
+named_line_fault known (Some pair) = known_fault pair.1 pair.0 (known pair.1)
+
+abbrev pub text_line_fault : KnownAddresses → List ℕ → Option KsymsError
+text_line_fault known line = named_line_fault known (address_and_name line)
+
+abbrev pub read_line_fault : KnownAddresses → Line → Option KsymsError
+read_line_fault known (Ok line) = text_line_fault known line
+read_line_fault known (Err e) = Some e
+
+module _ {S : Type 0} (steps : S → Option Item → S → Type 0) (lines : S) (names : List (List ℕ)) where
+  -- all items that count were read, none was refused, and each name has its address
+  pub record AreRead (known : KnownAddresses) : Type 0 where
+    pub items : List Item
+    pub counted : Counts steps lines (nat_lt 0 (length names)) items
+    pub read : lines_fault (is_one_of names) (map line_of_item items) ≡ None
+    pub addresses : (q : List ℕ) → known q ≡ only_at names (λ name. address_of name (map line_of_item items)) q
+
+  -- the last item that was read is refused, and none before it; there are names to read for
+  pub record StopsAt (e : KsymsError) : Type 0 where
+    pub items : List Item
+    pub item : Item
+    pub rest : S
+    pub wanted : nat_lt 0 (length names) ≡ true
+    pub came : Yields steps lines (items ++ item ∷ []) rest
+    pub before : lines_fault (is_one_of names) (map line_of_item items) ≡ None
+    pub refused : lines_fault (is_one_of names) (map line_of_item (items ++ item ∷ [])) ≡ Some e
+
+-- ---- externs without a type, where addresses are given by a table
+
+abbrev pub flattened : Option (Option ℕ) → Option ℕ
+flattened None = None
+flattened (Some o) = o
+
+-- the address of a name, where there is one
+abbrev pub known_at : KnownAddresses → List ℕ → Option ℕ
+known_at known name = flattened (known name)
+
+-- what stands at an extern, and why it is refused
+abbrev pub typeless_as : (List ℕ → Option ℕ) → NamedExtern → ExternDesc
+typeless_as address e = if is_typeless e.1 then with_address e.1 (address e.0) else e.1
+
+abbrev pub typeless_refused : (List ℕ → Option ℕ) → NamedExtern → Option KsymsError
+typeless_refused address e = if is_typeless e.1 then left_without (address e.0) e else None
+
+-- ---- externs with a type, where ids of the kernel are given by a table
+
+-- the name that an extern is looked up by
+abbrev pub lookup_name : TypeInfo → NamedExtern → Option (List ℕ)
+lookup_name local e =
+    if is_typed e.1 then option_map (λ s. s.name) (option_and_then (lookup_key_of e.0) (result_ok (type_at local.types e.1.btf_id))) else None
+
+abbrev pub lookup_names : TypeInfo → List NamedExtern → List (List ℕ)
+lookup_names local es = filter_map (lookup_name local) es
+
+-- what stands at an extern, and why it is refused
+abbrev pub typed_as : KernelIds → TypeInfo → Option TypeInfo → NamedExtern → ExternDesc
+typed_as kernel_ids local kernel e = if is_typed e.1 then with_outcome e.1 (outcome_by kernel_ids local kernel e) else e.1
+
+abbrev pub typed_refused : KernelIds → TypeInfo → Option TypeInfo → NamedExtern → Option KsymsError
+typed_refused kernel_ids local kernel e = if is_typed e.1 then fault_of (outcome_by kernel_ids local kernel e) else None

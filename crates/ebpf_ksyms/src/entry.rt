@@ -4,7 +4,7 @@ ghost use Rattle.std.specs.Prelude.{◌≡◌, IfOk};
 ghost use Rattle.std.specs.FinMap.{entries, get};
 ghost use Rattle.std.specs.List.{flat_map};
 ghost use Rattle.ebpf_base.specs.Keys.{lent_bytes};
-ghost use Rattle.ebpf_ksyms.specs.Entries.{entry_named, externs_from};
+ghost use Rattle.ebpf_ksyms.specs.PrivateContracts.{entry_named, externs_from};
 ghost use Rattle.ebpf_ksyms.specs.Externs.{is_typed, is_typeless, wanted_names};
 
 use ebpf_base::ByName;

@@ -2,8 +2,7 @@
 
 ghost use Rattle.std.specs.Prelude.{◌≡◌, ℕ, List, IfOk, IfErr, OnOk, option_map};
 ghost use Rattle.ebpf_base.specs.Keys.{lent_bytes};
-ghost use Rattle.ebpf_ksyms.specs.Ids.{ids_in, id_at, with_lower_id};
-ghost use Rattle.ebpf_ksyms.specs.PrivateContracts.{value_named, only_at, sort_of_kind, with_head_ids};
+ghost use Rattle.ebpf_ksyms.specs.PrivateContracts.{ids_in, id_at, with_lower_id, value_named, only_at, sort_of_kind, with_head_ids};
 ghost use Rattle.ebpf_ksyms.specs.declared.error.KsymsError.TheVariants.{OutOfMemory};
 
 use crate::error::KsymsError;

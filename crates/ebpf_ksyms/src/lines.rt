@@ -4,11 +4,9 @@ ghost use Rattle.std.specs.Prelude.{◌≡◌, ℕ, List, IfOk, IfErr, OnOk, Mat
 ghost use Rattle.std.specs.Iterator.{IsFinite};
 ghost use Rattle.ebpf_base.specs.Faults.{Refuses, or_else};
 ghost use Rattle.ebpf_base.specs.Keys.{lent_bytes};
-ghost use Rattle.ebpf_ksyms.specs.Addresses.{invalid_address, line_of_item, nonzero, stated_fault};
+ghost use Rattle.ebpf_ksyms.specs.Addresses.{invalid_address, line_of_item, nonzero, stated_fault, stated_address};
 ghost use Rattle.ebpf_ksyms.specs.Faults.{is_ksyms_memory, is_memory_kind, line_read_fault};
-ghost use Rattle.ebpf_ksyms.specs.Lines.{stated_address};
-ghost use Rattle.ebpf_ksyms.specs.PrivateContracts.{value_named};
-ghost use Rattle.ebpf_ksyms.specs.AddressesByLine.{AreRead, StopsAt, with_line, text_line_fault, with_read_line, read_line_fault};
+ghost use Rattle.ebpf_ksyms.specs.PrivateContracts.{value_named, AreRead, StopsAt, with_line, text_line_fault, with_read_line, read_line_fault};
 ghost use Rattle.ebpf_ksyms.specs.declared.error.KsymsError.TheVariants.{KallsymsParseError};
 
 use crate::error::KsymsError;

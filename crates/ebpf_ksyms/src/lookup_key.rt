@@ -26,7 +26,7 @@ pub struct LookupKey<'a> {
 }
 
 impl<'a> Model for LookupKey<'a> {
-    ghost use Rattle.ebpf_ksyms.specs.LookupKeyValue.{LookupKeyValue};
+    ghost use Rattle.ebpf_ksyms.specs.KernelOutcomes.{LookupKeyValue};
 
     ghost Value = { LookupKeyValue };
 

@@ -5,8 +5,7 @@ ghost use Rattle.std.specs.Iterator.{IsFinite};
 ghost use Rattle.std.specs.Option.{option_copied};
 ghost use Rattle.ebpf_ksyms.specs.Externs.{IsResolutionFault, IsResolved};
 ghost use Rattle.ebpf_ksyms.specs.Faults.{is_ksyms_memory};
-ghost use Rattle.ebpf_ksyms.specs.Readers.{IsRefusedIn, IsResolvedIn};
-ghost use Rattle.ebpf_ksyms.specs.Texts.{IsRefusedBy, IsResolvedBy};
+ghost use Rattle.ebpf_ksyms.specs.Sources.{IsRefusedIn, IsResolvedIn, IsRefusedBy, IsResolvedBy};
 
 use crate::entry::{entries_of, externs_from, wanted_names};
 use crate::error::KsymsError;

@@ -1,12 +1,12 @@
 //! The lines of a text in memory.
 
-ghost use Rattle.std.specs.Prelude.{◌≡◌, ◌<◌, ◌==◌, [], ◌∷◌, length, IfSome, MatchOption, IsSome};
+ghost use Rattle.std.specs.Prelude.{◌≡◌, ◌<◌, ◌==◌, [], ◌∷◌, length, IfSome, MatchOption};
 ghost use Rattle.std.specs.IoError.{error_kind};
 ghost use Rattle.std.specs.Iterator.{item_count};
 ghost use Rattle.std.specs.List.{position};
 ghost use Rattle.std.specs.Str.Lines.{lines, strip_carriage_return};
 ghost use Rattle.std.specs.declared.io.ErrorKind.TheVariants.{InvalidData};
-ghost use Rattle.ebpf_ksyms.specs.TextLines.{GivesLine, IsItem, lines_left};
+ghost use Rattle.ebpf_ksyms.specs.Sources.{GivesLine, IsItem, lines_left};
 
 use std::alloc::Global;
 use std::marker::Model;
@@ -23,7 +23,7 @@ pub struct TextLines<'a> {
 }
 
 impl<'a> Model for TextLines<'a> {
-    ghost use Rattle.ebpf_ksyms.specs.TextLines.{Unread};
+    ghost use Rattle.ebpf_ksyms.specs.Sources.{Unread};
 
     ghost Value = { Unread };
 

@@ -7,10 +7,8 @@ ghost use Rattle.ebpf_base.specs.Keys.{lent_bytes};
 ghost use Rattle.ebpf_btf.specs.Types.{type_word};
 ghost use Rattle.ebpf_ksyms.specs.Externs.{kernel_ids_of, outcome_by, renewed};
 ghost use Rattle.ebpf_ksyms.specs.Faults.{is_ksyms_memory};
-ghost use Rattle.ebpf_ksyms.specs.Ids.{id_at};
-ghost use Rattle.ebpf_ksyms.specs.PrivateContracts.{value_named};
+ghost use Rattle.ebpf_ksyms.specs.PrivateContracts.{id_at, value_named, lookup_name, lookup_names, typed_as, typed_refused};
 ghost use Rattle.ebpf_ksyms.specs.KernelOutcomes.{at_found, compared_outcome, are_types_compatible, not_alike, not_found};
-ghost use Rattle.ebpf_ksyms.specs.Typed.{lookup_name, lookup_names, typed_as, typed_refused};
 
 use crate::entry::NamedExtern;
 use crate::error::KsymsError;
@@ -19,7 +17,7 @@ use crate::lookup_key::{LookupKey, Sort, lookup_key_of};
 use crate::named::Named;
 use ebpf_base::Text;
 use ebpf_btf::{Btf, BtfError, BtfType};
-use ebpf_candidates::types_are_compatible;
+use ebpf_core_candidates::types_are_compatible;
 use ebpf_model::ExternDesc;
 use std::alloc::{AllocError, Global};
 

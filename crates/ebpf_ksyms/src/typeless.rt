@@ -4,8 +4,7 @@ ghost use Rattle.std.specs.Prelude.{◌≡◌, IfOk};
 ghost use Rattle.ebpf_base.specs.Faults.{Refuses, first_some};
 ghost use Rattle.ebpf_ksyms.specs.Externs.{renewed};
 ghost use Rattle.ebpf_ksyms.specs.Faults.{is_ksyms_memory};
-ghost use Rattle.ebpf_ksyms.specs.PrivateContracts.{value_named};
-ghost use Rattle.ebpf_ksyms.specs.TypelessExterns.{known_at, typeless_as, typeless_refused};
+ghost use Rattle.ebpf_ksyms.specs.PrivateContracts.{value_named, known_at, typeless_as, typeless_refused};
 
 use crate::entry::NamedExtern;
 use crate::error::KsymsError;

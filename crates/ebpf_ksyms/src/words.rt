@@ -1,7 +1,7 @@
 //! The words of a line.
 
 ghost use Rattle.std.specs.Prelude.{◌≡◌, option_map};
-ghost use Rattle.ebpf_ksyms.specs.Lines.{address_and_name, stated_address};
+ghost use Rattle.ebpf_ksyms.specs.Addresses.{address_and_name, stated_address};
 
 /// The first and the third word of a line, where it has three: the word that states an address, and a name.
 pub fn address_and_name(line: &str) -> Option<(&str, &str)>

@@ -19,17 +19,11 @@ use Rattle.ebpf_declarations.specs.Attempts.{given}
 use Rattle.ebpf_declarations.specs.DataSections.{matched_entries}
 use Rattle.ebpf_declarations.specs.Externs.{extern_of, new_extern, extern_types, ksyms_datasec}
 use Rattle.ebpf_elf.specs.Symbols.{SymbolOf, symbols, symbol_name}
-use Rattle.ebpf_limits.specs.MadeBytes.{named_bytes}
-use Rattle.ebpf_limits.specs.OwnedBytes.{named_row}
-use Rattle.ebpf_limits.specs.Sums.{total}
-use Rattle.ebpf_limits.proofs.Covered.{Among, Counted, covered}
-use Rattle.ebpf_limits.proofs.Lists.{all_map, all_flat_map, all_of, each_at, found_among, name_within}
+use Rattle.ebpf_limits.specs.OwnedBytes.{named_bytes, named_row, total}
+use Rattle.ebpf_limits.proofs.Counts.{Counted, covered, all_map, all_flat_map, all_of, each_at, found_among, name_within}
 use Rattle.ebpf_model.specs.declared.extern_desc.ExternDesc.{ExternDesc}
-use Rattle.ebpf_parsing.specs.FileExterns.{externs_of, externs_beside}
-use Rattle.ebpf_parsing.specs.FileSymbols.{file_symbols, symbol_of}
-use Rattle.ebpf_parsing.specs.FileTypes.{btf_of}
-use Rattle.ebpf_parsing.specs.SymbolNames.{weak_named}
-use Rattle.ebpf_parsing.specs.Symbols.{SymbolValue}
+use Rattle.ebpf_parsing.specs.FileTypes.{externs_of, externs_beside, btf_of}
+use Rattle.ebpf_parsing.specs.Symbols.{file_symbols, symbol_of, weak_named, SymbolValue}
 
 module _ (file : List ℕ) where
   abbrev name_of : SymbolOf → List ℕ

@@ -1,37 +1,110 @@
--- The functions of a file, by its symbols.
-use Rattle.std.proofs.Common.{◌≡◌, ℕ, zero, suc, ◌+◌, ◌-◌, ◌%◌, ◌^◌, ◌<◌, ◌≤◌, Bool, true, false, cond, List, [], ◌∷◌, map, filter, length, Option, Some, None, refl, sym, ap, subst, ◌∙◌, arith, eqb-true}
-use Rattle.std.specs.Prelude.{unwrap_or, nat_lt}
+-- The bytes of a function's code and records, no more than what is counted for its symbol.
+use Rattle.std.proofs.Common.{◌≡◌, ℕ, ◌+◌, ◌-◌, ◌*◌, ◌/◌, ◌%◌, ◌^◌, ◌<◌, ◌≤◌, Bool, true, false, List, [], filter, length, Option, Some, refl, arith, zero, suc, cond, ◌∷◌, map, None, sym, ap, subst, ◌∙◌, eqb-true}
+use Rattle.std.specs.Prelude.{slice_range, ◌==◌, if◌then◌else◌, unwrap_or, nat_lt}
+use Rattle.std.proofs.lemmas.List.{length-take, length-drop, length-map}
+use Rattle.std.proofs.lemmas.List.FromFn.{length-map-range_with_len}
 use Rattle.std.specs.FinMap.{entries}
 use Rattle.std.specs.List.{AllByRecursion}
 use Rattle.std.proofs.lemmas.Bool.Decides.{nat_tests}
-use Rattle.std.proofs.lemmas.List.{length-map}
 use Rattle.std.proofs.lemmas.Bool.{and_parts}
-use Rattle.ebpf_base.specs.Keys.{key_total}
 use Rattle.ebpf_base.proofs.Maps.{key_exact}
+use Rattle.ebpf_base.specs.Keys.{key_total}
+use Rattle.ebpf_elf.specs.Headers.{range_of}
 use Rattle.ebpf_elf.specs.Sections.{SectionOf, header, data_of, sections}
 use Rattle.ebpf_elf.specs.Symbols.{SymbolOf, entry, symbols, symbol_name, symbol_kind, symbol_section_index}
+use Rattle.ebpf_elf.specs.declared.constants.TheConstants.{SHT_NOBITS}
+use Rattle.ebpf_elf.specs.declared.symbol.SymbolEntry.{SymbolEntry}
 use Rattle.ebpf_ext.specs.ExtReading.{ExtInfo}
-use Rattle.ebpf_limits.specs.MadeBytes.{SectionFacts, facts_of, facts_at, func_count, line_count, first_slot, function_bytes}
-use Rattle.ebpf_limits.specs.OwnedBytes.{function_row}
-use Rattle.ebpf_limits.specs.Sums.{total}
-use Rattle.ebpf_limits.proofs.Covered.{Among, Counted, covered}
-use Rattle.ebpf_limits.proofs.Lists.{all_map, all_flat_map, all_filter, each_at, found_among, name_within}
-use Rattle.ebpf_limits.proofs.OwnedCode.{data_short, data_within, code_within, funcs_within, lines_within, place_in_code, place_in_text, row_within, function_here, text_here}
-use Rattle.ebpf_limits.proofs.OwnedParts.{its_facts, its_name, its_function}
+use Rattle.ebpf_limits.proofs.Counts.{filter_short, Among, Counted, covered, all_map, all_flat_map, all_filter, each_at, found_among, name_within}
+use Rattle.ebpf_limits.proofs.OwnedParts.{function_in, its_facts, its_name, its_function}
 use Rattle.ebpf_limits.proofs.OwnedTables.{sections_all, symbols_all, facts_here, file_of}
-use Rattle.ebpf_model.specs.Keys.{FunctionKey}
+use Rattle.ebpf_limits.specs.OwnedBytes.{SectionFacts, entry_bytes, func_count, line_count, offset_by, first_slot, code_bytes, record_bytes, function_bytes, facts_of, facts_at, function_row, total}
+use Rattle.ebpf_model.specs.Symbols.{FunctionKey}
 use Rattle.ebpf_model.specs.declared.function.Function.{Function}
-use Rattle.ebpf_parsing.specs.FileContents.{object_sections, own_symbols, functions, function_entries}
-use Rattle.ebpf_parsing.specs.FileSymbols.{symbol_of}
+use Rattle.ebpf_parsing.specs.FileContents.{own_symbols, functions, function_entries}
 use Rattle.ebpf_parsing.specs.FileTypes.{ext_of}
 use Rattle.ebpf_parsing.specs.OfSection.{functions_by, functions_in}
 use Rattle.ebpf_parsing.specs.Programs.{is_program_symbol, program_function, with_key}
-use Rattle.ebpf_parsing.specs.Records.{FuncAndLineInfo, func_and_line_info_of, funcs_at, lines_in, is_func_at, is_line_in, slot_of, func_from, line_from}
-use Rattle.ebpf_parsing.specs.Symbols.{SymbolValue, is_text_symbol}
+use Rattle.ebpf_parsing.specs.Records.{is_func_at, is_line_in, slot_of_func, slot_of_line, slot_of, rises_from, FuncAndLineInfo, func_and_line_info_of, funcs_at, lines_in, func_from, line_from}
+use Rattle.ebpf_parsing.specs.Sections.{object_sections}
+use Rattle.ebpf_parsing.specs.Symbols.{symbol_of, SymbolValue, is_text_symbol}
 use Rattle.ebpf_parsing.specs.Texts.{address_at, function_at, text_function, text_function_of, symbol_at_offset, is_text_at, offsets_from, offsets, size_at}
 use Rattle.ebpf_parts.specs.Sections.{SectionValue, section_of, section_with}
+use Rattle.ebpf_parts.specs.Slots.{slots_of, slot_at}
 use Rattle.ebpf_parts.specs.declared.section_kind.EbpfSectionKind.{EbpfSectionKind}
 use Rattle.ebpf_parts.specs.declared.section_kind.EbpfSectionKind.TheVariants.{Text, Program as Programs}
+
+-- ---- code
+
+slots_length : (bytes : List ℕ) → 8 * length (slots_of bytes) ≤ length bytes
+unfolding slots_of
+slots_length bytes = let count = length-map-range_with_len (λ k. slot_at bytes (8 * k)) 0 (length bytes / 8) in omega (arith, count)
+
+pub range_short : (bytes : List ℕ) (from n : ℕ) → length (slice_range bytes from (from + n)) ≤ n
+range_short bytes from n = simp (length-take, length-drop) (omega arith)
+
+range_within : (bytes : List ℕ) (from n : ℕ) → length (slice_range bytes from (from + n)) ≤ length bytes
+range_within bytes from n = simp (length-take, length-drop) (omega arith)
+
+-- a section's data is no longer than its size, or the file
+pub data_short : (s : SectionOf) → length (data_of s) ≤ (header s).sh_size
+unfolding data_of
+data_short s = elim ((header s).sh_type == SHT_NOBITS) as (λ b. length (if b then [] else range_of s.file (header s)) ≤ (header s).sh_size) [
+  | true ↦ omega arith
+  | false ↦ range_short s.file (header s).sh_offset (header s).sh_size
+]
+
+pub data_within : (s : SectionOf) → length (data_of s) ≤ length s.file
+unfolding data_of
+data_within s = elim ((header s).sh_type == SHT_NOBITS) as (λ b. length (if b then [] else range_of s.file (header s)) ≤ length s.file) [
+  | true ↦ omega arith
+  | false ↦ range_within s.file (header s).sh_offset (header s).sh_size
+]
+
+pub code_within : (f : SectionFacts) (e : SymbolEntry) (bytes : List ℕ) (from : ℕ) → length bytes ≤ f.size → 8 * length (slots_of (slice_range bytes from (from + e.st_size))) ≤ code_bytes f e
+code_within f e bytes from short =
+    let slots = slots_length (slice_range bytes from (from + e.st_size)) in
+    let a = range_short bytes from e.st_size in
+    let b = range_within bytes from e.st_size in
+    omega (arith, slots, a, b, short)
+
+-- ---- records
+
+pub funcs_within : (f : SectionFacts) (first : ℕ) → length (filter (is_func_at first) f.funcs) ≤ func_count f first
+funcs_within f first = elim (rises_from slot_of_func 0 f.funcs) as (λ b. length (filter (is_func_at first) f.funcs) ≤ (if b then length (filter (is_func_at first) f.funcs) else length f.funcs)) [
+  | true ↦ omega arith
+  | false ↦ filter_short (is_func_at first) f.funcs
+]
+
+pub lines_within : (f : SectionFacts) (first count : ℕ) → length (filter (is_line_in first count) f.lines) ≤ line_count f first count
+lines_within f first count = elim (rises_from slot_of_line 0 f.lines) as (λ b. length (filter (is_line_in first count) f.lines) ≤ (if b then length (filter (is_line_in first count) f.lines) else length f.lines)) [
+  | true ↦ omega arith
+  | false ↦ filter_short (is_line_in first count) f.lines
+]
+
+-- ---- places
+
+pub place_in_code : (kind : EbpfSectionKind) (start address : ℕ) → kind ≡ Programs → offset_by kind start address ≡ address - start
+place_in_code kind start address e = rw e refl
+
+pub place_in_text : (kind : EbpfSectionKind) (start address offset : ℕ) → kind ≡ Text → address ≡ (start + offset) % 2 ^ 64 → offset < 2 ^ 64 → offset_by kind start address ≡ offset
+place_in_text kind start address offset e here below = rw e (omega (arith, here, below))
+
+-- ---- a function's row
+
+pub row_within : (named short : ℕ) (f : SectionFacts) (e : SymbolEntry) (slots funcs lines : ℕ) → entry_bytes + short ≤ named → 8 * slots ≤ code_bytes f e
+    → funcs ≤ func_count f (first_slot f e) → lines ≤ line_count f (first_slot f e) (slot_of e.st_size)
+    → entry_bytes + short + 8 * slots + record_bytes funcs lines ≤ function_bytes named f e
+unfolding function_bytes
+row_within named short f e slots funcs lines a b c d = omega (arith, a, b, c, d)
+
+pub function_here : (o : Option SectionFacts) (f : SectionFacts) (t : Bool) (named : ℕ) (e : SymbolEntry) → o ≡ Some f → t ≡ true → f.kind ≡ Programs → function_in o t named e ≡ function_bytes named f e
+function_here o f t named e a b c = rw (a, b, c) refl
+
+pub text_here : (o : Option SectionFacts) (f : SectionFacts) (t : Bool) (named : ℕ) (e : SymbolEntry) → o ≡ Some f → t ≡ true → f.kind ≡ Text → function_in o t named e ≡ function_bytes named f e
+text_here o f t named e a b c = rw (a, b, c) refl
+
+-- ---- the functions of a file, by its symbols
 
 -- the offsets where functions begin are inside the data
 offsets_inside : (s : SectionValue) (ys : List SymbolValue) (left offset : ℕ) → AllByRecursion (λ o. o < length s.bytes) (offsets_from left s ys offset)

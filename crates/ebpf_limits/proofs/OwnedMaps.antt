@@ -1,5 +1,5 @@
 -- The maps of a file, by its sections of data and its symbols.
-use Rattle.std.proofs.Common.{◌≡◌, ◌⊎◌, inl, inr, ℕ, zero, suc, ◌+◌, ◌≤◌, Bool, true, List, [], ◌∷◌, ◌++◌, map, length, Option, Some, None, Result, Ok, Err, refl, sym, ap, subst, ◌∙◌, arith, slice_get}
+use Rattle.std.proofs.Common.{◌≡◌, ◌⊎◌, inl, inr, ℕ, zero, suc, ◌+◌, ◌≤◌, List, [], ◌∷◌, ◌++◌, map, length, Option, Some, None, Result, Ok, Err, refl, sym, ap, ◌∙◌, arith}
 use Rattle.std.specs.Prelude.{unwrap_or, replicate}
 use Rattle.std.specs.FinMap.{entries, get}
 use Rattle.std.specs.List.{AllByRecursion}
@@ -15,27 +15,21 @@ use Rattle.ebpf_declarations.specs.DataSections.{DatasecMatch, Named, Unreadable
 use Rattle.ebpf_declarations.specs.Maps.{declared, map_at, entry_map, type_maps, map_with_symbol, matched_maps as maps_of_entries}
 use Rattle.ebpf_declarations.specs.TypesInReading.{TypesInReading, types_in_reading}
 use Rattle.ebpf_declarations.specs.declared.definitions.MapDefinitions.{MapDefinitions}
-use Rattle.ebpf_elf.specs.Sections.{SectionOf, header, data_of, sections, section_name}
+use Rattle.ebpf_elf.specs.Sections.{SectionOf, header, sections, section_name}
 use Rattle.ebpf_elf.specs.Symbols.{SymbolOf, entry, symbols, symbol_name, symbol_section_index}
 use Rattle.ebpf_ext.specs.ExtReading.{ExtInfo}
-use Rattle.ebpf_limits.specs.MadeBytes.{SectionFacts, facts_of, facts_at, named_bytes, contents_by, contents_bytes}
-use Rattle.ebpf_limits.specs.OwnedBytes.{map_row}
-use Rattle.ebpf_limits.specs.Sums.{total}
-use Rattle.ebpf_limits.proofs.Covered.{Among, Counted, covered}
-use Rattle.ebpf_limits.proofs.Lists.{all_map, all_flat_map, all_of, name_within, total_append, total_map}
-use Rattle.ebpf_limits.proofs.OwnedCode.{data_short}
+use Rattle.ebpf_limits.specs.OwnedBytes.{SectionFacts, facts_of, facts_at, named_bytes, contents_by, contents_bytes, map_row, total}
+use Rattle.ebpf_limits.proofs.Counts.{Among, Counted, covered, all_map, all_flat_map, all_of, name_within, total_append, total_map}
+use Rattle.ebpf_limits.proofs.OwnedFunctions.{data_short}
 use Rattle.ebpf_limits.proofs.OwnedParts.{map_in, its_facts, its_name, its_map}
 use Rattle.ebpf_limits.proofs.OwnedTables.{sections_all, symbols_all, facts_here}
-use Rattle.ebpf_parsing.specs.BtfDefinedMaps.{btf_defined_maps}
-use Rattle.ebpf_parsing.specs.DataMaps.{data_bytes, data_map, data_maps}
-use Rattle.ebpf_parsing.specs.FileContents.{object_sections, own_symbols, maps_as, map_entries}
-use Rattle.ebpf_parsing.specs.FileExterns.{types_of_file}
-use Rattle.ebpf_parsing.specs.FileSymbols.{symbol_of}
-use Rattle.ebpf_parsing.specs.LegacyMaps.{legacy_entry, legacy_map, legacy_maps}
+use Rattle.ebpf_parsing.specs.Maps.{btf_defined_maps, data_bytes, data_map, data_maps, legacy_entry, legacy_map, legacy_maps}
+use Rattle.ebpf_parsing.specs.Sections.{object_sections}
+use Rattle.ebpf_parsing.specs.FileContents.{own_symbols, maps_as, map_entries}
+use Rattle.ebpf_parsing.specs.FileTypes.{types_of_file}
+use Rattle.ebpf_parsing.specs.Symbols.{symbol_of, name_and_index, symbol_indices_by_name, SymbolValue}
 use Rattle.ebpf_parsing.specs.OfSection.{maps_by, maps_in}
-use Rattle.ebpf_parsing.specs.SymbolNames.{name_and_index, symbol_indices_by_name}
-use Rattle.ebpf_parsing.specs.Symbols.{SymbolValue}
-use Rattle.ebpf_parsing.proofs.EntriesStand.{stands}
+use Rattle.ebpf_parsing.proofs.Entries.{stands}
 use Rattle.ebpf_parts.specs.Maps.{bytes_of}
 use Rattle.ebpf_parts.specs.Sections.{SectionValue, section_of, section_with, name_or_empty}
 use Rattle.ebpf_parts.specs.declared.error.ParseError.{ParseError}

@@ -1,9 +1,8 @@
 -- What a symbol gives beside its own entry, in parts.
-use Rattle.std.proofs.Common.{◌≡◌, ℕ, ◌+◌, ◌≤◌, Bool, true, false, List, [], ◌∷◌, Option, Some, None, arith}
+use Rattle.std.proofs.Common.{ℕ, ◌+◌, ◌≤◌, Bool, true, false, List, [], ◌∷◌, Option, Some, None, arith}
 use Rattle.ebpf_elf.specs.Symbols.{SymbolOf, entry, symbol_name, symbol_kind, symbol_section_index, symbols}
-use Rattle.ebpf_elf.specs.declared.symbol_entry.SymbolEntry.{SymbolEntry}
-use Rattle.ebpf_limits.specs.MadeBytes.{SectionFacts, facts_at, function_bytes, named_bytes, placed_by, placed_in, symbol_bytes}
-use Rattle.ebpf_limits.specs.Sums.{total}
+use Rattle.ebpf_elf.specs.declared.symbol.SymbolEntry.{SymbolEntry}
+use Rattle.ebpf_limits.specs.OwnedBytes.{SectionFacts, facts_at, function_bytes, named_bytes, placed_by, placed_in, symbol_bytes, total}
 use Rattle.ebpf_parsing.specs.Symbols.{is_text_symbol}
 use Rattle.ebpf_parts.specs.declared.section_kind.EbpfSectionKind.{EbpfSectionKind}
 use Rattle.ebpf_parts.specs.declared.section_kind.EbpfSectionKind.TheVariants.{Undefined, Maps, BtfMaps, Program as Programs, Data, Rodata, Bss, Text, Btf, BtfExt, License, Version}

@@ -1,30 +1,27 @@
 -- The programs of a file, by its symbols.
-use Rattle.std.proofs.Common.{◌≡◌, ℕ, ◌+◌, ◌≤◌, Bool, true, false, List, [], map, filter, length, Option, Some, None, refl, ap, ◌∙◌, arith}
+use Rattle.std.proofs.Common.{◌≡◌, ℕ, ◌+◌, ◌≤◌, Bool, true, List, [], map, filter, length, Option, Some, None, refl, ap, ◌∙◌, arith}
 use Rattle.std.proofs.lemmas.Bool.{and_parts}
 use Rattle.std.specs.Prelude.{unwrap_or}
 use Rattle.std.specs.FinMap.{entries}
 use Rattle.std.specs.List.{AllByRecursion}
-use Rattle.ebpf_base.specs.Keys.{text_cmp, text_total}
+use Rattle.ebpf_base.specs.Keys.{text_total}
 use Rattle.ebpf_base.proofs.TextMaps.{text_exact}
 use Rattle.ebpf_elf.specs.Sections.{SectionOf, sections}
-use Rattle.ebpf_elf.specs.Symbols.{SymbolOf, entry, symbols, symbol_name, symbol_kind, symbol_section_index}
+use Rattle.ebpf_elf.specs.Symbols.{SymbolOf, entry, symbols, symbol_name, symbol_section_index}
 use Rattle.ebpf_ext.specs.ExtReading.{ExtInfo}
-use Rattle.ebpf_limits.specs.MadeBytes.{SectionFacts, facts_of, facts_at}
-use Rattle.ebpf_limits.specs.OwnedBytes.{program_row}
-use Rattle.ebpf_limits.specs.Sums.{total}
-use Rattle.ebpf_limits.proofs.Covered.{Among, Counted, covered}
-use Rattle.ebpf_limits.proofs.Lists.{all_map, all_flat_map, all_filter, name_within}
+use Rattle.ebpf_limits.specs.OwnedBytes.{SectionFacts, facts_of, facts_at, program_row, total}
+use Rattle.ebpf_limits.proofs.Counts.{Among, Counted, covered, all_map, all_flat_map, all_filter, name_within}
 use Rattle.ebpf_limits.proofs.OwnedParts.{program_in, its_facts, its_name, its_program}
 use Rattle.ebpf_limits.proofs.OwnedTables.{sections_all, symbols_all, facts_here}
 use Rattle.ebpf_model.specs.declared.program.Program.{Program}
-use Rattle.ebpf_parsing.specs.FileContents.{object_sections, own_symbols, programs_as, program_entries}
-use Rattle.ebpf_parsing.specs.FileSymbols.{symbol_of}
+use Rattle.ebpf_parsing.specs.Sections.{object_sections}
+use Rattle.ebpf_parsing.specs.FileContents.{own_symbols, programs_as, program_entries}
+use Rattle.ebpf_parsing.specs.Symbols.{symbol_of, SymbolValue, is_text_symbol}
 use Rattle.ebpf_parsing.specs.LicenseAndVersion.{license_as, kernel_version_of}
 use Rattle.ebpf_parsing.specs.OfSection.{programs_by, programs_in}
 use Rattle.ebpf_parsing.specs.Programs.{is_program_symbol, program_of, programs_of}
-use Rattle.ebpf_parsing.specs.Symbols.{SymbolValue, is_text_symbol}
-use Rattle.ebpf_parts.specs.Readings.{section_as}
-use Rattle.ebpf_parts.specs.Sections.{SectionValue, section_of, section_with}
+use Rattle.ebpf_parts.specs.ProgramTypes.{section_as}
+use Rattle.ebpf_parts.specs.Sections.{section_of, section_with}
 use Rattle.ebpf_parts.specs.declared.program_section.ProgramSection.{ProgramSection}
 use Rattle.ebpf_parts.specs.declared.reading.Reading.{Reading}
 use Rattle.ebpf_parts.specs.declared.section_kind.EbpfSectionKind.{EbpfSectionKind}

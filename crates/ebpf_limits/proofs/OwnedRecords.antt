@@ -1,33 +1,48 @@
--- The records of `.BTF.ext`, by the lengths of its parts.
-use Rattle.std.proofs.Common.{◌≡◌, ℕ, zero, suc, ◌+◌, ◌-◌, ◌*◌, ◌≤◌, Bool, true, false, not, ◌&&◌, cond, List, [], ◌∷◌, map, length, Option, Some, None, Result, Ok, Err, refl, sym, ap, subst, ◌∙◌, arith, eqb-true}
-use Rattle.std.specs.Prelude.{nat_lt, ◌==◌, if◌then◌else◌}
-use Rattle.std.specs.FinMap.{FinMap, entries, empty}
-use Rattle.std.specs.List.{AllByRecursion, range_with_len}
+-- Where nothing was found, a section of any name has no records.
+use Rattle.std.proofs.Common.{◌≡◌, ℕ, List, [], Option, None, sym, ap, zero, suc, ◌+◌, ◌-◌, ◌*◌, ◌≤◌, Bool, true, false, not, ◌&&◌, cond, ◌∷◌, map, length, Some, Result, Ok, Err, refl, subst, ◌∙◌, arith, eqb-true}
+use Rattle.std.specs.Prelude.{unwrap_or, nat_lt, ◌==◌, if◌then◌else◌}
+use Rattle.std.specs.FinMap.{FinMap, get-empty, entries, empty}
+use Rattle.std.specs.List.{range_with_len}
 use Rattle.std.proofs.Math.Nat.{mul-le-mul_right}
 use Rattle.std.proofs.lemmas.Bool.Decides.{nat_tests}
 use Rattle.std.proofs.lemmas.List.FromFn.{length-map-range_with_len}
+use Rattle.std.specs.Result.{result_ok}
+use Rattle.ebpf_base.proofs.Faults.{both_None}
+use Rattle.ebpf_base.proofs.TextMaps.{text_exact}
 use Rattle.ebpf_base.specs.Faults.{first_of}
 use Rattle.ebpf_base.specs.Keyed.{put_all}
 use Rattle.ebpf_base.specs.Keys.{text_cmp, text_total}
 use Rattle.ebpf_base.specs.Results.{if_ok}
 use Rattle.ebpf_base.specs.declared.endianness.Endianness.{Endianness}
-use Rattle.ebpf_base.proofs.TextMaps.{text_exact}
-use Rattle.ebpf_btf.specs.Next.{if_some}
-use Rattle.ebpf_btf.specs.Strings.{text_at}
-use Rattle.ebpf_btf.specs.declared.error.BtfError.{BtfError}
-use Rattle.ebpf_btf.specs.Reading.{header_length, magic}
-use Rattle.ebpf_btf.specs.declared.error.BtfError.TheVariants.{InvalidHeader, InvalidInfo}
 use Rattle.ebpf_btf.proofs.InOrder.{items_length}
+use Rattle.ebpf_btf.specs.Next.{if_some}
+use Rattle.ebpf_btf.specs.Reading.{header_length, magic}
+use Rattle.ebpf_btf.specs.Strings.{text_at}
+use Rattle.ebpf_btf.specs.TypeInfo.{TypeInfo}
+use Rattle.ebpf_btf.specs.declared.error.BtfError.{BtfError}
+use Rattle.ebpf_btf.specs.declared.error.BtfError.TheVariants.{InvalidHeader, InvalidInfo}
+use Rattle.ebpf_elf.specs.Headers.{ei_data}
+use Rattle.ebpf_elf.specs.Sections.{SectionOf, data_of}
 use Rattle.ebpf_ext.specs.ExtFormat.{ext_header_fault, func_part, line_part, core_relo_part, part_fault, part_length, part_start, record_size, sections_start, sections_end, sec_name_off_at, num_info_at, section_end, info_sec_fault, func_infos, line_infos, func_record, line_record, core_relos_at, core_relo_at, all_ok}
-use Rattle.ebpf_ext.specs.ExtReading.{ExtInfo, checked_section, named_func_info, named_line_info, section_core_relos, func_section, line_section, core_relo_section, sections_from, part_sections, by_names, func_sections, line_sections, core_relo_sections, read_ext}
+use Rattle.ebpf_ext.specs.ExtReading.{func_info_at, line_info_at, no_func_info, no_line_info, ExtInfo, checked_section, named_func_info, named_line_info, section_core_relos, func_section, line_section, core_relo_section, sections_from, part_sections, func_sections, line_sections, core_relo_sections, read_ext}
 use Rattle.ebpf_ext.specs.declared.ext_infos.FuncSecInfo.{FuncSecInfo}
 use Rattle.ebpf_ext.specs.declared.ext_infos.LineSecInfo.{LineSecInfo}
 use Rattle.ebpf_ext.specs.declared.relocation.Relocation.{Relocation}
-use Rattle.ebpf_limits.specs.ExtBytes.{funcs_row, lines_row, core_row, ext_bytes}
-use Rattle.ebpf_limits.specs.MadeBytes.{part_bytes, ext_in_bytes}
-use Rattle.ebpf_limits.specs.Sums.{total}
-use Rattle.ebpf_limits.proofs.Covered.{Among, Counted, covered}
-use Rattle.ebpf_limits.proofs.Lists.{all_of}
+use Rattle.ebpf_limits.proofs.Counts.{Counted, covered, all_of}
+use Rattle.ebpf_limits.proofs.OwnedTypes.{readable, ext_same}
+use Rattle.ebpf_limits.specs.OwnedBytes.{funcs_row, lines_row, core_row, ext_bytes, part_bytes, ext_in_bytes, total}
+use Rattle.ebpf_limits.specs.PrivateContracts.{found_funcs, found_lines}
+use Rattle.ebpf_limits.specs.ReadableData.{data_in, readable_ext}
+use Rattle.ebpf_parsing.specs.FileTypes.{btf_of, btf_fault, ext_in, ext_of, ext_beside, ext_fault, ext_fault_in, ext_fault_beside, ext_section, file_types_fault}
+use Rattle.ebpf_parts.specs.Sections.{section_of, section_with, section_fault}
+
+pub no_funcs : (found : Option (FinMap text_cmp FuncSecInfo)) (name : List ℕ) → found ≡ None → [] ≡ (func_info_at (found_funcs found) name).func_info
+no_funcs found name none = rw none (sym (ap (λ o. (unwrap_or o no_func_info).func_info) (get-empty {X = FuncSecInfo} text_cmp name)))
+
+pub no_lines : (found : Option (FinMap text_cmp LineSecInfo)) (name : List ℕ) → found ≡ None → [] ≡ (line_info_at (found_lines found) name).line_info
+no_lines found name none = rw none (sym (ap (λ o. (unwrap_or o no_line_info).line_info) (get-empty {X = LineSecInfo} text_cmp name)))
+
+-- ---- the records of `.BTF.ext`, by the lengths of its parts
 
 -- ---- answers that are no faults
 
@@ -223,3 +238,26 @@ module _ (o : Endianness) (bytes strings : List ℕ) where
       let e = part_counted line_part whole in
       let f = part_counted core_relo_part whole in
       subst (λ (x : ExtInfo). ext_bytes (Some x) ≤ ext_in_bytes o bytes (Some x)) same (omega (arith, a, b, c, d, e, f))
+
+-- ---- the records of `.BTF.ext` of a file without a fault
+
+by_result : (o : Endianness) (bytes strings : List ℕ) (r : Result ExtInfo BtfError) → read_ext o bytes strings ≡ r → ext_bytes (result_ok r) ≤ ext_in_bytes o bytes (result_ok r)
+by_result o bytes strings (Err e) is = omega arith
+by_result o bytes strings (Ok ext) is = ext_within o bytes strings ext is
+
+in_section : (o : Endianness) (types : TypeInfo) (s : Option SectionOf) → ext_fault_in o types s ≡ None → ext_bytes (ext_in o types s) ≤ ext_in_bytes o (data_in s) (ext_in o types s)
+unfolding section_of section_with
+in_section o types None clear = omega arith
+in_section o types (Some s) clear =
+    let sound = both_None (section_fault s) _ clear in
+    rw (readable s sound.0) (by_result o (data_of s) types.strings (read_ext o (data_of s) types.strings) refl)
+
+beside : (file : List ℕ) (types : Option TypeInfo) → ext_fault_beside file types ≡ None → ext_bytes (ext_beside file types) ≤ ext_in_bytes (ei_data file) (data_in (ext_section file)) (ext_beside file types)
+beside file None clear = omega arith
+beside file (Some types) clear = in_section (ei_data file) types (ext_section file) clear
+
+pub ext_owned : (file : List ℕ) → file_types_fault file ≡ None → ext_bytes (ext_of file) ≤ ext_in_bytes (ei_data file) (data_in (ext_section file)) (readable_ext file)
+unfolding ext_of file_types_fault ext_fault
+ext_owned file clear =
+    let both = both_None (btf_fault file) _ clear in
+    rw (ext_same file clear) (beside file (btf_of file) both.1)

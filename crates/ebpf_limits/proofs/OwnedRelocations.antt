@@ -1,5 +1,5 @@
 -- The relocations of sections of code, by the sections of relocations.
-use Rattle.std.proofs.Common.{◌≡◌, ℕ, zero, suc, ◌+◌, ◌-◌, ◌*◌, ◌<◌, ◌≤◌, Bool, true, false, cond, List, [], ◌∷◌, ◌++◌, map, filter, length, Option, Some, None, refl, sym, ap, subst, ◌∙◌, arith, slice_get, eqb-true}
+use Rattle.std.proofs.Common.{◌≡◌, ℕ, zero, suc, ◌+◌, ◌-◌, ◌*◌, ◌<◌, ◌≤◌, true, false, cond, List, [], ◌∷◌, ◌++◌, map, filter, length, Option, Some, refl, sym, ap, subst, ◌∙◌, arith, slice_get, eqb-true}
 use Rattle.std.specs.Prelude.{◌==◌, if◌then◌else◌}
 use Rattle.std.specs.Cmp.{nat_cmp_total}
 use Rattle.std.specs.FinMap.{FinMap, entries, nat_cmp-IsAntisymmetric}
@@ -10,19 +10,16 @@ use Rattle.std.proofs.lemmas.List.{length-append, length-map}
 use Rattle.std.proofs.lemmas.List.FromFn.{length-map-range_with_len}
 use Rattle.ebpf_elf.specs.Relocations.{relocation_sections, relocated_section, entry_count, table_entry, table_entries, entries_for, relocations}
 use Rattle.ebpf_elf.specs.Sections.{SectionOf, sections}
-use Rattle.ebpf_elf.specs.declared.entries.ElfRelocation.{ElfRelocation}
+use Rattle.ebpf_elf.specs.declared.relocation.ElfRelocation.{ElfRelocation}
 use Rattle.ebpf_ext.specs.ExtReading.{ExtInfo}
-use Rattle.ebpf_limits.specs.MadeBytes.{SectionFacts, entry_bytes, facts_of, facts_at, relocated_kind, relocation_bytes}
-use Rattle.ebpf_limits.specs.OwnedBytes.{relocations_row}
-use Rattle.ebpf_limits.specs.Sums.{total}
-use Rattle.ebpf_limits.proofs.Covered.{Among, Counted, covered}
-use Rattle.ebpf_limits.proofs.Lists.{all_map, all_flat_map, all_of, total_map, no_more}
-use Rattle.ebpf_limits.proofs.OwnedTables.{sections_all, facts_here, file_of}
-use Rattle.ebpf_parsing.specs.CodeOrder.{is_kind_of_code}
-use Rattle.ebpf_parsing.specs.FileContents.{object_sections, relocation_tables, relocation_entries}
+use Rattle.ebpf_limits.specs.OwnedBytes.{SectionFacts, entry_bytes, facts_of, facts_at, relocation_bytes, relocations_row, total}
+use Rattle.ebpf_limits.proofs.Counts.{Among, Counted, covered, all_map, all_flat_map, all_of}
+use Rattle.ebpf_limits.proofs.OwnedTables.{sections_all, facts_here}
+use Rattle.ebpf_parsing.specs.Sections.{is_kind_of_code, object_sections}
+use Rattle.ebpf_parsing.specs.FileContents.{relocation_tables, relocation_entries}
 use Rattle.ebpf_parsing.specs.OfSection.{relocations_by, relocations_in}
 use Rattle.ebpf_parsing.specs.Relocations.{offset_of, relocations_by_offset, relocation_table_at}
-use Rattle.ebpf_parts.specs.Sections.{SectionValue, section_of, section_with}
+use Rattle.ebpf_parts.specs.Sections.{section_of, section_with}
 use Rattle.ebpf_parts.specs.declared.section_kind.EbpfSectionKind.{EbpfSectionKind}
 use Rattle.ebpf_parts.specs.declared.section_kind.EbpfSectionKind.TheVariants.{Text, Program as Programs}
 

@@ -1,6 +1,6 @@
 -- What the sections and symbols of a file give to its tables, by the sections and symbols of the file.
-use Rattle.std.proofs.Common.{◌≡◌, ℕ, zero, suc, ◌+◌, ◌-◌, ◌≤◌, Bool, true, false, not, List, [], ◌∷◌, ◌++◌, map, filter, length, Option, Some, None, option_map, refl, sym, ap, subst, ◌∙◌, arith, slice_get, eqb-true}
-use Rattle.std.specs.Prelude.{unwrap_or, codes}
+use Rattle.std.proofs.Common.{◌≡◌, ℕ, zero, suc, ◌+◌, ◌-◌, ◌≤◌, true, not, List, ◌++◌, map, filter, Option, Some, None, option_map, refl, sym, ap, subst, ◌∙◌, arith, slice_get, eqb-true}
+use Rattle.std.specs.Prelude.{codes}
 use Rattle.std.specs.FinMap.{entries, empty, nat_cmp-IsAntisymmetric}
 use Rattle.std.specs.Cmp.{nat_cmp_total}
 use Rattle.std.specs.List.{AllByRecursion, flat_map, find, range_with_len}
@@ -11,20 +11,16 @@ use Rattle.ebpf_base.specs.Keys.{text_cmp, text_total}
 use Rattle.ebpf_base.proofs.Keyed.{put_all-append}
 use Rattle.ebpf_base.proofs.TextMaps.{text_exact}
 use Rattle.ebpf_elf.specs.Names.{is_name}
-use Rattle.ebpf_elf.specs.Sections.{SectionOf, header, sections, section_name}
+use Rattle.ebpf_elf.specs.Sections.{SectionOf, sections, section_name}
 use Rattle.ebpf_elf.specs.Symbols.{SymbolOf, entry, symbols, symbol_name, symbol_section_index}
-use Rattle.ebpf_elf.specs.declared.entries.SectionIndex.{SectionIndex}
+use Rattle.ebpf_elf.specs.declared.section.SectionIndex.{SectionIndex}
 use Rattle.ebpf_ext.specs.ExtReading.{ExtInfo}
-use Rattle.ebpf_limits.specs.MadeBytes.{SectionFacts, facts_of, facts_at, named_bytes, section_entry_bytes}
-use Rattle.ebpf_limits.specs.OwnedBytes.{named_row, symbol_row}
-use Rattle.ebpf_limits.specs.Sums.{total}
-use Rattle.ebpf_limits.proofs.Covered.{Among, Counted, covered}
-use Rattle.ebpf_limits.proofs.Lists.{all_append, all_map, all_flat_map, all_filter, all_of, found_among, name_within}
-use Rattle.ebpf_parsing.specs.FileContents.{object_sections, other_sections, is_type_information, section_infos, name_entries}
-use Rattle.ebpf_parsing.specs.FileSymbols.{file_symbols, symbol_of, symbol_entry, symbol_table}
-use Rattle.ebpf_parsing.specs.FileTypes.{names_in, types_section, ext_section, type_names, ext_names, ext_names_beside, type_info_names, btf_of}
-use Rattle.ebpf_parsing.specs.OfSection.{section_info_entry}
-use Rattle.ebpf_parsing.specs.Symbols.{SymbolValue, is_in_section, section_symbols}
+use Rattle.ebpf_limits.specs.OwnedBytes.{facts_of, facts_at, named_bytes, section_entry_bytes, named_row, symbol_row, total}
+use Rattle.ebpf_limits.proofs.Counts.{Among, Counted, covered, all_append, all_map, all_flat_map, all_filter, all_of, found_among, name_within}
+use Rattle.ebpf_parsing.specs.Sections.{object_sections, other_sections, is_type_information, section_info_entry}
+use Rattle.ebpf_parsing.specs.FileContents.{section_infos, name_entries}
+use Rattle.ebpf_parsing.specs.Symbols.{file_symbols, symbol_of, symbol_entry, symbol_table, SymbolValue, is_in_section, section_symbols}
+use Rattle.ebpf_parsing.specs.FileTypes.{names_in, type_names, ext_names, ext_names_beside, type_info_names, btf_of}
 use Rattle.ebpf_btf.specs.TypeInfo.{TypeInfo}
 use Rattle.ebpf_parts.specs.Sections.{SectionValue, section_of, section_with, name_or_empty}
 

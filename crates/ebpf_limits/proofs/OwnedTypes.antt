@@ -1,11 +1,10 @@
 -- The license and the types of a file without a fault.
-use Rattle.std.proofs.Common.{◌≡◌, ℕ, ◌+◌, ◌-◌, ◌≤◌, Bool, true, false, List, [], ◌∷◌, ◌++◌, length, Option, Some, None, Result, Ok, Err, option_map, refl, sym, ap, subst, ◌∙◌, arith}
-use Rattle.std.specs.Prelude.{codes, nat_lt, is_some, if◌then◌else◌, sum_by}
-use Rattle.std.specs.List.{position_or_len}
+use Rattle.std.proofs.Common.{◌≡◌, ℕ, ◌+◌, ◌-◌, ◌≤◌, Bool, true, false, List, [], ◌∷◌, ◌++◌, length, Option, Some, None, Result, Ok, Err, option_map, refl, sym, ap, ◌∙◌, arith}
+use Rattle.std.specs.Prelude.{codes, nat_lt, sum_by}
 use Rattle.std.specs.Result.{result_ok}
 use Rattle.std.proofs.lemmas.List.{length-append}
 use Rattle.std.proofs.lemmas.List.Sums.{sum_by_push}
-use Rattle.ebpf_base.specs.Faults.{or_else, first_of}
+use Rattle.ebpf_base.specs.Faults.{first_of}
 use Rattle.ebpf_base.specs.declared.endianness.Endianness.{Endianness}
 use Rattle.ebpf_base.proofs.Faults.{both_None}
 use Rattle.ebpf_btf.specs.declared.error.BtfError.{BtfError}
@@ -15,29 +14,27 @@ use Rattle.ebpf_btf.specs.TypeInfo.{TypeInfo}
 use Rattle.ebpf_btf.specs.Types.{kind_of}
 use Rattle.ebpf_btf.specs.Words.{type_length, types_length, count_of}
 use Rattle.ebpf_btf.specs.declared.types.BtfType.{BtfType}
-use Rattle.ebpf_btf.specs.declared.types.BtfType.TheVariants.{Unknown, Int, Var}
+use Rattle.ebpf_btf.specs.declared.types.BtfType.TheVariants.{Unknown}
 use Rattle.ebpf_btf.specs.Next.{if_some}
 use Rattle.ebpf_btf.proofs.Lengths.{length_of_all}
 use Rattle.ebpf_btf.proofs.Spelling.{found_spelled}
 use Rattle.ebpf_declarations.specs.Externs.{extern_types, types_with, first_function_or_fault, ksyms_datasec}
 use Rattle.ebpf_declarations.specs.DataSections.{matched_entries}
-use Rattle.ebpf_declarations.specs.Placeholders.{with_named, with_word, word_id, with_placeholder, int_at, the_word, variable_at}
+use Rattle.ebpf_declarations.specs.Placeholders.{with_named, with_word, word_id, int_at, the_word, variable_at}
 use Rattle.ebpf_declarations.specs.declared.externs.FunctionOrFault.{FunctionOrFault}
 use Rattle.ebpf_declarations.specs.declared.externs.FunctionOrFault.TheVariants.{Function, UnreadableType}
-use Rattle.ebpf_elf.specs.File.{ei_data}
+use Rattle.ebpf_elf.specs.Headers.{ei_data}
 use Rattle.ebpf_elf.specs.Sections.{SectionOf, data_faults, data_of}
-use Rattle.ebpf_limits.specs.MadeBytes as made
-use Rattle.ebpf_limits.specs.MadeBytes.{entry_bytes, license_bytes, types_in_bytes}
-use Rattle.ebpf_limits.specs.OwnedBytes.{types_bytes}
+use Rattle.ebpf_limits.specs.OwnedBytes as made
+use Rattle.ebpf_limits.specs.OwnedBytes.{entry_bytes, license_bytes, types_in_bytes, types_bytes}
 use Rattle.ebpf_ext.specs.ExtFormat.{ext_header_fault}
 use Rattle.ebpf_ext.specs.ExtReading.{read_ext}
 use Rattle.ebpf_limits.specs.ReadableData.{readable_data, readable_types, readable_ext, ext_beside_types, data_in}
-use Rattle.ebpf_limits.proofs.OwnedCode.{range_short}
-use Rattle.ebpf_parsing.specs.FileExterns.{types_of_file}
-use Rattle.ebpf_parsing.specs.FileTypes.{btf_in, btf_of, btf_fault, types_fault_in, types_section, ext_in, ext_of, ext_beside, ext_fault, ext_fault_in, ext_fault_beside, ext_section, file_types_fault}
-use Rattle.ebpf_parsing.specs.LicenseAndVersion.{first_section_named, license_in, license_as, license_fault_in, license_fault_as, license_text, license_text_fault}
+use Rattle.ebpf_limits.proofs.OwnedFunctions.{range_short}
+use Rattle.ebpf_parsing.specs.FileTypes.{types_of_file, btf_in, btf_of, btf_fault, types_fault_in, types_section, ext_in, ext_of, ext_beside, ext_fault, ext_fault_in, ext_fault_beside, ext_section, file_types_fault}
+use Rattle.ebpf_parsing.specs.Sections.{first_section_named}
+use Rattle.ebpf_parsing.specs.LicenseAndVersion.{license_in, license_as, license_fault_in, license_fault_as, license_text}
 use Rattle.ebpf_parts.specs.Sections.{section_of, section_with, section_fault, section_fault_with, section_name_fault, data_fault}
-use Rattle.ebpf_parts.specs.declared.error.ParseError.{ParseError}
 use Rattle.ebpf_parts.specs.declared.error.ParseError.TheVariants.{SectionError}
 use Rattle.ebpf_parts.specs.declared.reading.Reading.{Reading}
 use Rattle.ebpf_parts.specs.declared.reading.Reading.TheVariants.{Stated, Broad}

@@ -1,8 +1,5 @@
-pub mod Sums
-pub mod ReadableData
-pub mod MadeBytes
-pub mod ExtBytes
-pub mod Within
 pub mod OwnedBytes
+pub mod ReadableData
+pub mod Within
 -- What only private contracts and proofs name.
 pub mod PrivateContracts

@@ -1,25 +1,228 @@
--- How many bytes an object owns: its texts, its lists and its data, and an entry of 64 bytes for each row of its tables.
-use Rattle.std.specs.Prelude.{◌≡◌, ◌≤◌, ◌<◌, ℕ, ◌+◌, ◌*◌, ◌^◌, List, [], length, Option, Some, None, unwrap_or}
-use Rattle.std.specs.FinMap.{FinMap, entries, len}
+-- Sums over lists.
+use Rattle.std.specs.Prelude.{ℕ, ◌+◌, List, [], ◌∷◌, ◌*◌, length, Option, Some, None, ◌-◌, ◌%◌, ◌^◌, Bool, true, false, map, filter, codes, nat_lt, min, if◌then◌else◌, slice_get, ◌≡◌, ◌≤◌, ◌<◌, unwrap_or}
+use Rattle.std.specs.FinMap.{entries, FinMap, len}
 use Rattle.std.specs.Ordering.{nat_cmp}
-use Rattle.ebpf_base.specs.Keys.{text_cmp}
+use Rattle.ebpf_base.specs.declared.endianness.Endianness.{Endianness}
+use Rattle.ebpf_btf.specs.Format.{word}
 use Rattle.ebpf_btf.specs.TypeInfo.{TypeInfo}
 use Rattle.ebpf_btf.specs.Words.{types_length}
-use Rattle.ebpf_elf.specs.declared.entries.ElfRelocation.{ElfRelocation}
-use Rattle.ebpf_elf.specs.declared.entries.SectionIndex.{SectionIndex}
-use Rattle.ebpf_limits.specs.ExtBytes.{ext_bytes}
-use Rattle.ebpf_limits.specs.MadeBytes.{entry_bytes, record_bytes, made_bytes}
-use Rattle.ebpf_limits.specs.Sums.{total}
-use Rattle.ebpf_model.specs.Keys.{FunctionKey}
-use Rattle.ebpf_model.specs.declared.extern_desc.ExternDesc.{ExternDesc}
+use Rattle.ebpf_elf.specs.Headers.{ei_data}
+use Rattle.ebpf_elf.specs.Relocations.{relocation_sections, relocated_section, entry_count}
+use Rattle.ebpf_elf.specs.Sections.{SectionOf, header, sections, section_name}
+use Rattle.ebpf_elf.specs.Symbols.{SymbolOf, entry, symbols, symbol_name, symbol_kind, symbol_section_index}
+use Rattle.ebpf_elf.specs.declared.relocation.ElfRelocation.{ElfRelocation}
+use Rattle.ebpf_elf.specs.declared.symbol.SymbolEntry.{SymbolEntry}
+use Rattle.ebpf_ext.specs.ExtFormat.{func_part, line_part, core_relo_part, part_length}
+use Rattle.ebpf_ext.specs.ExtReading.{ExtInfo, func_info_at, line_info_at}
+use Rattle.ebpf_ext.specs.declared.ext_infos.FuncSecInfo.{FuncSecInfo}
+use Rattle.ebpf_ext.specs.declared.ext_infos.LineSecInfo.{LineSecInfo}
+use Rattle.ebpf_ext.specs.declared.ext_infos.bpf_func_info.{bpf_func_info}
+use Rattle.ebpf_ext.specs.declared.ext_infos.bpf_line_info.{bpf_line_info}
+use Rattle.ebpf_ext.specs.declared.relocation.Relocation.{Relocation}
+use Rattle.ebpf_limits.specs.ReadableData.{data_in, readable_data, readable_ext, readable_types}
+use Rattle.ebpf_model.specs.Symbols.{FunctionKey}
 use Rattle.ebpf_model.specs.declared.function.Function.{Function}
 use Rattle.ebpf_model.specs.declared.program.Program.{Program}
 use Rattle.ebpf_model.specs.declared.symbol.Symbol.{Symbol}
 use Rattle.ebpf_object.specs.Objects.{object_as, parse_fault_as}
 use Rattle.ebpf_object.specs.declared.object.Object.{Object}
+use Rattle.ebpf_parsing.specs.FileTypes.{types_section, ext_section}
+use Rattle.ebpf_parsing.specs.Records.{func_info_of, line_info_of, is_func_at, is_line_in, slot_of_func, slot_of_line, slot_of, rises_from}
+use Rattle.ebpf_parsing.specs.Sections.{is_kind_of_code, first_section_named}
+use Rattle.ebpf_parsing.specs.Symbols.{is_text_symbol}
 use Rattle.ebpf_parts.specs.Maps.{bytes_of}
+use Rattle.ebpf_parts.specs.Sections.{kind_of_section, name_or_empty}
 use Rattle.ebpf_parts.specs.declared.maps.either.Map.{Map}
 use Rattle.ebpf_parts.specs.declared.reading.Reading.{Reading}
+use Rattle.ebpf_parts.specs.declared.section_kind.EbpfSectionKind.{EbpfSectionKind}
+use Rattle.ebpf_parts.specs.declared.section_kind.EbpfSectionKind.TheVariants.{Maps, BtfMaps, Data, Rodata, Bss, Text, Program as Programs}
+
+-- the sum of what each item counts
+abbrev pub total : {X : Type 0} → (X → ℕ) → List X → ℕ
+total f [] = 0
+total f (x ∷ xs) = f x + total f xs
+
+-- ---- how many bytes the records of `.BTF.ext` take in an object: 8 of func info, 16 of line info and of CO-RE relocations
+
+abbrev pub funcs_row : List ℕ × FuncSecInfo → ℕ
+funcs_row e = 8 * length e.1.func_info
+
+abbrev pub lines_row : List ℕ × LineSecInfo → ℕ
+lines_row e = 16 * length e.1.line_info
+
+abbrev pub core_row : ℕ × List Relocation → ℕ
+core_row e = 16 * length e.1
+
+abbrev pub ext_bytes : Option ExtInfo → ℕ
+ext_bytes None = 0
+ext_bytes (Some ext) = total funcs_row (entries ext.func_info) + total lines_row (entries ext.line_info) + total core_row ext.relocations
+
+-- ---- how many bytes what is made of a file owns at most: a sum over the headers of its sections, over its symbols and over
+-- its records, which can be taken before anything is made of them. Each entry that is put into a table of the object
+-- counts, also where a later one of its key takes its place
+
+-- ---- names and entries
+
+-- what an entry of a table takes beside its name and its lists
+abbrev pub entry_bytes : ℕ
+entry_bytes = 64
+
+-- the length of a name. One that can't be read counts as the file does: a file with one is refused, and to look for its
+-- end took no longer.
+abbrev pub name_bytes : List ℕ → Option (List ℕ) → ℕ
+name_bytes file None = length file
+name_bytes file (Some name) = length name
+
+-- an entry by a name
+abbrev pub named_bytes : List ℕ → Option (List ℕ) → ℕ
+named_bytes file name = entry_bytes + name_bytes file name
+
+-- ---- the license and the type information
+
+-- the license's section, or the three letters of `GPL`
+abbrev pub license_in : Option SectionOf → ℕ
+license_in None = 3
+license_in (Some s) = length (readable_data s)
+
+unfoldable pub license_bytes : List ℕ → ℕ
+license_bytes file = license_in (first_section_named (codes "license") file)
+
+-- the types and the strings of `.BTF`, whose lengths its header has (btf_header's type_len and str_len)
+abbrev pub types_in_bytes : Endianness → List ℕ → Option TypeInfo → ℕ
+types_in_bytes o bytes None = 0
+types_in_bytes o bytes (Some types) = if nat_lt (length bytes) 24 then 0 else word o bytes 12 + word o bytes 20
+
+-- the three parts of `.BTF.ext`
+abbrev pub part_bytes : Endianness → List ℕ → ℕ → ℕ
+part_bytes o bytes at = if nat_lt (length bytes) (at + 8) then 0 else part_length o bytes at
+
+abbrev pub ext_in_bytes : Endianness → List ℕ → Option ExtInfo → ℕ
+ext_in_bytes o bytes None = 0
+ext_in_bytes o bytes (Some ext) = part_bytes o bytes func_part + part_bytes o bytes line_part + part_bytes o bytes core_relo_part
+
+-- both, where they can be read, and an entry for what externs add to the types
+unfoldable pub type_information_bytes : List ℕ → ℕ
+type_information_bytes file =
+    entry_bytes
+    + types_in_bytes (ei_data file) (data_in (types_section file)) (readable_types file)
+    + ext_in_bytes (ei_data file) (data_in (ext_section file)) (readable_ext file)
+
+-- ---- sections
+
+-- a section's index by its name
+unfoldable pub section_entry_bytes : List ℕ → SectionOf → ℕ
+section_entry_bytes file s = named_bytes file (section_name s)
+
+-- what a section has for its symbols
+pub record SectionFacts : Type 0 where
+  pub kind : EbpfSectionKind
+  pub address : ℕ
+  pub size : ℕ
+  pub funcs : List bpf_func_info
+  pub lines : List bpf_line_info
+
+unfoldable pub facts_of : Option ExtInfo → SectionOf → SectionFacts
+facts_of ext s = record {
+  kind = kind_of_section (name_or_empty s) (header s);
+  address = (header s).sh_addr;
+  size = (header s).sh_size;
+  funcs = (func_info_at (func_info_of ext) (name_or_empty s)).func_info;
+  lines = (line_info_at (line_info_of ext) (name_or_empty s)).line_info;
+}
+
+-- the records of a section: 8 bytes each of func info, 16 each of line info
+abbrev pub record_bytes : ℕ → ℕ → ℕ
+record_bytes funcs lines = 8 * funcs + 16 * lines
+
+-- a section of data is a map of its name with its data, `.bss` too; the records of a section of code are gathered
+abbrev pub contents_by : EbpfSectionKind → ℕ → SectionFacts → ℕ
+contents_by Data named f = named + f.size
+contents_by Rodata named f = named + f.size
+contents_by Bss named f = named + f.size
+contents_by Text named f = record_bytes (length f.funcs) (length f.lines)
+contents_by Programs named f = record_bytes (length f.funcs) (length f.lines)
+contents_by _ named f = 0
+
+unfoldable pub contents_bytes : List ℕ → Option ExtInfo → SectionOf → ℕ
+contents_bytes file ext s = contents_by (facts_of ext s).kind (named_bytes file (section_name s)) (facts_of ext s)
+
+-- ---- symbols
+
+-- how many func records a function has that begins at a slot: those at its slot, where the section's are in order
+abbrev pub func_count : SectionFacts → ℕ → ℕ
+func_count f first =
+    if rises_from slot_of_func 0 f.funcs then length (filter (is_func_at first) f.funcs) else length f.funcs
+
+-- how many line records a function of so many slots has
+abbrev pub line_count : SectionFacts → ℕ → ℕ → ℕ
+line_count f first count =
+    if rises_from slot_of_line 0 f.lines then length (filter (is_line_in first count) f.lines) else length f.lines
+
+-- where a symbol of an address stands in a section; a text section may begin again at address 0
+abbrev pub offset_by : EbpfSectionKind → ℕ → ℕ → ℕ
+offset_by Text start address = (address + (2 ^ 64 - start % 2 ^ 64)) % 2 ^ 64
+offset_by _ start address = address - start
+
+-- the slot of its section that a symbol stands at
+abbrev pub first_slot : SectionFacts → SymbolEntry → ℕ
+first_slot f e = slot_of (offset_by f.kind f.address e.st_value)
+
+-- the code of a function: no more than its section
+abbrev pub code_bytes : SectionFacts → SymbolEntry → ℕ
+code_bytes f e = min f.size e.st_size
+
+-- a function: an entry by its name, its slots and its records
+unfoldable pub function_bytes : ℕ → SectionFacts → SymbolEntry → ℕ
+function_bytes named f e =
+    named + code_bytes f e + record_bytes (func_count f (first_slot f e)) (line_count f (first_slot f e) (slot_of e.st_size))
+
+-- what a symbol gives by its section: a function, and a program with the license; or a map
+abbrev pub placed_by : EbpfSectionKind → Bool → ℕ → ℕ → SectionFacts → SymbolEntry → ℕ
+placed_by Text true license named f e = function_bytes named f e
+placed_by Programs true license named f e = function_bytes named f e + named + license
+placed_by Maps is_text license named f e = named
+placed_by BtfMaps is_text license named f e = named
+placed_by _ is_text license named f e = 0
+
+abbrev pub placed_in : Option SectionFacts → ℕ → ℕ → SymbolEntry → ℕ
+placed_in None license named e = 0
+placed_in (Some f) license named e = placed_by f.kind (is_text_symbol (symbol_kind e)) license named f e
+
+-- the facts of the section with an index, from 1 on
+abbrev pub facts_at : List SectionFacts → Option ℕ → Option SectionFacts
+facts_at all None = None
+facts_at all (Some index) = slice_get all (index - 1)
+
+-- a symbol is an entry of the symbols, may name an extern, and gives what stands in its section
+unfoldable pub symbol_bytes : List ℕ → ℕ → List SectionFacts → SymbolOf → ℕ
+symbol_bytes file license all y =
+    2 * named_bytes file (symbol_name y) + placed_in (facts_at all (symbol_section_index (entry y))) license (named_bytes file (symbol_name y)) (entry y)
+
+-- ---- relocations
+
+abbrev pub relocated_kind : Option SectionFacts → Bool
+relocated_kind None = false
+relocated_kind (Some f) = is_kind_of_code f.kind
+
+-- an entry for each relocation of a section of code
+unfoldable pub relocation_bytes : List SectionFacts → SectionOf → ℕ
+relocation_bytes all r = if relocated_kind (facts_at all (Some (relocated_section r))) then entry_bytes * entry_count r else 0
+
+-- ---- the sum
+
+-- the facts of all sections
+abbrev pub all_facts : List ℕ → List SectionFacts
+all_facts file = map (facts_of (readable_ext file)) (sections file)
+
+abbrev pub made_bytes : List ℕ → ℕ
+made_bytes file =
+    (license_bytes file + total (section_entry_bytes file) (sections file))
+    + (type_information_bytes file
+    + total (contents_bytes file (readable_ext file)) (sections file)
+    + (total (symbol_bytes file (license_bytes file) (all_facts file)) (symbols file)
+    + total (relocation_bytes (all_facts file)) (relocation_sections file)))
+
+-- ---- how many bytes an object owns: its texts, its lists and its data, and an entry of 64 bytes for each row of its tables
 
 -- ---- a row of a table, by its key
 

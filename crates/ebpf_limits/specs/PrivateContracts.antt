@@ -1,14 +1,13 @@
 -- What contracts of private functions name and no public one.
 use Rattle.std.specs.Prelude.{◌≡◌, ◌+◌, ◌<◌, ℕ, List, Option, Some, None, unwrap_or}
 use Rattle.std.specs.FinMap.{FinMap, empty}
-use Rattle.ebpf_limits.specs.Sums.{total}
+use Rattle.ebpf_limits.specs.OwnedBytes.{total, all_facts, license_bytes, type_information_bytes, section_entry_bytes, contents_bytes, symbol_bytes, relocation_bytes}
 use Rattle.ebpf_base.specs.Keys.{text_cmp}
 use Rattle.ebpf_elf.specs.Relocations.{relocation_sections}
 use Rattle.ebpf_elf.specs.Sections.{sections}
 use Rattle.ebpf_elf.specs.Symbols.{symbols}
 use Rattle.ebpf_ext.specs.declared.ext_infos.FuncSecInfo.{FuncSecInfo}
 use Rattle.ebpf_ext.specs.declared.ext_infos.LineSecInfo.{LineSecInfo}
-use Rattle.ebpf_limits.specs.MadeBytes.{all_facts, license_bytes, type_information_bytes, section_entry_bytes, contents_bytes, symbol_bytes, relocation_bytes}
 use Rattle.ebpf_limits.specs.ReadableData.{readable_ext}
 
 -- records that may have been found

@@ -1,15 +1,15 @@
 -- What can be read of a file's sections before any other fault of the file is known. Data outside the file, and type
 -- information with a fault, is none here: a file with such a section is refused.
-use Rattle.std.specs.Prelude.{ℕ, List, [], length, Option, Some, None, codes, is_some, if◌then◌else◌}
+use Rattle.std.specs.Prelude.{ℕ, List, [], Option, Some, None, is_some, if◌then◌else◌}
 use Rattle.std.specs.Result.{result_ok}
 use Rattle.ebpf_base.specs.Faults.{first_of}
 use Rattle.ebpf_btf.specs.Reading.{type_info_of}
 use Rattle.ebpf_btf.specs.TypeInfo.{TypeInfo}
-use Rattle.ebpf_elf.specs.File.{ei_data}
+use Rattle.ebpf_elf.specs.Headers.{ei_data}
 use Rattle.ebpf_elf.specs.Sections.{SectionOf, data_faults, data_of}
 use Rattle.ebpf_ext.specs.ExtReading.{ExtInfo, read_ext}
 use Rattle.ebpf_parsing.specs.FileTypes.{types_section, ext_section}
-use Rattle.ebpf_parsing.specs.LicenseAndVersion.{first_section_named}
+use Rattle.ebpf_parsing.specs.Sections.{first_section_named}
 
 -- the data of a section
 unfoldable pub readable_data : SectionOf → List ℕ

@@ -1,8 +1,8 @@
 -- Parsing within a limit: the first fault of a file beside it.
-use Rattle.std.specs.Prelude.{◌≢◌, ◌≡◌, ℕ, List, Option, Some, None, option_map, nat_lt, if◌then◌else◌}
+use Rattle.std.specs.Prelude.{◌≢◌, ℕ, List, Option, Some, None, option_map, nat_lt, if◌then◌else◌}
 use Rattle.ebpf_base.specs.Faults.{or_else, first_in}
 use Rattle.ebpf_elf.specs.Faults.{faults}
-use Rattle.ebpf_limits.specs.MadeBytes.{made_bytes}
+use Rattle.ebpf_limits.specs.OwnedBytes.{made_bytes}
 use Rattle.ebpf_object.specs.Objects.{parse_fault_as}
 use Rattle.ebpf_parts.specs.declared.error.ParseError.{ParseError}
 use Rattle.ebpf_parts.specs.declared.error.ParseError.TheVariants.{ElfError, TooLarge}

@@ -3,12 +3,11 @@
 ghost use Rattle.std.specs.Prelude.{◌≡◌, ◌<◌, ◌^◌};
 ghost use Rattle.ebpf_elf.specs.Sections.{header};
 ghost use Rattle.ebpf_elf.specs.Symbols.{entry, symbol_kind};
-ghost use Rattle.ebpf_limits.specs.MadeBytes.{contents_by, func_count, line_count, first_slot, offset_by, code_bytes, function_bytes, placed_by, record_bytes};
-ghost use Rattle.ebpf_parsing.specs.Records.{slot_of_func, slot_of_line};
-ghost use Rattle.ebpf_parsing.specs.RecordsBySlot.{rises_from};
+ghost use Rattle.ebpf_limits.specs.OwnedBytes.{contents_by, func_count, line_count, first_slot, offset_by, function_bytes, placed_by, record_bytes};
+ghost use Rattle.ebpf_parsing.specs.Records.{slot_of_func, slot_of_line, rises_from};
 ghost use Rattle.ebpf_parsing.specs.Symbols.{is_text_symbol};
 
-use crate::by_slot::count_among;
+use crate::found_records::count_among;
 use ebpf_elf::{ElfSection, ElfSymbol, SymbolKind};
 use ebpf_ext::{bpf_func_info, bpf_line_info};
 use ebpf_parsing::is_in_order;
@@ -33,7 +32,7 @@ pub struct Facts<'e> {
 }
 
 impl<'e> Model for Facts<'e> {
-    ghost use Rattle.ebpf_limits.specs.MadeBytes.{SectionFacts};
+    ghost use Rattle.ebpf_limits.specs.OwnedBytes.{SectionFacts};
 
     ghost Value = { SectionFacts };
 
@@ -104,7 +103,7 @@ impl<'e> Facts<'e> {
     }
 
     /// The bytes of a symbol's function.
-    #[tactic(auto, unfolding(crate::specs::MadeBytes::function_bytes))]
+    #[tactic(auto, unfolding(crate::specs::OwnedBytes::function_bytes))]
     fn function_bytes(&self, named: u128, symbol: &ElfSymbol<'_>) -> u128
         requires { named < 2 ^ 65 }
         ensures exact { result ≡ function_bytes named self.now (entry symbol.now) }

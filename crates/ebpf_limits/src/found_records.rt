@@ -1,16 +1,27 @@
 //! The records of a file's sections of code, found by the sections' names.
 
-ghost use Rattle.std.specs.Prelude.{◌≡◌, IfOk};
-ghost use Rattle.ebpf_ext.specs.ExtInfos.{func_info_at, line_info_at};
+ghost use Rattle.std.specs.Prelude.{◌≡◌, true, filter, length, IfOk};
+ghost use Rattle.ebpf_ext.specs.ExtReading.{func_info_at, line_info_at};
 ghost use Rattle.ebpf_limits.specs.PrivateContracts.{found_funcs, found_lines};
-ghost use Rattle.ebpf_parsing.specs.Records.{func_info_of, line_info_of};
+ghost use Rattle.ebpf_parsing.specs.Records.{is_among_slots, rises_from, func_info_of, line_info_of};
 
-use crate::names::name_or_empty;
+use crate::symbols::name_or_empty;
 use ebpf_elf::ElfFile;
 use ebpf_ext::{BtfExt, FoundSections, FuncSecInfo, LineSecInfo, bpf_func_info, bpf_line_info};
+use ebpf_parsing::{NamesSlot, lower_bound};
 use ebpf_parts::EbpfSectionKind;
 use std::alloc::{AllocError, Global};
 use std::marker::Model;
+
+/// How many rows name one of so many slots from a slot on.
+pub fn count_among<R: NamesSlot>(rows: &[R], first: u64, count: u64) -> usize
+    requires { rises_from R.slot_of 0 rows.now ≡ true }
+    ensures { result ≡ length (filter (is_among_slots R.slot_of first count) rows.now) }
+{
+    let start = lower_bound(rows, u128::from(first));
+    let end = lower_bound(rows, u128::from(first) + u128::from(count));
+    end - start
+}
 
 /// The names of a file's sections of code.
 fn code_names<'a>(alloc: Global, file: &ElfFile<'a>) -> Result<Vec<&'a str>, AllocError> {
@@ -26,7 +37,7 @@ fn code_names<'a>(alloc: Global, file: &ElfFile<'a>) -> Result<Vec<&'a str>, All
 }
 
 /// The func records of the section with a name.
-#[tactic(auto, using(crate::proofs::NoRecords::no_funcs))]
+#[tactic(auto, using(crate::proofs::OwnedRecords::no_funcs))]
 fn funcs_in<'e>(found: &Option<FoundSections<'e, FuncSecInfo>>, name: &str) -> &'e [bpf_func_info]
     ensures { result.now ≡ (func_info_at (found_funcs found.now) name.now).func_info }
 {
@@ -40,7 +51,7 @@ fn funcs_in<'e>(found: &Option<FoundSections<'e, FuncSecInfo>>, name: &str) -> &
 }
 
 /// The line records of the section with a name.
-#[tactic(auto, using(crate::proofs::NoRecords::no_lines))]
+#[tactic(auto, using(crate::proofs::OwnedRecords::no_lines))]
 fn lines_in<'e>(found: &Option<FoundSections<'e, LineSecInfo>>, name: &str) -> &'e [bpf_line_info]
     ensures { result.now ≡ (line_info_at (found_lines found.now) name.now).line_info }
 {

@@ -10,6 +10,7 @@ pub fn parsing_has_no_limit()
 
 /// What the object of a file owns is no more than what `parse_within` counts of the file: what an object that `parse_within`
 /// gives owns is within the limit.
+#[tactic(auto, using(crate::proofs::OwnedObjects::own_what_is_made))]
 pub fn objects_own_what_is_made()
     ensures { ObjectsOwnWhatIsMade }
 {}

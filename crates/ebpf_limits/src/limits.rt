@@ -3,8 +3,7 @@
 ghost use Rattle.std.specs.Prelude.{◌≡◌, ◌≤◌, ◌<◌, ◌^◌, IfOk, OnOk, length, option_map};
 ghost use Rattle.ebpf_base.specs.Faults.{Refuses, fault_of, first_in};
 ghost use Rattle.ebpf_elf.specs.Faults.{faults};
-ghost use Rattle.ebpf_limits.specs.MadeBytes.{made_bytes};
-ghost use Rattle.ebpf_limits.specs.OwnedBytes.{owned_bytes};
+ghost use Rattle.ebpf_limits.specs.OwnedBytes.{made_bytes, owned_bytes};
 ghost use Rattle.ebpf_limits.specs.Within.{size_fault, within_fault};
 ghost use Rattle.ebpf_object.specs.Objects.{object_as};
 ghost use Rattle.ebpf_parts.specs.Memory.{is_parse_memory};

@@ -1,18 +1,17 @@
 //! Whether what is made of a file fits a limit.
 
-ghost use Rattle.std.specs.Prelude.{◌≡◌, ◌+◌, ◌<◌, IfOk, nat_le};
+ghost use Rattle.std.specs.Prelude.{◌≡◌, ◌+◌, ◌<◌, IfOk, nat_le, Some};
 ghost use Rattle.std.specs.Bool.{OnTrue, OnFalse};
-ghost use Rattle.ebpf_limits.specs.MadeBytes.{all_facts, made_bytes};
+ghost use Rattle.ebpf_elf.specs.Relocations.{relocation_sections, relocated_section};
+ghost use Rattle.ebpf_limits.specs.OwnedBytes.{all_facts, made_bytes, total, facts_at, relocated_kind, relocation_bytes};
 ghost use Rattle.ebpf_limits.specs.PrivateContracts.{first_bytes, later_bytes, last_bytes};
 
 use crate::facts::Facts;
 use crate::found_records::FoundRecords;
 use crate::readable::{license_bytes, readable_ext, readable_types, type_information_bytes};
-use crate::relocations::take_relocations;
-use crate::room::Room;
-use crate::sections::{take_names, take_sections};
-use crate::symbols::take_symbols;
-use ebpf_elf::ElfFile;
+use crate::symbols::{ENTRY, facts_at, take_names, take_sections, take_symbols};
+use ebpf_elf::{ElfFile, ElfRelocationSection};
+use ebpf_parts::EbpfSectionKind;
 use std::alloc::{AllocError, Global};
 
 /// Takes the names of sections and the license. The names come first: sections are looked for by their names then.
@@ -72,4 +71,58 @@ pub fn fits(
         return Ok(false);
     }
     take_later(alloc, &mut room, bytes, file)
+}
+
+/// Whether the section that relocations patch is one of code.
+fn patches_code(all: &[Facts<'_>], section: &ElfRelocationSection<'_>) -> bool
+    ensures { result ≡ relocated_kind (facts_at all.now (Some (relocated_section section.now))) }
+{
+    match facts_at(all, Some(section.target())) {
+        Some(facts) => matches!(facts.kind, EbpfSectionKind::Text | EbpfSectionKind::Program),
+        None => false,
+    }
+}
+
+/// The bytes of the entries of a section of relocations.
+#[tactic(auto, unfolding(crate::specs::OwnedBytes::relocation_bytes))]
+fn relocation_bytes(all: &[Facts<'_>], section: &ElfRelocationSection<'_>) -> u128
+    ensures { result ≡ relocation_bytes all.now section.now }
+{
+    if !patches_code(all, section) {
+        return 0;
+    }
+    ENTRY * section.extent().count as u128
+}
+
+/// Takes an entry for each relocation of a section of code.
+pub fn take_relocations(room: &mut Room, file: &ElfFile<'_>, all: &[Facts<'_>]) -> bool
+    ensures fits { OnTrue result (room.new.left + total (relocation_bytes all.now) (relocation_sections file.now) ≡ room.old.left) }
+    ensures over { OnFalse result (room.old.left < total (relocation_bytes all.now) (relocation_sections file.now)) }
+{
+    for section in file.relocation_sections() {
+        if !room.take(relocation_bytes(all, &section)) {
+            return false;
+        }
+    }
+    true
+}
+
+/// How many bytes may still be made. It counts down, since a sum over a file may pass 64 bits.
+#[derive(Drop)]
+pub struct Room {
+    pub left: u64,
+}
+
+impl Room {
+    /// Takes so many bytes. `false` where there are not as many; then nothing is taken.
+    pub fn take(&mut self, bytes: u128) -> bool
+        ensures taken { OnTrue result (self.new.left + bytes ≡ self.old.left) }
+        ensures over { OnFalse result (self.old.left < bytes) }
+    {
+        if u128::from(self.left) < bytes {
+            return false;
+        }
+        self.left -= bytes as u64;
+        true
+    }
 }

@@ -4,10 +4,10 @@ ghost use Rattle.std.specs.Prelude.{◌≡◌, ◌<◌, ◌≤◌, ◌^◌, IfOk
 ghost use Rattle.std.specs.Result.{result_ok};
 ghost use Rattle.ebpf_btf.specs.Reading.{type_info_of};
 ghost use Rattle.ebpf_ext.specs.ExtReading.{read_ext};
-ghost use Rattle.ebpf_limits.specs.MadeBytes.{license_bytes, type_information_bytes, types_in_bytes, part_bytes, ext_in_bytes};
+ghost use Rattle.ebpf_limits.specs.OwnedBytes.{license_bytes, type_information_bytes, types_in_bytes, part_bytes, ext_in_bytes};
 ghost use Rattle.ebpf_limits.specs.ReadableData.{readable_data, data_named, readable_types, readable_ext};
 
-use crate::names::ENTRY;
+use crate::symbols::ENTRY;
 use ebpf_base::numbers::read_u32;
 use ebpf_btf::{Btf, BtfError, Endianness};
 use ebpf_elf::{ElfFile, ElfSection};
@@ -92,7 +92,7 @@ pub fn readable_ext(
 }
 
 /// How many bytes the license of a file takes, once.
-#[tactic(auto, unfolding(crate::specs::MadeBytes::license_bytes))]
+#[tactic(auto, unfolding(crate::specs::OwnedBytes::license_bytes))]
 pub fn license_bytes(file: &ElfFile<'_>) -> usize
     ensures { result ≡ license_bytes file.now }
 {
@@ -138,7 +138,7 @@ fn ext_bytes(order: Endianness, bytes: &[u8], ext: &Option<BtfExt>) -> u128
 }
 
 /// How many bytes the type information of a file takes.
-#[tactic(auto, unfolding(crate::specs::MadeBytes::type_information_bytes))]
+#[tactic(auto, unfolding(crate::specs::OwnedBytes::type_information_bytes))]
 pub fn type_information_bytes(file: &ElfFile<'_>, types: &Option<Btf>, ext: &Option<BtfExt>) -> u128
     requires types { types.now ≡ readable_types file.now }
     requires ext { ext.now ≡ readable_ext file.now }

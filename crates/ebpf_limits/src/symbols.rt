@@ -1,16 +1,20 @@
-//! The symbols of a file.
+//! How many bytes symbols, their names and sections come to.
 
-ghost use Rattle.std.specs.Prelude.{◌≡◌, ◌+◌, ◌<◌, ◌^◌};
+ghost use Rattle.std.specs.Prelude.{◌≡◌, ◌+◌, ◌<◌, ◌^◌, ◌*◌, map, IfOk, IfSome};
 ghost use Rattle.std.specs.Bool.{OnTrue, OnFalse};
-ghost use Rattle.ebpf_limits.specs.Sums.{total};
 ghost use Rattle.std.specs.Option.{option_copied};
-ghost use Rattle.ebpf_elf.specs.Symbols.{entry, symbols, symbol_section_index};
-ghost use Rattle.ebpf_limits.specs.MadeBytes.{facts_at, placed_in, symbol_bytes};
+ghost use Rattle.ebpf_elf.specs.Sections.{section_name, sections};
+ghost use Rattle.ebpf_elf.specs.Symbols.{entry, symbols, symbol_name};
+ghost use Rattle.ebpf_limits.specs.OwnedBytes.{total, facts_at, placed_in, symbol_bytes, named_bytes, section_entry_bytes, contents_bytes, facts_of};
+ghost use Rattle.ebpf_limits.specs.PrivateContracts.{Took};
+ghost use Rattle.ebpf_parts.specs.Sections.{name_or_empty};
 
-use crate::facts::Facts;
-use crate::names::symbol_named_bytes;
-use crate::room::Room;
-use ebpf_elf::{ElfFile, ElfSymbol};
+use crate::facts::{Facts, contents_bytes};
+use crate::found_records::FoundRecords;
+use crate::made::Room;
+use ebpf_elf::{ElfFile, ElfSection, ElfSymbol};
+use ebpf_parts::EbpfSectionKind;
+use std::alloc::{AllocError, Global};
 
 /// What the section with an index, from 1 on, has for its symbols.
 pub fn facts_at<'f, 'e>(all: &'f [Facts<'e>], index: Option<usize>) -> Option<&'f Facts<'e>>
@@ -37,7 +41,7 @@ fn placed_bytes(
 }
 
 /// The bytes of what a symbol gives.
-#[tactic(auto, unfolding(crate::specs::MadeBytes::symbol_bytes))]
+#[tactic(auto, unfolding(crate::specs::OwnedBytes::symbol_bytes))]
 fn symbol_bytes(bytes: &[u8], license: usize, all: &[Facts<'_>], symbol: &ElfSymbol<'_>) -> u128
     ensures { result ≡ symbol_bytes bytes.now license all.now symbol.now }
 {
@@ -63,4 +67,103 @@ pub fn take_symbols(
         }
     }
     true
+}
+
+/// What an entry of a table takes beside its name and its lists, in bytes.
+pub const ENTRY: u128 = 64;
+
+/// The name of a section, empty where it can't be read.
+pub fn name_or_empty<'a>(section: &ElfSection<'a>) -> &'a str
+    ensures { result.now ≡ name_or_empty section.now }
+{
+    match section.name() {
+        Ok(name) => name,
+        Err(_) => "",
+    }
+}
+
+/// The bytes of an entry by a section's name.
+pub fn section_named_bytes(bytes: &[u8], section: &ElfSection<'_>) -> u128
+    ensures exact { result ≡ named_bytes bytes.now (section_name section.now) }
+    ensures few { result < 2 ^ 65 }
+{
+    match section.name() {
+        Ok(name) => ENTRY + name.len() as u128,
+        Err(_) => ENTRY + bytes.len() as u128,
+    }
+}
+
+/// The bytes of an entry by a symbol's name.
+pub fn symbol_named_bytes(bytes: &[u8], symbol: &ElfSymbol<'_>) -> u128
+    ensures exact { result ≡ named_bytes bytes.now (symbol_name symbol.now) }
+    ensures few { result < 2 ^ 65 }
+{
+    match symbol.name() {
+        Ok(name) => ENTRY + name.len() as u128,
+        Err(_) => ENTRY + bytes.len() as u128,
+    }
+}
+
+/// The bytes of a section's index by its name.
+#[tactic(auto, unfolding(crate::specs::OwnedBytes::section_entry_bytes))]
+fn entry_bytes(bytes: &[u8], section: &ElfSection<'_>) -> u128
+    ensures { result ≡ section_entry_bytes bytes.now section.now }
+{
+    section_named_bytes(bytes, section)
+}
+
+/// Takes the sections' entries by their names. No name is read behind the one that passes the limit.
+pub fn take_names(room: &mut Room, bytes: &[u8], file: &ElfFile<'_>) -> bool
+    ensures fits { OnTrue result (room.new.left + total (section_entry_bytes bytes.now) (sections file.now) ≡ room.old.left) }
+    ensures over { OnFalse result (room.old.left < total (section_entry_bytes bytes.now) (sections file.now)) }
+{
+    for section in file.sections() {
+        if !room.take(entry_bytes(bytes, &section)) {
+            return false;
+        }
+    }
+    true
+}
+
+/// Takes what a section gives itself, and what it has for its symbols. Its records are looked at once they are taken.
+#[tactic(auto, unfolding(crate::specs::OwnedBytes::contents_bytes, crate::specs::OwnedBytes::facts_of))]
+fn take_section<'e>(
+    room: &mut Room,
+    bytes: &[u8],
+    records: &FoundRecords<'e>,
+    section: &ElfSection<'_>,
+) -> Option<Facts<'e>>
+    ensures taken { Took result room.old.left room.new.left (contents_bytes bytes.now records.now section.now) }
+    ensures facts { IfSome result (λ facts. facts ≡ facts_of records.now section.now) }
+{
+    let name = name_or_empty(section);
+    let kind = EbpfSectionKind::from_elf(name, section);
+    let funcs = records.funcs(name);
+    let lines = records.lines(name);
+    let named = section_named_bytes(bytes, section);
+    if !room.take(contents_bytes(kind, named, section, funcs, lines)) {
+        return None;
+    }
+    Some(Facts::new(kind, section, funcs, lines))
+}
+
+/// Takes what the sections give themselves, and what each has for its symbols. None where that passes the limit.
+pub fn take_sections<'e>(
+    alloc: Global,
+    room: &mut Room,
+    bytes: &[u8],
+    file: &ElfFile<'_>,
+    records: &FoundRecords<'e>,
+) -> Result<Option<Vec<Facts<'e>>>, AllocError>
+    ensures taken { IfOk result (λ all. Took all room.old.left room.new.left (total (contents_bytes bytes.now records.now) (sections file.now))) }
+    ensures facts { IfOk result (λ all. IfSome all (λ facts. facts.items ≡ map (facts_of records.now) (sections file.now))) }
+{
+    let mut all = Vec::new(alloc);
+    for section in file.sections() {
+        let Some(facts) = take_section(room, bytes, records, &section) else {
+            return Ok(None);
+        };
+        all.push(facts)?;
+    }
+    Ok(Some(all))
 }

@@ -1,5 +1,5 @@
 -- What `ebpf link --bytes` writes: the lines of `ebpf-link`, but for names as they are shown.
-use Rattle.std.specs.Prelude.{◌≡◌, ℕ, List, [], Option, Some, None, map}
+use Rattle.std.specs.Prelude.{ℕ, List, [], Option, Some, None, map}
 use Rattle.std.specs.Io.KnownBytes.{Appends}
 use Rattle.std.specs.List.{flat_map}
 use Rattle.ebpf_btf.specs.TypeInfo.{TypeInfo}
@@ -10,7 +10,7 @@ use Rattle.ebpf_model.specs.declared.function.Function.{Function}
 use Rattle.ebpf_object.specs.Headline.{Headline}
 use Rattle.ebpf_object.specs.Objects.{object_as}
 use Rattle.ebpf_object.specs.Prepared.{Stages}
-use Rattle.ebpf_object.specs.Steps.{Chosen}
+use Rattle.ebpf_object.specs.Stages.{Chosen}
 use Rattle.ebpf_object.specs.declared.object.Object.{Object}
 use Rattle.ebpf_parts.specs.declared.reading.Reading.TheVariants.{Broad}
 use Rattle.ebpf_report.specs.Shown.{shown}

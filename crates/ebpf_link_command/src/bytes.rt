@@ -11,15 +11,24 @@ ghost use Rattle.ebpf_object.specs.Prepared.{IsParsed};
 ghost use Rattle.ebpf_parts.specs.declared.reading.Reading.TheVariants.{Broad};
 ghost use Rattle.ebpf_report.specs.Shown.{shown};
 
-use crate::failure::BytesFailure;
 use ebpf_commands::{function_named, write_slots};
 use ebpf_object::Object;
+use ebpf_object::prepare::PrepareError;
 use ebpf_parts::insn::bpf_insn;
 use ebpf_prepared::{Kernel, finished_object};
 use ebpf_report::names::Shown;
 use ebpf_report::programs::ObjectProgram;
 use std::alloc::Global;
 use std::io::{self, Write};
+
+/// Why programs aren't written as bytes, or not all.
+#[derive(Drop)]
+pub enum BytesFailure {
+    /// A pass refuses the object.
+    Preparing(PrepareError),
+    /// The writer failed.
+    Output(io::Error),
+}
 
 /// Writes the line of a program: its name as it is shown, and the number of its slots.
 fn write_head<W: Write>(out: &mut W, name: &str, slots: &[bpf_insn]) -> io::Result<()>

@@ -9,7 +9,7 @@ use ebpf_disassembly::{Operation, decode};
 use ebpf_origins::lines::LineNumber;
 use ebpf_reloc::CodeCopy;
 use ebpf_report::names::{Shown, last_part};
-use ebpf_report::stop::Stop;
+use ebpf_report::refuse::Stop;
 use std::io::{self, Write};
 
 /// The slot of its function to which a jump leads, where it is one of the function's.

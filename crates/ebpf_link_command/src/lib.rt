@@ -2,7 +2,6 @@
 #![tactic(auto)]
 
 mod bytes;
-mod failure;
 mod instructions;
 mod linked;
 mod names;
@@ -10,7 +9,5 @@ mod notes;
 mod origins;
 mod record_words;
 mod run;
-mod words;
 
-pub use run::link;
-pub use words::LinkWords;
+pub use run::{LinkWords, link};

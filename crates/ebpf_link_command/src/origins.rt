@@ -8,7 +8,7 @@ use ebpf_object::Object;
 use ebpf_parts::Relocation;
 use ebpf_parts::insn::bpf_insn;
 use ebpf_parts::insn::opcodes::{BPF_PSEUDO_MAP_FD, BPF_PSEUDO_MAP_VALUE, CALL, LD_IMM64};
-use ebpf_report::helper_names::helper_name;
+use ebpf_report::helper_calls::helper_name;
 use ebpf_report::names::Shown;
 use std::alloc::{AllocError, Global};
 

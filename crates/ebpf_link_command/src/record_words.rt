@@ -3,11 +3,10 @@
 use crate::notes::{Note, Written};
 use ebpf_btf::Btf;
 use ebpf_ext::{Relocation, RelocationKind};
-use ebpf_origins::answers::{absence_words, has_sign};
-use ebpf_origins::record_names::Asked;
+use ebpf_origins::record_names::{Asked, absence_words, has_sign};
 use ebpf_report::kinds::Kind;
-use ebpf_report::names::Shown;
-use ebpf_report::stop::Stop;
+use ebpf_report::names::{Shown, write_value};
+use ebpf_report::refuse::Stop;
 use std::alloc::{AllocError, Global};
 use std::io::{self, Write};
 
@@ -47,15 +46,6 @@ impl Question {
             kind: relocation.kind,
         }
     }
-}
-
-/// Writes a value.
-fn write_value<W: Write>(out: &mut W, is_signed: bool, value: u64) -> io::Result<()> {
-    if is_signed {
-        let value = value.cast_signed();
-        return write!(out, "{value}");
-    }
-    write!(out, "{value}")
 }
 
 impl RecordWords {

@@ -1,13 +1,11 @@
 //! The programs of an object's file, linked and written.
 
-use crate::bytes::write_finished;
-use crate::failure::BytesFailure;
+use crate::bytes::{BytesFailure, write_finished};
 use crate::instructions::write_instructions;
 use crate::linked::Linked;
 use crate::notes::RecordNotes;
 use crate::origins::Origins;
 use crate::record_words::RecordTeller;
-use crate::words::LinkWords;
 use ebpf_model::Function;
 use ebpf_object::Object;
 use ebpf_prepared::{
@@ -16,9 +14,20 @@ use ebpf_prepared::{
 use ebpf_reloc::LinkMap;
 use ebpf_report::names::Shown;
 use ebpf_report::programs::ObjectProgram;
-use ebpf_report::stop::Stop;
+use ebpf_report::refuse::Stop;
 use std::alloc::Global;
 use std::io::{self, BufWriter, Write};
+
+/// What `ebpf link` is to do.
+#[derive(Drop)]
+pub struct LinkWords {
+    /// What is linked, and for which kernel.
+    pub prepare: PrepareWords,
+    /// Whether slots are written as bytes.
+    pub bytes: bool,
+    /// Whether instructions stand under their source lines.
+    pub lines: bool,
+}
 
 /// Writes a program as instructions.
 fn write_linked<'a, W: Write>(

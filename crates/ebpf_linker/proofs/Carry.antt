@@ -1,42 +1,33 @@
 -- What linking gives, from functions by their numbers to functions by their keys.
 use Rattle.std.proofs.Common.{◌≡◌, ◌≢◌, ℕ, ◌+◌, Bool, true, false, List, [], ◌∷◌, ◌++◌, map, length, Option, Some, None, refl, sym, ap, ◌∙◌, subst, inl, inr, arith}
-use Rattle.std.specs.Prelude.{slice_get, pos, ◌-ℤ◌, if◌then◌else◌, ◌||◌}
+use Rattle.std.specs.Prelude.{option_map, slice_get, pos, ◌-ℤ◌, if◌then◌else◌, ◌||◌}
 use Rattle.ebpf_base.specs.Faults.{first_of}
 use Rattle.ebpf_ext.specs.declared.ext_infos.bpf_func_info.{bpf_func_info}
 use Rattle.ebpf_ext.specs.declared.ext_infos.bpf_line_info.{bpf_line_info}
-use Rattle.ebpf_parts.specs.declared.insn.bpf_insn.{bpf_insn}
-use Rattle.ebpf_linker.specs.declared.body.LinkedProgram.{LinkedProgram}
-use Rattle.ebpf_linker.specs.Slots.{relinked}
-use Rattle.ebpf_linker.specs.Functions.{SlotReference, Nothing, Faulty, Names, References, Functions, FunctionContent, or_empty, content_at, body, Among, Distinct, last_key_or, total, BeginsAt, Becomes, Linked}
+use Rattle.ebpf_linker.proofs.Checked.{checked_names}
+use Rattle.ebpf_linker.proofs.OneResult.{no_longer}
+use Rattle.ebpf_linker.proofs.Renamed.{renamed, Numbers, SameReferences, AllNumbers, number_at, all_numbers, among_to, among_from, last_to, last_number, numbers_of, distinct_from, faulty_from, distinct_to, walk_numbers, reached_number, walk_to, walk_from, simple_to, simple_from, end_from, key_path_to, key_path_from, key_path_number, in_order_to, names_from}
+use Rattle.ebpf_linker.proofs.Visits.{begins_among}
+use Rattle.ebpf_linker.specs.Faults.{same, has_some, func_info_agrees, checked, checked_references, append_fault, Base, FaultStandsAt, Faultless, LeastFault, first_line, content_fault}
+use Rattle.ebpf_linker.specs.Functions.{relinked, SlotReference, Nothing, Faulty, Names, References, Functions, FunctionContent, or_empty, content_at, body, Among, Distinct, last_key_or, total, BeginsAt, Becomes, Linked}
+use Rattle.ebpf_linker.specs.LinkMap.{CopyOf, copies_from, IsReference, AreReferences, IsLinkMap}
 use Rattle.ebpf_linker.specs.Order.{KeyPath}
-use Rattle.ebpf_linker.specs.Faults.{same, has_some, func_info_agrees, checked, checked_references, append_fault, Base, FaultStandsAt, Faultless, LeastFault, first_line}
-use Rattle.ebpf_linker.specs.Faults.{content_fault}
-use Rattle.ebpf_linker.specs.Records.{func_moved, line_moved, func_records, line_records, linked_func_info, linked_line_info, has_lines, count_if}
-use Rattle.ebpf_linker.specs.Answer.{IsOrder, IsLayout}
-use Rattle.ebpf_linker.specs.Result.{IsProgram}
-use Rattle.ebpf_linker.proofs.Numbering.{renamed, Numbers}
-use Rattle.ebpf_linker.proofs.OneBase.{no_longer}
-use Rattle.ebpf_linker.proofs.Plain.{checked_names}
-use Rattle.ebpf_linker.proofs.Renamed.{SameReferences, AllNumbers, number_at, all_numbers, among_to, among_from, last_to, last_number, numbers_of, distinct_from, faulty_from, distinct_to, walk_numbers, reached_number, walk_to, walk_from, simple_to, simple_from, end_from, key_path_to, key_path_from, key_path_number, in_order_to}
+use Rattle.ebpf_linker.specs.PrivateContracts.{key_copy}
+use Rattle.ebpf_linker.specs.Result.{func_moved, line_moved, func_records, line_records, linked_func_info, linked_line_info, has_lines, count_if, IsOrder, IsLayout, IsProgram}
+use Rattle.ebpf_linker.specs.declared.body.LinkedProgram.{LinkedProgram}
+use Rattle.ebpf_linker.specs.declared.link_map.Reference.{Reference}
+use Rattle.ebpf_parts.specs.declared.insn.bpf_insn.{bpf_insn}
 
-some_map : {D E : Type 0} → (D → E) → Option D → Option E
-some_map name None = None
-some_map name (Some d) = Some (name d)
+-- ---- what linking gives, from functions by their numbers to functions by their keys
 
-rows_named : {D E : Type 0} (name : D → E) (b c : Bool) (d f : D) → first_of ((b, name d) ∷ (c, name f) ∷ []) ≡ some_map name (first_of ((b, d) ∷ (c, f) ∷ []))
-unfolding some_map
+rows_named : {D E : Type 0} (name : D → E) (b c : Bool) (d f : D) → first_of ((b, name d) ∷ (c, name f) ∷ []) ≡ option_map name (first_of ((b, d) ∷ (c, f) ∷ []))
 rows_named name true c d f = refl
 rows_named name false true d f = refl
 rows_named name false false d f = refl
 
-some_from : {D E : Type 0} (name : D → E) (o : Option D) (e : E) → some_map name o ≡ Some e → (d : D) × (o ≡ Some d) × (name d ≡ e)
-unfolding some_map
+some_from : {D E : Type 0} (name : D → E) (o : Option D) (e : E) → option_map name o ≡ Some e → (d : D) × (o ≡ Some d) × (name d ≡ e)
 some_from name None e h = cc
 some_from name (Some d) e h = (d, refl, cc)
-
-some_to : {D E : Type 0} (name : D → E) (o : Option D) (d : D) → o ≡ Some d → some_map name o ≡ Some (name d)
-unfolding some_map
-some_to name o d h = ap (some_map name) h
 
 module _ {M D K E : Type 0} (G : Functions M D) (F : Functions K E) (IsNumber : M → Type 0) (key : M → K) (name : D → E) (num : Numbers G F IsNumber key name) where
   -- references as they stand, and where a program is linked
@@ -80,7 +71,7 @@ module _ {M D K E : Type 0} (G : Functions M D) (F : Functions K E) (IsNumber : 
   total_to [] all = refl
   total_to (m ∷ ms) all = let e = ap length (body_to m all.0) in omega (arith, e, total_to ms all.1)
 
-  append_to : (m : M) (b : ℕ) → IsNumber m → append_fault F (key m) b ≡ some_map name (append_fault G m b)
+  append_to : (m : M) (b : ℕ) → IsNumber m → append_fault F (key m) b ≡ option_map name (append_fault G m b)
   append_to m b is =
       ap (λ (c : FunctionContent). content_fault c b (F.too_long (key m)) (F.stray_line (key m))) (content_to m is)
       ∙ ap (λ (e : E). content_fault (content_at G m) b e (F.stray_line (key m))) (num.too_long m is)
@@ -139,7 +130,7 @@ module _ {M D K E : Type 0} (G : Functions M D) (F : Functions K E) (IsNumber : 
           base = h.base;
           path_is = key_path_to R S IsNumber key name refs p h.key (path ++ x ∷ []) is im h.path_is;
           base_is = base_to (path ++ x ∷ []) h.base h.base_is;
-          fault = append_to h.key h.base im ∙ some_to name (append_fault G h.key h.base) d h.fault;
+          fault = append_to h.key h.base im ∙ ap (option_map name) h.fault;
         })
 
     stands_from : (path : List ℕ) (x : ℕ) (e : E) → FaultStandsAt F S (key p) path x e → (d : D) × FaultStandsAt G R p path x d
@@ -296,4 +287,73 @@ module _ {M D K E : Type 0} (G : Functions M D) (F : Functions K E) (IsNumber : 
         func_count = h.func_count ∙ ap (λ (b : Bool). count_if b l.func_info) (sym (has_some_to ms));
         line_count = h.line_count ∙ ap (λ (b : Bool). count_if b l.line_info) (sym (has_lines_to ms all));
         bound = λ every covers. no_longer F (key p) (map key ms) every _ layout linked.size covers;
+      }
+
+-- ---- what a linked program is made of, from functions by their numbers to functions by their keys
+
+module _ {M D K E : Type 0} (G : Functions M D) (F : Functions K E) (IsNumber : M → Type 0) (key : M → K) (name : D → E) (num : Numbers G F IsNumber key name) where
+  copies_to : (base : ℕ) (ms : List M) → AllNumbers IsNumber ms → map (key_copy key) (copies_from G base ms) ≡ copies_from F base (map key ms)
+  copies_to base [] all = refl
+  copies_to base (m ∷ ms) all =
+      ap (λ (u : List (CopyOf K)). record { key = key m; base = base; slots = length (body G m) } ∷ u) (copies_to (base + length (body G m)) ms all.1)
+      ∙ ap (λ (s : List bpf_insn). record { key = key m; base = base; slots = length s } ∷ copies_from F (base + length s) (map key ms)) (sym (body_to G F IsNumber key name num m all.0))
+
+  module _ (p : M) (ms : List M) (is : IsNumber p) (all : AllNumbers IsNumber ms) where
+    reference_to : (r : Reference) → IsReference G p ms r → IsReference F (key p) (map key ms) r
+    reference_to r h =
+        let ik : IsNumber h.k = number_at IsNumber key (p ∷ ms) h.k (is, all) (begins_among G (p ∷ ms) h.k h.b h.begins) in
+        record {
+          k = key h.k;
+          b = h.b;
+          begins = begins_to G F IsNumber key name num (p ∷ ms) h.k h.b (is, all) h.begins;
+          i = h.i;
+          s = h.s;
+          slot = ap (λ (u : List bpf_insn). slice_get u h.i) (body_to G F IsNumber key name num h.k ik) ∙ h.slot;
+          m = key h.m;
+          names = num.reference h.k h.i ik ∙ ap (renamed key name) h.names;
+          c = h.c;
+          reaches = begins_to G F IsNumber key name num ms h.m h.c all h.reaches;
+          place = h.place;
+          base = h.base ∙ ap (λ (u : List bpf_insn). length u + h.c) (sym (body_to G F IsNumber key name num p is));
+          is_call = h.is_call;
+        }
+
+    reference_from : (r : Reference) → IsReference F (key p) (map key ms) r → IsReference G p ms r
+    reference_from r h =
+        let (k, ik, e, begins) = begins_from G F IsNumber key name num (p ∷ ms) h.k h.b (is, all) h.begins in
+        let (n, in_n, f, reaches) = begins_from G F IsNumber key name num ms h.m h.c all h.reaches in
+        let refers : renamed key name (G.reference k h.i) ≡ Names h.m = sym (num.reference k h.i ik) ∙ ap (λ (u : K). F.reference u h.i) e ∙ h.names in
+        let (m, names, g) = names_from key name (G.reference k h.i) h.m refers in
+        let same : m ≡ n = num.apart m n (num.closed k m h.i ik names) in_n (g ∙ sym f) in
+        record {
+          k = k;
+          b = h.b;
+          begins = begins;
+          i = h.i;
+          s = h.s;
+          slot = ap (λ (u : List bpf_insn). slice_get u h.i) (sym (body_to G F IsNumber key name num k ik)) ∙ ap (λ (u : K). slice_get (body F u) h.i) e ∙ h.slot;
+          m = n;
+          names = names ∙ ap Names same;
+          c = h.c;
+          reaches = reaches;
+          place = h.place;
+          base = h.base ∙ ap (λ (u : List bpf_insn). length u + h.c) (body_to G F IsNumber key name num p is);
+          is_call = h.is_call;
+        }
+
+    references_to : (rs : List Reference) → AreReferences G p ms rs → AreReferences F (key p) (map key ms) rs
+    references_to rs h = record {
+      sound = λ r a. reference_to r (h.sound r a);
+      complete = λ r f. h.complete r (reference_from r f);
+      rises = h.rises;
+    }
+
+  -- what is said of a program by numbers holds by keys
+  pub map_to : (p : M) (ms : List M) (cs : List (CopyOf M)) (rs : List Reference) → IsNumber p → IsLinkMap G p ms cs rs → IsLinkMap F (key p) (map key ms) (map (key_copy key) cs) rs
+  map_to p ms cs rs is h =
+      let all = layout_numbers G F IsNumber key name num p ms is h.layout in
+      record {
+        layout = layout_to G F IsNumber key name num p ms is h.layout;
+        copies = ap (map (key_copy key)) h.copies ∙ copies_to 0 (p ∷ ms) (is, all);
+        references = references_to p ms is all rs h.references;
       }

@@ -1,28 +1,53 @@
 -- The slots so far, and the least fault of linking.
-use Rattle.std.proofs.Common.{◌≡◌, ◌≢◌, ℕ, zero, suc, ◌+◌, ◌<◌, ◌≤◌, Bool, true, false, List, [], ◌∷◌, ◌++◌, length, take, reverse, Option, Some, None, refl, sym, ap, ◌∙◌, subst, inl, inr, arith}
-use Rattle.std.specs.Prelude.{slice_get, slice_index_or, MatchOption}
-use Rattle.std.proofs.lemmas.Bool.{ltb-false, cases_Bool}
+use Rattle.std.proofs.Common.{◌≡◌, ℕ, zero, suc, ◌<◌, List, ◌∷◌, take, Some, None, sym, ap, ◌∙◌, subst, arith, ◌≢◌, ◌+◌, ◌≤◌, Bool, true, false, [], ◌++◌, length, reverse, refl, inl, inr}
+use Rattle.std.specs.Prelude.{slice_get, slice_index_or}
+use Rattle.std.proofs.lemmas.Bool.{ltb-false}
 use Rattle.std.proofs.lemmas.Option.{slice_get_within}
 use Rattle.std.proofs.lemmas.List.{take-append-le}
 use Rattle.ebpf_base.specs.Faults.{first_of}
-use Rattle.ebpf_linker.specs.declared.reference.Fault.{Fault}
-use Rattle.ebpf_linker.specs.declared.reference.Target.{Target}
-use Rattle.ebpf_linker.specs.declared.reference.Target.TheVariants.{Function, Nowhere}
-use Rattle.ebpf_linker.specs.declared.reference.Call.{Call}
-use Rattle.ebpf_linker.specs.declared.search.Open.{Open}
-use Rattle.ebpf_linker.specs.Functions.{Nothing, Names, Functions, Among, Walk, last_key_or, total, body}
-use Rattle.ebpf_linker.specs.Order.{Before, KeyPath}
-use Rattle.ebpf_linker.specs.Faults.{Base, CopyFault, FaultStandsAt, Faultless, LeastFault, append_fault}
-use Rattle.ebpf_linker.specs.Answer.{IsOrder}
-use Rattle.ebpf_linker.specs.Found.{IsFound}
-use Rattle.ebpf_linker.specs.Numbered.{of_target}
-use Rattle.ebpf_linker.specs.Steps.{Search, opened, StepTo, call_target}
-use Rattle.ebpf_linker.proofs.Following.{refs, AreSorted, rising}
-use Rattle.ebpf_linker.proofs.Paths.{among_get, before_cases, distinct_more, last_of_last, nil_length, walk_more, walk_same}
-use Rattle.ebpf_linker.proofs.Held.{Found, at_index}
 use Rattle.ebpf_linker.proofs.Cursor.{Apart, path_of, keys_of, walk_of, keys_found, keys_distinct, not_nil}
-use Rattle.ebpf_linker.proofs.Searched.{First, State, begins_with, distinct_places, key_path, before_found, held_top, plain_before, fault_here, push_at, ended}
-use Rattle.ebpf_linker.proofs.Past.{earlier, fits_at}
+use Rattle.ebpf_linker.proofs.Held.{refs, AreSorted, rising, Found, at_index}
+use Rattle.ebpf_linker.proofs.OneResult.{one_base, one_key_path, base_at}
+use Rattle.ebpf_linker.proofs.Paths.{among_get, get_among, before_cases, distinct_more, last_of_last, nil_length, walk_more, walk_same}
+use Rattle.ebpf_linker.proofs.Searched.{First, distinct_places, key_path, in_order, State, begins_with, before_found, held_top, plain_before, fault_here, push_at, ended, Step, Ended, Unresolved, Passes, Opens, NoCopy}
+use Rattle.ebpf_linker.specs.Faults.{CopyFault, append_fault, Base, FaultStandsAt, Faultless, LeastFault}
+use Rattle.ebpf_linker.specs.Functions.{Functions, Among, total, Nothing, Names, Walk, last_key_or, body}
+use Rattle.ebpf_linker.specs.Numbered.{of_target}
+use Rattle.ebpf_linker.specs.Order.{Before, KeyPath, InKeyPathOrder}
+use Rattle.ebpf_linker.specs.Result.{IsOrder}
+use Rattle.ebpf_linker.specs.Search.{IsFound, Search}
+use Rattle.ebpf_linker.specs.declared.reference.Call.{Call}
+use Rattle.ebpf_linker.specs.declared.reference.Fault.{Fault}
+use Rattle.ebpf_linker.specs.declared.reference.Target.TheVariants.{Function, Nowhere}
+use Rattle.ebpf_linker.specs.declared.search.Open.{Open}
+
+module _ (F : Functions ℕ Fault) (N : ℕ) (C : ℕ → List Call) (p : ℕ) where
+  -- what was found so far is in order
+  pub so_far : (ks : List ℕ) → Apart (p ∷ ks) → ((j k : ℕ) → 0 < j → slice_get (p ∷ ks) j ≡ Some k → First C p (p ∷ ks) j k) → InKeyPathOrder (refs C) p ks
+  so_far ks apart firsts = (
+    λ k a. let (j, at) = among_get ks k a in let first = firsts (suc j) k (omega arith) at in (first.path, key_path N C p (p ∷ ks) (suc j) k apart (omega arith) at first),
+    λ i j k m x y lt ai aj kx ky. in_order N C p (p ∷ ks) (suc i) (suc j) k m x y apart (omega arith) (omega arith) ai aj (firsts (suc i) k (omega arith) ai) kx ky,
+  )
+
+  pub earlier : (ks : List ℕ) (i m : ℕ) → 0 < i → slice_get (p ∷ ks) i ≡ Some m → Among ks m
+  earlier ks zero m pos at = absurd (omega arith)
+  earlier ks (suc i) m pos at = get_among ks i m at
+
+  pub fits_at : (ks : List ℕ) (j : ℕ) (path : List ℕ) (e : Fault) → Apart (p ∷ ks) → ((j k : ℕ) → 0 < j → slice_get (p ∷ ks) j ≡ Some k → First C p (p ∷ ks) j k) → (h : CopyFault F (refs C) p path e) → slice_get ks j ≡ Some h.key → append_fault F h.key (total F (p ∷ take j ks)) ≡ None → ⊥
+  fits_at ks j path e apart firsts h at fits =
+      let order = so_far ks apart firsts in
+      let once = distinct_places N C p ks (λ i l k ai al. let e = apart.apart (suc i) (suc l) k (omega arith) (omega arith) ai al in omega (arith, e)) in
+      let first = firsts (suc j) h.key (omega arith) at in
+      let same : path ≡ first.path = one_key_path F (refs C) p h.key path first.path h.path_is (key_path N C p (p ∷ ks) (suc j) h.key apart (omega arith) at first) in
+      let complete : (m : ℕ) (y : List ℕ) → KeyPath (refs C) p m y → Before y path → Among ks m = λ m y kp b.
+      let (i, pi, lt, ai) = first.least y kp.keys kp.simple kp.some (subst (Before y) same b) in
+      earlier ks i m pi (ai ∙ ap Some kp.ends) in
+      let base = base_at F (refs C) p ks j h.key path once order complete at h.path_is in
+      let e' = one_base F (refs C) p path _ _ h.base_is base in
+      let z : append_fault F h.key (total F (p ∷ take j ks)) ≡ Some e = sym (ap (append_fault F h.key) e') ∙ h.fault in
+      cc (z, fits)
+
+-- ---- the slots so far, and the least fault of linking
 
 pub record Counted (F : Functions ℕ Fault) (o : List ℕ) (u : ℕ) : Type 0 where
   pub used : u ≡ total F o
@@ -60,18 +85,12 @@ module _ (F : Functions ℕ Fault) (N : ℕ) (C : ℕ → List Call) (p : ℕ) w
             ];
       }
 
-  counted_append : (s t : Search) (top : Open) (k : ℕ) → Counted F s.order s.used → (o : Option Fault) → append_fault F k s.used ≡ o → MatchOption o ((t ≡ opened F top s k) × (◌≡◌ {A = Option Fault} None None)) (λ e. (t ≡ s) × (◌≡◌ {A = Option Fault} None (Some e))) → Counted F t.order t.used
-  counted_append s t top k h None fit a = subst (λ (u : Search). Counted F u.order u.used) (sym a.0) (counted_more s.order s.used k h fit)
-  counted_append s t top k h (Some e) fit a = cc (a.1)
-
-  pub counted : (s t : Search) (top : Open) → Counted F s.order s.used → (g : Option Target) → StepTo F top s t None g → Counted F t.order t.used
-  counted s t top h None a = subst (λ (u : Search). Counted F u.order u.used) (sym a.0) h
-  counted s t top h (Some (Nowhere d)) a = cc (a.1)
-  counted s t top h (Some (Function k)) a =
-      elim (cases_Bool (slice_index_or s.is_found k false)) [
-        | inl e ↦ let b = rw e at a in subst (λ (u : Search). Counted F u.order u.used) (sym b.0) h
-        | inr e ↦ let b = rw e at a in counted_append s t top k h (append_fault F k s.used) refl b
-      ]
+  pub counted : (s t : Search) (top : Open) → Counted F s.order s.used → Step F C top s t None → Counted F t.order t.used
+  counted s t top h (Ended past same is) = subst (λ (u : Search). Counted F u.order u.used) (sym same) h
+  counted s t top h (Unresolved c e at to same is) = cc (is)
+  counted s t top h (Passes c k at to flag same is) = subst (λ (u : Search). Counted F u.order u.used) (sym same) h
+  counted s t top h (Opens c k at to flag fits same is) = subst (λ (u : Search). Counted F u.order u.used) (sym same) (counted_more s.order s.used k h fits)
+  counted s t top h (NoCopy c k e at to flag full same is) = cc (is)
 
   -- a function found whose copy can't be
   not_here : (ks : List ℕ) (j : ℕ) (path : List ℕ) (e : Fault) → Apart (p ∷ ks) → ((j k : ℕ) → 0 < j → slice_get (p ∷ ks) j ≡ Some k → First C p (p ∷ ks) j k) → ((j k : ℕ) → 0 < j → slice_get (p ∷ ks) j ≡ Some k → append_fault F k (total F (take j (p ∷ ks))) ≡ None) → (h : CopyFault F (refs C) p path e) → 0 < j → slice_get (p ∷ ks) j ≡ Some h.key → ⊥
@@ -156,36 +175,25 @@ module _ (F : Functions ℕ Fault) (N : ℕ) (C : ℕ → List Call) (p : ℕ) w
         fault = ap (append_fault F k) (sym n.used) ∙ bad;
       }
 
-  refused_append : AreSorted N C → (s t : Search) (top : Open) (d : Fault) (r : Call) (k : ℕ) → State N C p s.order s.is_found (s.work_list ++ top ∷ []) → Counted F s.order s.used → slice_get (C top.function) top.next ≡ Some r → r.target ≡ Function k → slice_index_or s.is_found k false ≡ false → (o : Option Fault) → append_fault F k s.used ≡ o → MatchOption o ((t ≡ opened F top s k) × (◌≡◌ {A = Option Fault} (Some d) None)) (λ e. (t ≡ s) × (◌≡◌ {A = Option Fault} (Some d) (Some e))) → LeastFault F (refs C) p d
-  refused_append sound s t top d r k h n at to flag None fit a = cc (a.1)
-  refused_append sound s t top d r k h n at to flag (Some e) bad a =
-      let same : e ≡ d = cc (a.1) in
+  pub refused : AreSorted N C → (s t : Search) (top : Open) (d : Fault) → State N C p s.order s.is_found (s.work_list ++ top ∷ []) → Counted F s.order s.used → Step F C top s t (Some d) → LeastFault F (refs C) p d
+  refused sound s t top d h n (Ended past same is) = cc (is)
+  refused sound s t top d h n (Unresolved c e at to same is) =
+      let fault : c.target ≡ Nowhere d = cc (to, is) in
       record {
         path = path_of C p (top ∷ reverse s.work_list);
-        slot = r.slot;
-        stands = inr (past_now sound s.order s.is_found s.work_list top r k s.used d h n at to flag (bad ∙ ap Some same));
-        none_before = λ other y g q v. none_before sound s.order s.is_found s.work_list top r s.used h n at other y g q v;
+        slot = c.slot;
+        stands = inl (fault_here N C p sound s.order top (reverse s.work_list) c d h.start h.apart (held_top N C p s.order s.work_list top h.held) at fault);
+        none_before = λ other y g q v. none_before sound s.order s.is_found s.work_list top c s.used h n at other y g q v;
       }
-
-  refused_at : AreSorted N C → (s t : Search) (top : Open) (d : Fault) → State N C p s.order s.is_found (s.work_list ++ top ∷ []) → Counted F s.order s.used → (r : Call) → slice_get (C top.function) top.next ≡ Some r → (g : Target) → r.target ≡ g → StepTo F top s t (Some d) (Some g) → LeastFault F (refs C) p d
-  refused_at sound s t top d h n r at (Nowhere g) to a =
-      let same : g ≡ d = cc (a.1) in
-      let held = held_top N C p s.order s.work_list top h.held in
+  refused sound s t top d h n (Passes c k at to flag same is) = cc (is)
+  refused sound s t top d h n (Opens c k at to flag fits same is) = cc (is)
+  refused sound s t top d h n (NoCopy c k e at to flag full same is) =
       record {
         path = path_of C p (top ∷ reverse s.work_list);
-        slot = r.slot;
-        stands = inl (fault_here N C p sound s.order top (reverse s.work_list) r d h.start h.apart held at (to ∙ ap Nowhere same));
-        none_before = λ other y e q v. none_before sound s.order s.is_found s.work_list top r s.used h n at other y e q v;
+        slot = c.slot;
+        stands = inr (past_now sound s.order s.is_found s.work_list top c k s.used d h n at to flag (full ∙ sym is));
+        none_before = λ other y g q v. none_before sound s.order s.is_found s.work_list top c s.used h n at other y g q v;
       }
-  refused_at sound s t top d h n r at (Function k) to a =
-      elim (cases_Bool (slice_index_or s.is_found k false)) [
-        | inl e ↦ let b = rw e at a in cc (b.1)
-        | inr e ↦ let b = rw e at a in refused_append sound s t top d r k h n at to e (append_fault F k s.used) refl b
-      ]
-
-  pub refused : AreSorted N C → (s t : Search) (top : Open) (d : Fault) → State N C p s.order s.is_found (s.work_list ++ top ∷ []) → Counted F s.order s.used → (c : Option Call) → slice_get (C top.function) top.next ≡ c → StepTo F top s t (Some d) (call_target c) → LeastFault F (refs C) p d
-  refused sound s t top d h n None at a = cc (a.1)
-  refused sound s t top d h n (Some r) at a = refused_at sound s t top d h n r at r.target refl a
 
   -- the end
 

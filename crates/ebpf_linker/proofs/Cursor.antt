@@ -6,9 +6,8 @@ use Rattle.ebpf_linker.specs.declared.search.Open.{Open}
 use Rattle.ebpf_linker.specs.Functions.{Nothing, Names, Among, Distinct, Walk, last_key_or}
 use Rattle.ebpf_linker.specs.Order.{Before}
 use Rattle.ebpf_linker.specs.Numbered.{of_target}
-use Rattle.ebpf_linker.proofs.Following.{refs, Rising}
+use Rattle.ebpf_linker.proofs.Held.{refs, Rising, at_index, indexed, rises_index, Found, found_up, copies, Done, AreDone, Leads, Held, held_done, held_entry}
 use Rattle.ebpf_linker.proofs.Paths.{before_last, last_same, last_cut, among_left, among_right, among_cases, distinct_apart, distinct_more, last_of_last, walk_more, walk_same, walk_parts}
-use Rattle.ebpf_linker.proofs.Held.{at_index, indexed, rises_index, Found, found_up, copies, Done, AreDone, Leads, Held, held_done, held_entry}
 
 abbrev pub slot_or : Option Call → ℕ
 slot_or None = 0

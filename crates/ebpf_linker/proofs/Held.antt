@@ -1,14 +1,33 @@
 -- What the search keeps: which references lead to functions that were found.
-use Rattle.std.proofs.Common.{◌≡◌, ◌≢◌, ℕ, zero, suc, ◌+◌, ◌<◌, ◌≤◌, List, [], ◌∷◌, ◌++◌, length, Some, refl, sym, subst, inl, inr, arith}
+use Rattle.std.proofs.Common.{◌≡◌, ℕ, List, Some, ◌≢◌, zero, suc, ◌+◌, ◌<◌, ◌≤◌, [], ◌∷◌, ◌++◌, length, refl, sym, subst, inl, inr, arith}
 use Rattle.std.specs.Prelude.{slice_get, ◌==◌}
 use Rattle.std.proofs.lemmas.Bool.{cases_eq, eqb-true, eq-eqb, ne_eqb, cases_Bool}
 use Rattle.std.proofs.lemmas.Option.{slice_get_within}
+use Rattle.ebpf_base.proofs.Lists.{get_end}
+use Rattle.ebpf_linker.specs.Functions.{References, SlotReference, Nothing, Faulty, Names, Among}
+use Rattle.ebpf_linker.specs.Numbered.{referred, Rises, IsWithin, of_target}
+use Rattle.ebpf_linker.specs.declared.reference.Call.{Call}
 use Rattle.ebpf_linker.specs.declared.reference.Fault.{Fault}
 use Rattle.ebpf_linker.specs.declared.reference.Target.TheVariants.{Function}
-use Rattle.ebpf_linker.specs.declared.reference.Call.{Call}
 use Rattle.ebpf_linker.specs.declared.search.Open.{Open}
-use Rattle.ebpf_linker.specs.Functions.{SlotReference, Nothing, Faulty, Names, Among}
-use Rattle.ebpf_linker.specs.Numbered.{of_target, referred, Rises}
+
+-- what slots refer to, by the references of each function
+abbrev pub refs : (ℕ → List Call) → References ℕ Fault
+refs C k x = referred (C k) x
+
+-- the references of each function rise
+pub record Rising (C : ℕ → List Call) : Type 0 where
+  pub rises : (k : ℕ) → Rises 0 (C k)
+
+-- .. and lead to one of N functions
+pub record AreSorted (N : ℕ) (C : ℕ → List Call) : Type 0 where
+  pub rises : (k : ℕ) → Rises 0 (C k)
+  pub within : (k i : ℕ) (c : Call) → slice_get (C k) i ≡ Some c → IsWithin N c.target
+
+abbrev pub rising : {N : ℕ} {C : ℕ → List Call} → AreSorted N C → Rising C
+rising sound = record { rises = sound.rises }
+
+-- ---- what the search keeps: which references lead to functions that were found
 
 -- lists by their places
 
@@ -21,10 +40,6 @@ pub get_back : {X : Type 0} (o ys : List X) (j : ℕ) (k : X) → j < length o �
 get_back [] ys j k lt e = absurd (omega arith)
 get_back (x ∷ o) ys zero k lt e = e
 get_back (x ∷ o) ys (suc j) k lt e = get_back o ys j k (omega arith) e
-
-pub get_end : {X : Type 0} (o : List X) (k : X) → slice_get (o ++ k ∷ []) (length o) ≡ Some k
-get_end [] k = refl
-get_end (x ∷ o) k = get_end o k
 
 -- references by their places in their list
 

@@ -13,12 +13,9 @@ use Rattle.ebpf_linker.specs.declared.reference.Target.{Target}
 use Rattle.ebpf_linker.specs.declared.reference.Target.TheVariants.{Function, Nowhere}
 use Rattle.ebpf_parts.specs.Slots.{is_pseudo_call}
 use Rattle.ebpf_linker.specs.Functions.{Nothing, Names, Among, BeginsAt}
-use Rattle.ebpf_linker.specs.LinkedSlots.{body_at, with_bases}
-use Rattle.ebpf_linker.specs.LinkMap.{CopyOf, copies_from, IsReference, AreReferences, IsLinkMap, numbered_copy}
-use Rattle.ebpf_linker.specs.LinkMap.{PlacesRise}
-use Rattle.ebpf_linker.specs.LinkedReferences.{linked_reference_at, linked_reference, with_linked_reference, references_of_copy, references_of_copies}
+use Rattle.ebpf_linker.specs.Copies.{body_at, with_bases, linked_reference_at, linked_reference, with_linked_reference, references_of_copy, references_of_copies, IsReady}
+use Rattle.ebpf_linker.specs.LinkMap.{CopyOf, copies_from, IsReference, AreReferences, IsLinkMap, numbered_copy, PlacesRise}
 use Rattle.ebpf_linker.specs.Numbered.{of_target, referred, calls_at, functions_by_number, Rises, Sound}
-use Rattle.ebpf_linker.specs.Ready.{IsReady}
 use Rattle.ebpf_linker.proofs.Held.{at_index}
 use Rattle.ebpf_linker.proofs.OneResult.{one_begin}
 use Rattle.ebpf_linker.proofs.Paths.{among_cases, among_left, among_right, names_same}

@@ -1,21 +1,114 @@
--- Linking has one result: the order, the slots and the records of a linked program, and the least fault.
-use Rattle.std.proofs.Common.{◌≡◌, ℕ, suc, ◌+◌, ◌-◌, ◌<◌, ◌≤◌, List, [], ◌∷◌, ◌++◌, length, Option, Some, refl, sym, ap, ◌∙◌, subst, inl, inr, ⊎_elim, arith}
+-- Linking has one result: the order, the bases, the slots, the records and the map of a linked program, and the least fault.
+use Rattle.std.proofs.Common.{◌≡◌, ℕ, zero, suc, ◌+◌, ◌<◌, ◌≤◌, List, [], ◌∷◌, length, take, Some, refl, sym, ap, ◌∙◌, subst, inl, inr, arith, ◌-◌, ◌++◌, Option, ⊎_elim}
 use Rattle.std.specs.Prelude.{slice_get, pos, ◌-ℤ◌}
-use Rattle.std.proofs.lemmas.Bool.{cases_lt}
-use Rattle.std.proofs.lemmas.Option.{slice_get_cases}
-use Rattle.ebpf_parts.specs.declared.insn.bpf_insn.{bpf_insn}
-use Rattle.ebpf_linker.specs.declared.body.LinkedProgram.{LinkedProgram}
-use Rattle.ebpf_linker.specs.Slots.{relinked}
-use Rattle.ebpf_linker.specs.Functions.{SlotReference, Nothing, Faulty, Names, References, Functions, body, Among, Distinct, BeginsAt, Becomes, Linked, Walk, last_key_or, total}
-use Rattle.ebpf_linker.specs.Answer.{IsLayout}
-use Rattle.ebpf_linker.specs.Order.{Before, HasReferenceFault, InKeyPathOrder}
-use Rattle.ebpf_linker.specs.Faults.{FaultStandsAt, LeastFault, append_fault, checked_references}
-use Rattle.ebpf_linker.specs.Records.{has_lines, count_if}
-use Rattle.ebpf_linker.specs.Faults.{has_some}
-use Rattle.ebpf_linker.specs.Result.{IsProgram}
-use Rattle.ebpf_linker.proofs.OneBase.{one_base}
-use Rattle.ebpf_linker.proofs.Paths.{before_cases, before_trans, irreflexive, among_get, last_same, walk_same, walk_parts}
+use Rattle.std.proofs.lemmas.Bool.{cases_eq, cases_lt}
+use Rattle.ebpf_base.proofs.Lists.{there_is}
+use Rattle.ebpf_linker.proofs.Paths.{before_cases, before_trans, irreflexive, get_among, among_get, last_same, walk_same, walk_parts}
 use Rattle.ebpf_linker.proofs.Visits.{begins_among}
+use Rattle.ebpf_linker.specs.Faults.{Base, FaultStandsAt, LeastFault, append_fault, checked_references, has_some}
+use Rattle.ebpf_linker.specs.Functions.{References, Functions, FunctionContent, Among, Distinct, total, body, relinked, SlotReference, Nothing, Faulty, Names, BeginsAt, Becomes, Linked, Walk, last_key_or, SlotReference as Refers}
+use Rattle.ebpf_linker.specs.LinkMap.{CopyOf, copies_from, AreReferences, IsLinkMap, PlacesRise, Lands, copied_slot_count}
+use Rattle.ebpf_linker.specs.Order.{Before, KeyPath, InKeyPathOrder, HasReferenceFault}
+use Rattle.ebpf_linker.specs.Result.{IsLayout, has_lines, count_if, IsProgram}
+use Rattle.ebpf_linker.specs.declared.body.LinkedProgram.{LinkedProgram}
+use Rattle.ebpf_linker.specs.declared.link_map.Reference.{Reference}
+use Rattle.ebpf_parts.specs.declared.insn.bpf_insn.{bpf_insn}
+
+-- ---- a function has one base, and it is what the search counts
+
+module _ {K E : Type 0} (F : Functions K E) (R : References K E) where
+  -- k taken out
+  record Without (ms : List K) (k : K) : Type 0 where
+    rest : List K
+    size : total F ms ≡ length (body F k) + total F rest
+    kept : (m : K) → Among ms m → (k ≡ m → ⊥) → Among rest m
+
+  without : (ms : List K) (k : K) → Among ms k → Without ms k
+  without [] k a = absurd a
+  without (m ∷ ms) k (inl e) =
+      let z = ap (λ (u : K). length (body F u)) e in
+      record { rest = ms; size = omega (arith, z); kept = λ n b ne. elim b [ inl f ↦ absurd (ne (sym e ∙ f)) | inr c ↦ c ] }
+  without (m ∷ ms) k (inr a) =
+      let w = without ms k a in
+      record { rest = m ∷ w.rest; size = omega (arith, w.size); kept = λ n b ne. elim b [ inl f ↦ inl f | inr c ↦ inr (w.kept n c ne) ] }
+
+  -- distinct functions among others have no more slots
+  pub total_le : (ks ms : List K) → Distinct ks → ((k : K) → Among ks k → Among ms k) → total F ks ≤ total F ms
+  total_le [] ms once h = omega arith
+  total_le (k ∷ ks) ms once h =
+      let w = without ms k (h k (inl refl)) in
+      let le = total_le ks w.rest once.1 (λ m a. w.kept m (h m (inr a)) (λ e. once.0 (subst (Among ks) (sym e) a))) in
+      omega (arith, le, w.size)
+
+  same_total : (ks ms : List K) → Distinct ks → Distinct ms → ((k : K) → Among ks k → Among ms k) → ((k : K) → Among ms k → Among ks k) → total F ks ≡ total F ms
+  same_total ks ms a b f g = let x = total_le ks ms a f in let y = total_le ms ks b g in omega (arith, x, y)
+
+  pub one_base : (p : K) (path : List ℕ) (b c : ℕ) → Base F R p path b → Base F R p path c → b ≡ c
+  one_base p path b c x y =
+      let e = same_total x.earlier y.earlier x.once y.once (λ k a. let (q, kp, bf) = x.before k a in y.all k q kp bf) (λ k a. let (q, kp, bf) = y.before k a in x.all k q kp bf) in
+      omega (arith, x.size, y.size, e)
+
+  pub one_key_path : (p k : K) (x y : List ℕ) → KeyPath R p k x → KeyPath R p k y → x ≡ y
+  one_key_path p k x y a b =
+      elim (before_cases x y) [
+        | inl h ↦ absurd (b.least x a.keys a.simple a.some a.ends h)
+        | inr (inl e) ↦ e
+        | inr (inr h) ↦ absurd (a.least y b.keys b.simple b.some b.ends h)
+      ]
+
+  among_take : (ks : List K) (j : ℕ) (m : K) → Among (take j ks) m → (i : ℕ) × (i < j) × (slice_get ks i ≡ Some m)
+  among_take [] zero m a = absurd a
+  among_take [] (suc j) m a = absurd a
+  among_take (k ∷ ks) zero m a = absurd a
+  among_take (k ∷ ks) (suc j) m (inl e) = (0, omega arith, ap Some e)
+  among_take (k ∷ ks) (suc j) m (inr a) = let (i, lt, at) = among_take ks j m a in (suc i, omega arith, at)
+
+  take_among : (ks : List K) (i j : ℕ) (m : K) → i < j → slice_get ks i ≡ Some m → Among (take j ks) m
+  take_among [] i j m lt at = cc
+  take_among (k ∷ ks) zero zero m lt at = absurd (omega arith)
+  take_among (k ∷ ks) zero (suc j) m lt at = inl cc
+  take_among (k ∷ ks) (suc i) zero m lt at = absurd (omega arith)
+  take_among (k ∷ ks) (suc i) (suc j) m lt at = inr (take_among ks i j m (omega arith) at)
+
+  distinct_take : (ks : List K) (j : ℕ) → Distinct ks → Distinct (take j ks)
+  distinct_take [] zero h = tt
+  distinct_take [] (suc j) h = tt
+  distinct_take (k ∷ ks) zero h = tt
+  distinct_take (k ∷ ks) (suc j) h = (λ a. let (i, lt, at) = among_take ks j k a in h.0 (get_among ks i k at), distinct_take ks j h.1)
+
+  -- in the order of key paths, the base of a member is what stands before it
+  pub base_at : (p : K) (ks : List K) (j : ℕ) (k : K) (x : List ℕ) → Distinct ks → InKeyPathOrder R p ks → ((m : K) (y : List ℕ) → KeyPath R p m y → Before y x → Among ks m) → slice_get ks j ≡ Some k → KeyPath R p k x → Base F R p x (total F (p ∷ take j ks))
+  base_at p ks j k x once order complete at path =
+      record {
+        earlier = take j ks;
+        once = distinct_take ks j once;
+        before = λ m a.
+            let (i, lt, ai) = among_take ks j m a in
+            let (y, kp) = order.0 m (get_among ks i m ai) in
+            (y, kp, order.1 i j m k y x lt ai at kp path);
+        all = λ m y kp b.
+            let (i, ai) = among_get ks m (complete m y kp b) in
+            elim (cases_lt i j) [
+              | inl lt ↦ take_among ks i j m lt ai
+              | inr le ↦
+                  elim (cases_eq i j) [
+                    | inl e ↦
+                        let same : k ≡ m = cc (e, at, ai) in
+                        let z = one_key_path p k x y path (subst (λ (u : K). KeyPath R p u y) (sym same) kp) in
+                        absurd (irreflexive y (subst (Before y) z b))
+                    | inr ne ↦ absurd (irreflexive y (before_trans y x y b (order.1 j i k m x y (omega arith) at ai path kp)))
+                  ]
+            ];
+        size = refl;
+      }
+
+-- a linked program is no longer than it and all functions together
+pub no_longer : {K E : Type 0} (F : Functions K E) (p : K) (ks all : List K) (n : ℕ) → IsLayout F p ks → n ≡ total F (p ∷ ks) → ((k : K) (c : FunctionContent) → F.content k ≡ Some c → Among all k) → n ≤ length (body F p) + total F all
+no_longer F p ks all n h size covers =
+    let le = total_le F F.reference ks all h.order.once (λ k a. let (c, there) = h.functions k a in covers k c there) in
+    omega (arith, le, size)
+
+-- ---- linking has one result: the order, the slots and the records of a linked program, and the least fault
 
 -- ---- the order
 
@@ -61,9 +154,6 @@ same_slots (x ∷ xs) (y ∷ ys) e h =
     let head : x ≡ y = cc in
     let rest : xs ≡ ys = same_slots xs ys (omega arith) (λ i lt. h (suc i) (omega arith)) in
     λ i. head i ∷ rest i
-
-there_is : {X : Type 0} (xs : List X) (i : ℕ) → i < length xs → (x : X) × (slice_get xs i ≡ Some x)
-there_is xs i lt = ⊎_elim (λ s. (s.0, s.2)) (λ past. absurd (omega (arith, past.0))) (slice_get_cases xs i).1
 
 module _ {K E : Type 0} (F : Functions K E) where
   -- a place of some functions, one after the other, is inside one of them
@@ -174,3 +264,91 @@ module _ {K E : Type 0} (F : Functions K E) (R : References K E) (p : K) where
 -- a program can be linked, or has a least fault, but not both
 pub not_linked : {K E : Type 0} (F : Functions K E) (p : K) (ks : List K) (e : E) → IsLayout F p ks → LeastFault F (checked_references F p) p e → ⊥
 not_linked F p ks e h g = h.faultless g.path g.slot e g.stands
+
+-- ---- a program has one map, and it is the map of the linked program
+
+-- ---- one list of references
+
+-- those at a place are not above it
+not_below : (low : ℕ) (rs : List Reference) (r : Reference) → PlacesRise low rs → Among rs r → low ≤ r.place
+not_below low [] r h a = absurd a
+not_below low (s ∷ rs) r h (inl e) = let z = ap (λ (u : Reference). u.place) e in omega (arith, h.0, z)
+not_below low (s ∷ rs) r h (inr a) = let le = not_below (s.place + 1) rs r h.1 a in omega (arith, h.0, le)
+
+-- the first of two lists of the same references
+same_reference : (low high : ℕ) (r s : Reference) (rs ss : List Reference) → PlacesRise low (r ∷ rs) → PlacesRise high (s ∷ ss) → Among (s ∷ ss) r → Among (r ∷ rs) s → r ≡ s
+same_reference low high r s rs ss h g (inl e) b = sym e
+same_reference low high r s rs ss h g (inr a) (inl e) = e
+same_reference low high r s rs ss h g (inr a) (inr b) =
+    let x = not_below (s.place + 1) ss r g.1 a in
+    let y = not_below (r.place + 1) rs s h.1 b in
+    absurd (omega (arith, x, y))
+
+not_again : (low : ℕ) (r : Reference) (rs : List Reference) → PlacesRise low (r ∷ rs) → Among rs r → ⊥
+not_again low r rs h a = let le = not_below (r.place + 1) rs r h.1 a in omega (arith, le)
+
+pub same_references : (low high : ℕ) (rs ss : List Reference) → PlacesRise low rs → PlacesRise high ss → ((r : Reference) → Among rs r → Among ss r) → ((r : Reference) → Among ss r → Among rs r) → rs ≡ ss
+same_references low high [] [] h g to from = refl
+same_references low high [] (s ∷ ss) h g to from = absurd (from s (inl refl))
+same_references low high (r ∷ rs) [] h g to from = absurd (to r (inl refl))
+same_references low high (r ∷ rs) (s ∷ ss) h g to from =
+    let same : r ≡ s = same_reference low high r s rs ss h g (to r (inl refl)) (from s (inl refl)) in
+    let rest : rs ≡ ss = same_references (r.place + 1) (s.place + 1) rs ss h.1 g.1
+    (λ q a. ⊎_elim (λ (e : s ≡ q). absurd (not_again low r rs h (subst (Among rs) (sym (same ∙ e)) a))) (λ (b : Among ss q). b) (to q (inr a)))
+    (λ q a. ⊎_elim (λ (e : r ≡ q). absurd (not_again high s ss g (subst (Among ss) (sym (sym same ∙ e)) a))) (λ (b : Among rs q). b) (from q (inr a)))
+    in
+    λ i. same i ∷ rest i
+
+module _ {K E : Type 0} (F : Functions K E) (p : K) where
+  one_references : (ks : List K) (rs ss : List Reference) → AreReferences F p ks rs → AreReferences F p ks ss → rs ≡ ss
+  one_references ks rs ss h g = same_references 0 0 rs ss h.rises g.rises (λ r a. g.complete r (h.sound r a)) (λ r a. h.complete r (g.sound r a))
+
+  -- a program has one map
+  pub one_link_map : (ks ms : List K) (cs ds : List (CopyOf K)) (rs ss : List Reference) → IsLinkMap F p ks cs rs → IsLinkMap F p ms ds ss → (ks ≡ ms) × (cs ≡ ds) × (rs ≡ ss)
+  one_link_map ks ms cs ds rs ss h g =
+      let order : ks ≡ ms = one_layout F p ks ms h.layout g.layout in (
+        order,
+        h.copies ∙ ap (λ (os : List K). copies_from F 0 (p ∷ os)) order ∙ sym g.copies,
+        one_references ms rs ss (subst (λ (os : List K). AreReferences F p os rs) order h.references) g.references,
+      )
+
+  -- ---- the linked program
+
+  count_slots : (base : ℕ) (ks : List K) → copied_slot_count (copies_from F base ks) ≡ total F ks
+  count_slots base [] = refl
+  count_slots base (k ∷ ks) = ap (λ (n : ℕ). length (body F k) + n) (count_slots (base + length (body F k)) ks)
+
+  -- the copies have the slots of the linked program
+  pub same_size : (ks ms : List K) (cs : List (CopyOf K)) (rs : List Reference) (l : LinkedProgram) → IsLinkMap F p ks cs rs → IsProgram F p ms l → copied_slot_count cs ≡ length l.slots
+  same_size ks ms cs rs l h g = ap copied_slot_count h.copies ∙ count_slots 0 (p ∷ ks) ∙ ap (λ (os : List K). total F (p ∷ os)) (one_layout F p ks ms h.layout g.layout) ∙ sym g.linked.size
+
+  -- a copy that begins somewhere is listed
+  copy_listed : (low base : ℕ) (ks : List K) (k : K) (b : ℕ) → BeginsAt F ks k b → base ≡ low + b → Among (copies_from F low ks) (record { key = k; base = base; slots = length (body F k) })
+  copy_listed low base [] k b h e = absurd h
+  copy_listed low base (m ∷ ks) k b (inl h) e =
+      let place : low ≡ base = omega (arith, h.1, e) in
+      inl (λ i. record { key = h.0 i; base = place i; slots = length (body F (h.0 i)) })
+  copy_listed low base (m ∷ ks) k b (inr (c, is, h)) e = inr (copy_listed (low + length (body F m)) base ks k c h (omega (arith, is, e)))
+
+  -- the slot at a reference's place names the distance to its base
+  pub lands : (ks ms : List K) (cs : List (CopyOf K)) (rs : List Reference) (l : LinkedProgram) → IsLinkMap F p ks cs rs → IsProgram F p ms l → (r : Reference) → Among rs r → Lands F cs l.slots r
+  lands ks ms cs rs l h g r a =
+      let n = h.references.sound r a in
+      let linked = subst (λ (os : List K). IsProgram F p os l) (sym (one_layout F p ks ms h.layout g.layout)) g in
+      let (t, stands, becomes) = linked.linked.slots n.k n.b n.i n.s n.begins n.slot in
+      let (c, reaches, is) = subst (λ (u : Refers K E). Becomes F p ks (n.b + n.i) u n.s t) n.names becomes in
+      let same : c ≡ n.c = one_begin F ks n.m c n.c h.layout.order.once reaches n.reaches in
+      let base : length (body F p) + c ≡ r.base = ap (λ (x : ℕ). length (body F p) + x) same ∙ sym n.base in
+      record {
+        from = record { key = n.k; base = n.b; slots = length (body F n.k) };
+        listed = subst (λ (u : List (CopyOf K)). Among u (record { key = n.k; base = n.b; slots = length (body F n.k) })) (sym h.copies) (copy_listed 0 n.b (p ∷ ks) n.k n.b n.begins (omega arith));
+        i = n.i;
+        place = n.place;
+        to = record { key = n.m; base = r.base; slots = length (body F n.m) };
+        reached = subst (λ (u : List (CopyOf K)). Among u (record { key = n.m; base = r.base; slots = length (body F n.m) })) (sym h.copies) (copy_listed 0 r.base (p ∷ ks) n.m (length (body F p) + n.c) (inr (n.c, refl, n.reaches)) (omega (arith, n.base)));
+        names = n.names;
+        base = refl;
+        slot = t;
+        stands = ap (slice_get l.slots) n.place ∙ stands;
+        distance = ap (λ (u : bpf_insn). u.imm) is ∙ (λ j. pos (base j) -ℤ pos (sym n.place j + 1));
+      }

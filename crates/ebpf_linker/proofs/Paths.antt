@@ -1,5 +1,5 @@
 -- Walks, and the order of lists of numbers.
-use Rattle.std.proofs.Common.{◌≡◌, ℕ, zero, suc, ◌<◌, ◌⊎◌, List, [], ◌∷◌, ◌++◌, length, Some, refl, sym, ap, ◌∙◌, subst, inl, inr, arith}
+use Rattle.std.proofs.Common.{◌≡◌, ℕ, zero, suc, ◌<◌, ◌⊎◌, List, [], ◌∷◌, ◌++◌, length, Some, refl, sym, ap, ◌∙◌, subst, inl, inr, arith, length-append}
 use Rattle.std.specs.Prelude.{slice_get}
 use Rattle.std.proofs.lemmas.Bool.{cases_order}
 use Rattle.ebpf_linker.specs.Functions.{SlotReference, Names, References, Among, Distinct, Walk, last_key_or}
@@ -50,18 +50,6 @@ before_last (a ∷ q) (b ∷ t) s (inr h) =
 
 -- lists with a last number
 
-pub last_same : (q t : List ℕ) (x y : ℕ) → q ++ x ∷ [] ≡ t ++ y ∷ [] → (q ≡ t) × (x ≡ y)
-last_same [] [] x y e = (refl, cc)
-last_same [] (b ∷ []) x y e = cc
-last_same [] (b ∷ c ∷ t) x y e = cc
-last_same (a ∷ []) [] x y e = cc
-last_same (a ∷ c ∷ q) [] x y e = cc
-last_same (a ∷ q) (b ∷ t) x y e =
-    let f : q ++ x ∷ [] ≡ t ++ y ∷ [] = cc in
-    let r = last_same q t x y f in
-    let g : a ≡ b = cc in
-    (cc (r.0, g), r.1)
-
 pub last_cut : (q t : List ℕ) (x y : ℕ) (rest : List ℕ) → q ++ x ∷ [] ≡ t ++ y ∷ rest → ((q ≡ t) × (x ≡ y)) ⊎ ((more : List ℕ) × (q ≡ t ++ y ∷ more))
 last_cut [] [] x y rest e = inl (refl, cc)
 last_cut [] (b ∷ []) x y rest e = cc
@@ -71,6 +59,13 @@ last_cut (a ∷ q) (b ∷ t) x y rest e =
     let f : q ++ x ∷ [] ≡ t ++ y ∷ rest = cc in
     let g : a ≡ b = cc in
     elim (last_cut q t x y rest f) [ inl h ↦ inl (cc (h.0, g), h.1) | inr h ↦ inr (h.0, cc (h.1, g)) ]
+
+pub last_same : (q t : List ℕ) (x y : ℕ) → q ++ x ∷ [] ≡ t ++ y ∷ [] → (q ≡ t) × (x ≡ y)
+last_same q t x y e =
+    elim (last_cut q t x y [] e) [
+      | inl h ↦ h
+      | inr (more, is) ↦ absurd (omega (arith, ap length e, ap length is, length-append q (x ∷ []), length-append t (y ∷ []), length-append t (y ∷ more)))
+    ]
 
 module _ {K : Type 0} where
   pub among_left : (ks ms : List K) (k : K) → Among ks k → Among (ks ++ ms) k

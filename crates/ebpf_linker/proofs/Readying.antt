@@ -11,18 +11,14 @@ use Rattle.ebpf_linker.specs.declared.reference.Target.TheVariants.{Function, No
 use Rattle.ebpf_linker.specs.declared.reference.Call.{Call}
 use Rattle.ebpf_linker.specs.Functions.{Nothing, Names, FunctionContent, Among, last_key_or, total}
 use Rattle.ebpf_linker.specs.Faults.{checked_references, append_fault, has_some}
-use Rattle.ebpf_linker.specs.Answer.{IsOrder}
-use Rattle.ebpf_linker.specs.Found.{IsFound, Finds}
-use Rattle.ebpf_linker.specs.LinkedSlots.{body_at, with_bases, linked_copies, bodies_slot_count, Fit}
+use Rattle.ebpf_linker.specs.Result.{IsOrder, linked_func_info, linked_line_info, has_lines, count_if, IsProgram}
+use Rattle.ebpf_linker.specs.Search.{IsFound, Finds}
+use Rattle.ebpf_linker.specs.Copies.{body_at, with_bases, linked_copies, bodies_slot_count, Fit, IsReady}
 use Rattle.ebpf_linker.specs.Numbered.{of_target, referred, calls_at, functions_by_number, option_content, IsWithin, Sound}
-use Rattle.ebpf_linker.specs.Records.{linked_func_info, linked_line_info, has_lines, count_if}
-use Rattle.ebpf_linker.specs.Ready.{IsReady}
-use Rattle.ebpf_linker.specs.Result.{IsProgram}
 use Rattle.ebpf_linker.proofs.Paths.{walk_last, last_of_last}
 use Rattle.ebpf_linker.proofs.Held.{at_index, indexed}
-use Rattle.ebpf_linker.proofs.Plain.{plain}
-use Rattle.ebpf_linker.proofs.Checked.{all_at}
-use Rattle.ebpf_linker.proofs.OneBase.{no_longer}
+use Rattle.ebpf_linker.proofs.Checked.{plain, all_at}
+use Rattle.ebpf_linker.proofs.OneResult.{no_longer}
 use Rattle.ebpf_linker.proofs.Whole.{is_linked, size_same}
 
 target_within : (n : ℕ) (t : Target) (k : ℕ) → IsWithin n t → of_target t ≡ Names k → k < n

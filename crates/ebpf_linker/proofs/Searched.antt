@@ -1,30 +1,105 @@
--- The state of the search, its steps, and what holds when it ends.
-use Rattle.std.proofs.Common.{◌≡◌, ◌≢◌, ℕ, zero, suc, ◌+◌, ◌<◌, ◌≤◌, ◌⊎◌, Bool, true, false, List, [], ◌∷◌, ◌++◌, length, Option, Some, None, refl, sym, ap, ◌∙◌, subst, inl, inr, arith, length-append, length-set, get_or-set_same, get_or-set_other, reverse, replicate}
-use Rattle.std.specs.Prelude.{slice_get}
+-- The search: its steps, what is left to follow, its state, and what holds when it ends.
+use Rattle.std.proofs.Common.{◌≡◌, ℕ, zero, suc, ◌+◌, ◌-◌, ◌<◌, Bool, true, false, cond, List, [], ◌∷◌, ◌++◌, length, Option, Some, None, refl, ap, subst, arith, ◌≢◌, ◌≤◌, ◌⊎◌, sym, ◌∙◌, inl, inr, length-append, length-set, get_or-set_same, get_or-set_other, reverse, replicate}
+use Rattle.std.specs.Prelude.{slice_get, slice_index_or, slice_set, MatchOption}
+use Rattle.std.specs.Bool.{MatchBool}
+use Rattle.std.proofs.lemmas.Option.{slice_get_within, slice_get_cases}
 use Rattle.std.proofs.lemmas.Bool.{cases_eq, cases_lt}
-use Rattle.std.proofs.lemmas.Option.{slice_get_within}
+use Rattle.std.proofs.lemmas.List.{reverse-append, length-replicate}
+use Rattle.ebpf_linker.proofs.Cursor.{Apart, path_of, keys_of, walk_of, keys_found, keys_distinct, cursor, not_nil}
+use Rattle.ebpf_base.proofs.Lists.{get_end}
+use Rattle.ebpf_linker.proofs.Held.{AreSorted, refs, rising, get_more, get_back, at_index, indexed, rises_index, Found, found_up, found_more, AreDone, Held, held_entry, held_pop, held_next, held_push}
+use Rattle.ebpf_linker.proofs.Paths.{before_trans, before_cases, among_get, get_among, distinct_front, distinct_more, last_of_last, nil_length, walk_more, walk_same, walk_last}
+use Rattle.ebpf_linker.specs.Faults.{append_fault}
+use Rattle.ebpf_linker.specs.Functions.{Functions, SlotReference, Nothing, Faulty, Names, Among, Distinct, Walk, last_key_or, Reached}
+use Rattle.ebpf_linker.specs.Numbered.{IsWithin, of_target}
+use Rattle.ebpf_linker.specs.Order.{Before, Simple, KeyPath, HasReferenceFault}
+use Rattle.ebpf_linker.specs.Result.{IsOrder}
+use Rattle.ebpf_linker.specs.Search.{Search, passed, opened, Entered, StepTo, call_target, Advanced}
+use Rattle.ebpf_linker.specs.declared.reference.Call.{Call}
 use Rattle.ebpf_linker.specs.declared.reference.Fault.{Fault}
 use Rattle.ebpf_linker.specs.declared.reference.Target.{Target}
 use Rattle.ebpf_linker.specs.declared.reference.Target.TheVariants.{Function, Nowhere}
-use Rattle.ebpf_linker.specs.declared.reference.Call.{Call}
 use Rattle.ebpf_linker.specs.declared.search.Open.{Open}
-use Rattle.ebpf_linker.specs.Functions.{SlotReference, Nothing, Faulty, Names, Among, Distinct, Walk, last_key_or, Reached}
-use Rattle.ebpf_linker.specs.Order.{Before, Simple, KeyPath, HasReferenceFault}
-use Rattle.ebpf_linker.specs.Numbered.{of_target}
-use Rattle.ebpf_linker.proofs.Following.{refs, AreSorted, rising}
-use Rattle.ebpf_linker.proofs.Paths.{before_trans, before_cases, among_get, get_among, distinct_front, distinct_more, last_of_last, nil_length, walk_more, walk_same, walk_last}
-use Rattle.ebpf_linker.proofs.Held.{get_more, get_back, get_end, at_index, indexed, rises_index, Found, found_up, found_more, AreDone, Held, held_entry}
-use Rattle.std.specs.Bool.{MatchBool}
-use Rattle.std.specs.Prelude.{slice_index_or, slice_set, MatchOption}
-use Rattle.std.proofs.lemmas.List.{reverse-append, length-replicate}
-use Rattle.std.proofs.lemmas.Option.{slice_get_cases}
-use Rattle.ebpf_linker.specs.Numbered.{IsWithin}
-use Rattle.ebpf_linker.specs.Functions.{Functions}
-use Rattle.ebpf_linker.specs.Faults.{append_fault}
-use Rattle.ebpf_linker.specs.Steps.{Search, passed, opened, StepTo, call_target, Advanced}
-use Rattle.ebpf_linker.specs.Answer.{IsOrder}
-use Rattle.ebpf_linker.proofs.Held.{held_pop, held_next, held_push}
-use Rattle.ebpf_linker.proofs.Cursor.{Apart, path_of, keys_of, walk_of, keys_found, keys_distinct, cursor, not_nil}
+
+not_within : (cs : List Call) (i : ℕ) → slice_get cs i ≡ None → length cs ≤ i
+not_within cs i e =
+    elim (slice_get_cases cs i).1 [ inl x ↦ cc (x.2) | inr x ↦ x.0 ]
+
+-- what one step does: it comes to the end of the function on top; or its next reference leads nowhere, to a function that
+-- was found, to one that is opened, or to one that can't have a copy
+pub data Step (F : Functions ℕ Fault) (C : ℕ → List Call) (top : Open) (s t : Search) (r : Option Fault) : Type 0 where
+  Ended : length (C top.function) ≤ top.next → t ≡ s → r ≡ None → Step F C top s t r
+  Unresolved : (c : Call) (e : Fault) → slice_get (C top.function) top.next ≡ Some c → c.target ≡ Nowhere e → t ≡ s → r ≡ Some e → Step F C top s t r
+  Passes : (c : Call) (k : ℕ) → slice_get (C top.function) top.next ≡ Some c → c.target ≡ Function k → slice_index_or s.is_found k false ≡ true → t ≡ passed top s → r ≡ None → Step F C top s t r
+  Opens : (c : Call) (k : ℕ) → slice_get (C top.function) top.next ≡ Some c → c.target ≡ Function k → slice_index_or s.is_found k false ≡ false → append_fault F k s.used ≡ None → t ≡ opened F top s k → r ≡ None → Step F C top s t r
+  NoCopy : (c : Call) (k : ℕ) (e : Fault) → slice_get (C top.function) top.next ≡ Some c → c.target ≡ Function k → slice_index_or s.is_found k false ≡ false → append_fault F k s.used ≡ Some e → t ≡ s → r ≡ Some e → Step F C top s t r
+
+module _ (F : Functions ℕ Fault) (C : ℕ → List Call) (top : Open) (s t : Search) (r : Option Fault) where
+  by_copy : (c : Call) (k : ℕ) → slice_get (C top.function) top.next ≡ Some c → c.target ≡ Function k → slice_index_or s.is_found k false ≡ false → (o : Option Fault) → append_fault F k s.used ≡ o → MatchOption o ((t ≡ opened F top s k) × (r ≡ None)) (λ e. (t ≡ s) × (r ≡ Some e)) → Step F C top s t r
+  by_copy c k at to flag None fits a = Opens c k at to flag fits a.0 a.1
+  by_copy c k at to flag (Some e) fits a = NoCopy c k e at to flag fits a.0 a.1
+
+  by_flag : (c : Call) (k : ℕ) → slice_get (C top.function) top.next ≡ Some c → c.target ≡ Function k → (b : Bool) → slice_index_or s.is_found k false ≡ b → MatchBool b ((t ≡ passed top s) × (r ≡ None)) (Entered F top s t r k) → Step F C top s t r
+  by_flag c k at to true flag a = Passes c k at to flag a.0 a.1
+  by_flag c k at to false flag a = by_copy c k at to flag (append_fault F k s.used) refl a
+
+  by_target : (c : Call) → slice_get (C top.function) top.next ≡ Some c → (g : Target) → c.target ≡ g → StepTo F top s t r (Some g) → Step F C top s t r
+  by_target c at (Nowhere e) to a = Unresolved c e at to a.0 a.1
+  by_target c at (Function k) to a = by_flag c k at to (slice_index_or s.is_found k false) refl a
+
+  by_call : (o : Option Call) → slice_get (C top.function) top.next ≡ o → StepTo F top s t r (call_target o) → Step F C top s t r
+  by_call None at a = Ended (not_within (C top.function) top.next at) a.0 a.1
+  by_call (Some c) at a = by_target c at c.target refl a
+
+  pub step_of : Advanced F C top s t r → Step F C top s t r
+  step_of a = by_call (slice_get (C top.function) top.next) refl a
+
+-- ---- what is left to follow
+
+-- what is left to follow in the open functions
+abbrev pub left_in : (ℕ → List Call) → List Open → ℕ
+left_in C [] = 0
+left_in C (e ∷ es) = (length (C e.function) - e.next + 1) + left_in C es
+
+-- and in those from i on that were not found
+abbrev pub unfound : List Bool → (ℕ → List Call) → ℕ → ℕ
+unfound [] C i = 0
+unfound (b ∷ f) C i = cond b 0 (length (C i) + 2) + unfound f C (i + 1)
+
+left_more : (C : ℕ → List Call) (s t : List Open) → left_in C (s ++ t) ≡ left_in C s + left_in C t
+left_more C [] t = omega arith
+left_more C (e ∷ s) t = omega (arith, left_more C s t)
+
+unfound_set : (f : List Bool) (C : ℕ → List Call) (i j k : ℕ) → j ≡ i + k → slice_index_or f k false ≡ false → k < length f → unfound (slice_set f k true) C i + (length (C j) + 2) ≡ unfound f C i
+unfound_set [] C i j k is flag lt = absurd (omega arith)
+unfound_set (b ∷ f) C i j zero is flag lt =
+    let same : j ≡ i = omega arith in
+    let e = ap (λ (u : ℕ). length (C u)) same in
+    rw flag (omega (arith, e))
+unfound_set (b ∷ f) C i j (suc k) is flag lt = omega (arith, unfound_set f C (i + 1) j k (omega arith) flag (omega arith))
+
+-- what is left to follow in all
+abbrev pub left_of : (ℕ → List Call) → Search → ℕ
+left_of C s = unfound s.is_found C 0 + left_in C s.work_list
+
+-- it falls in each step
+pub less_left : (F : Functions ℕ Fault) (N : ℕ) (C : ℕ → List Call) (top : Open) (s t : Search) → AreSorted N C → length s.is_found ≡ N → Step F C top s t None → left_of C t < unfound s.is_found C 0 + left_in C (s.work_list ++ top ∷ [])
+less_left F N C top s t sound size (Ended past same is) = let z = ap (left_of C) same in omega (arith, z, left_more C s.work_list (top ∷ []))
+less_left F N C top s t sound size (Unresolved c e at to same is) = cc (is)
+less_left F N C top s t sound size (Passes c k at to flag same is) =
+    let next : Open = record top { next = top.next + 1 } in
+    let z = ap (left_of C) same in
+    let lt = slice_get_within (C top.function) top.next c at in
+    omega (arith, z, lt, left_more C s.work_list (next ∷ []), left_more C s.work_list (top ∷ []))
+less_left F N C top s t sound size (Opens c k at to flag fits same is) =
+    let new : Open = record { copy = length s.order; function = k; next = 0 } in
+    let inside : k < N = subst (IsWithin N) to (sound.within top.function top.next c at) in
+    let e = unfound_set s.is_found C 0 k k (omega arith) flag (omega (arith, size, inside)) in
+    let z = ap (left_of C) same in
+    omega (arith, e, z, left_more C (s.work_list ++ top ∷ []) (new ∷ []))
+less_left F N C top s t sound size (NoCopy c k e at to flag full same is) = cc (is)
+
+-- ---- the state of the search, its steps, and what holds when it ends
 
 -- k, at place j of the order, is reached by a walk before which each walk leads to an earlier function
 pub record First (C : ℕ → List Call) (p : ℕ) (o : List ℕ) (j k : ℕ) : Type 0 where
@@ -44,10 +119,6 @@ pub record State (N : ℕ) (C : ℕ → List Call) (p : ℕ) (o : List ℕ) (f :
   pub apart : Apart o
   pub firsts : (j k : ℕ) → 0 < j → slice_get o j ≡ Some k → First C p o j k
   pub within : (j k : ℕ) → slice_get o j ≡ Some k → k < N
-
-not_within : (cs : List Call) (i : ℕ) → slice_get cs i ≡ None → length cs ≤ i
-not_within cs i e =
-    elim (slice_get_cases cs i).1 [ inl x ↦ cc (x.2) | inr x ↦ x.0 ]
 
 module _ (N : ℕ) (C : ℕ → List Call) (p : ℕ) where
   pub first_more : (o ys : List ℕ) (j k : ℕ) → First C p o j k → First C p (o ++ ys) j k
@@ -195,29 +266,13 @@ module _ (N : ℕ) (C : ℕ → List Call) (p : ℕ) where
   to_state : (o o' : List ℕ) (f f' : List Bool) (s s' : List Open) → o' ≡ o → f' ≡ f → s' ≡ s → State N C p o f s → State N C p o' f' s'
   to_state o o' f f' s s' e g h st = subst (λ (u : List ℕ). State N C p u f' s') (sym e) (subst (λ (u : List Bool). State N C p o u s') (sym g) (subst (State N C p o f) (sym h) st))
 
-  step_append : (F : Functions ℕ Fault) → AreSorted N C → (s t : Search) (top : Open) → State N C p s.order s.is_found (s.work_list ++ top ∷ []) → (r : Call) → slice_get (C top.function) top.next ≡ Some r → (k : ℕ) → r.target ≡ Function k → slice_index_or s.is_found k false ≡ false → (o : Option Fault) → MatchOption o ((t ≡ opened F top s k) × (◌≡◌ {A = Option Fault} None None)) (λ e. (t ≡ s) × (◌≡◌ {A = Option Fault} None (Some e))) → State N C p t.order t.is_found t.work_list
-  step_append F sound s t top h r at k to flag None a =
-      subst (λ (u : Search). State N C p u.order u.is_found u.work_list) (sym a.0) (step_push sound s.order s.is_found s.work_list top r k h at to flag)
-  step_append F sound s t top h r at k to flag (Some e) a = cc (a.1)
-
-  step_flag : (F : Functions ℕ Fault) → AreSorted N C → (s t : Search) (top : Open) → State N C p s.order s.is_found (s.work_list ++ top ∷ []) → (r : Call) → slice_get (C top.function) top.next ≡ Some r → (k : ℕ) → r.target ≡ Function k → (b : Bool) → slice_index_or s.is_found k false ≡ b → MatchBool b ((t ≡ passed top s) × (◌≡◌ {A = Option Fault} None None)) (MatchOption (append_fault F k s.used) ((t ≡ opened F top s k) × (◌≡◌ {A = Option Fault} None None)) (λ e. (t ≡ s) × (◌≡◌ {A = Option Fault} None (Some e)))) → State N C p t.order t.is_found t.work_list
-  step_flag F sound s t top h r at k to true flag a =
-      subst (λ (u : Search). State N C p u.order u.is_found u.work_list) (sym a.0) (step_next s.order s.is_found s.work_list top r k h at to flag)
-  step_flag F sound s t top h r at k to false flag a = step_append F sound s t top h r at k to flag (append_fault F k s.used) a
-
-  step_to : (F : Functions ℕ Fault) → AreSorted N C → (s t : Search) (top : Open) → State N C p s.order s.is_found (s.work_list ++ top ∷ []) → (r : Call) → slice_get (C top.function) top.next ≡ Some r → (g : Target) → r.target ≡ g → StepTo F top s t None (Some g) → State N C p t.order t.is_found t.work_list
-  step_to F sound s t top h r at (Nowhere d) to a = cc (a.1)
-  step_to F sound s t top h r at (Function k) to a = step_flag F sound s t top h r at k to (slice_index_or s.is_found k false) refl a
-
-  stepped : (F : Functions ℕ Fault) → AreSorted N C → (s t : Search) (top : Open) → State N C p s.order s.is_found (s.work_list ++ top ∷ []) → (c : Option Call) → slice_get (C top.function) top.next ≡ c → StepTo F top s t None (call_target c) → State N C p t.order t.is_found t.work_list
-  stepped F sound s t top h None at a =
-      let over : length (C top.function) ≤ top.next = not_within (C top.function) top.next at in
-      subst (λ (u : Search). State N C p u.order u.is_found u.work_list) (sym a.0) (step_over s.order s.is_found s.work_list top h over)
-  stepped F sound s t top h (Some r) at a = step_to F sound s t top h r at r.target refl a
-
-  -- one step of the search, by its contract
-  pub advanced : (F : Functions ℕ Fault) → AreSorted N C → (s t : Search) (top : Open) → State N C p s.order s.is_found (s.work_list ++ top ∷ []) → Advanced F C top s t None → State N C p t.order t.is_found t.work_list
-  advanced F sound s t top h a = stepped F sound s t top h (slice_get (C top.function) top.next) refl a
+  -- one step of the search
+  pub advanced : (F : Functions ℕ Fault) → AreSorted N C → (s t : Search) (top : Open) → State N C p s.order s.is_found (s.work_list ++ top ∷ []) → Step F C top s t None → State N C p t.order t.is_found t.work_list
+  advanced F sound s t top h (Ended past same is) = subst (λ (u : Search). State N C p u.order u.is_found u.work_list) (sym same) (step_over s.order s.is_found s.work_list top h past)
+  advanced F sound s t top h (Unresolved c e at to same is) = cc (is)
+  advanced F sound s t top h (Passes c k at to flag same is) = subst (λ (u : Search). State N C p u.order u.is_found u.work_list) (sym same) (step_next s.order s.is_found s.work_list top c k h at to flag)
+  advanced F sound s t top h (Opens c k at to flag fits same is) = subst (λ (u : Search). State N C p u.order u.is_found u.work_list) (sym same) (step_push sound s.order s.is_found s.work_list top c k h at to flag)
+  advanced F sound s t top h (NoCopy c k e at to flag full same is) = cc (is)
 
   -- the end
 

@@ -1,19 +1,18 @@
 -- Flags are taken back.
-use Rattle.std.proofs.Common.{◌≡◌, ℕ, suc, ◌+◌, ◌<◌, ◌≤◌, Bool, true, false, List, [], ◌∷◌, length, drop, replicate, Option, Some, None, refl, sym, ap, ◌∙◌, subst, inl, inr, arith, get_or, length-set, get_or-set_same, get_or-set_other, drop-cons, add-one}
-use Rattle.std.specs.Prelude.{slice_index_or, slice_set, All, MatchOption}
-use Rattle.std.proofs.lemmas.Bool.{cases_Bool, cases_eq}
+use Rattle.std.proofs.Common.{◌≡◌, ℕ, suc, ◌+◌, ◌<◌, ◌≤◌, Bool, true, false, List, [], ◌∷◌, length, drop, replicate, Some, refl, sym, ap, ◌∙◌, subst, inl, inr, arith, get_or, length-set, get_or-set_same, get_or-set_other, drop-cons, add-one}
+use Rattle.std.specs.Prelude.{slice_index_or, slice_set, All}
+use Rattle.std.proofs.lemmas.Bool.{cases_eq}
 use Rattle.std.proofs.lemmas.List.{drop_all}
 use Rattle.ebpf_linker.specs.declared.reference.Fault.{Fault}
 use Rattle.ebpf_linker.specs.declared.reference.Call.{Call}
-use Rattle.ebpf_linker.specs.declared.reference.Target.{Target}
-use Rattle.ebpf_linker.specs.declared.reference.Target.TheVariants.{Function, Nowhere}
+use Rattle.ebpf_linker.specs.declared.reference.Target.TheVariants.{Function}
 use Rattle.ebpf_linker.specs.declared.search.Open.{Open}
 use Rattle.ebpf_linker.specs.Functions.{Functions, Among}
-use Rattle.ebpf_linker.specs.Faults.{append_fault}
-use Rattle.ebpf_linker.specs.Steps.{Search, opened, StepTo}
+use Rattle.ebpf_linker.specs.Search.{Search}
 use Rattle.ebpf_linker.proofs.Readying.{all_within}
 use Rattle.ebpf_linker.proofs.Paths.{among_get, get_among}
-use Rattle.ebpf_linker.proofs.Searched.{State}
+use Rattle.ebpf_linker.proofs.Searched.{State, Step, Ended, Unresolved, Passes, Opens, NoCopy}
+use Rattle.ebpf_linker.specs.declared.reference.Call.{Call}
 
 -- of n flags, those of the functions from place i on are left
 pub record Unmarking (n : ℕ) (ks : List ℕ) (flags : List Bool) (i : ℕ) : Type 0 where
@@ -59,16 +58,9 @@ module _ {N : ℕ} {C : ℕ → List Call} {p : ℕ} {o : List ℕ} {f : List Bo
   set_among k e = let (j, pos, lt, at) = h.marked k e in get_among o j k at
 
 -- a fault leaves the search as it was
-module _ (F : Functions ℕ Fault) (top : Open) (s t : Search) (d : Fault) where
-  not_opened : (k : ℕ) (o : Option Fault) → MatchOption o ((t ≡ opened F top s k) × (◌≡◌ {A = Option Fault} (Some d) None)) (λ e. (t ≡ s) × (◌≡◌ {A = Option Fault} (Some d) (Some e))) → t ≡ s
-  not_opened k None a = cc (a.1)
-  not_opened k (Some e) a = a.0
-
-  pub stands_still : (g : Option Target) → StepTo F top s t (Some d) g → t ≡ s
-  stands_still None a = a.0
-  stands_still (Some (Nowhere e)) a = a.0
-  stands_still (Some (Function k)) a =
-      elim (cases_Bool (slice_index_or s.is_found k false)) [
-        | inl e ↦ let b = rw e at a in cc (b.1)
-        | inr e ↦ let b = rw e at a in not_opened k (append_fault F k s.used) b
-      ]
+pub stands_still : (F : Functions ℕ Fault) (C : ℕ → List Call) (top : Open) (s t : Search) (d : Fault) → Step F C top s t (Some d) → t ≡ s
+stands_still F C top s t d (Ended past same is) = same
+stands_still F C top s t d (Unresolved c e at to same is) = same
+stands_still F C top s t d (Passes c k at to flag same is) = cc (is)
+stands_still F C top s t d (Opens c k at to flag fits same is) = cc (is)
+stands_still F C top s t d (NoCopy c k e at to flag full same is) = same

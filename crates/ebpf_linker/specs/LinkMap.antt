@@ -1,12 +1,12 @@
 -- What a linked program is made of: the copies of functions, and the references between them.
-use Rattle.std.specs.Prelude.{◌≡◌, ℕ, ◌+◌, ◌≤◌, List, [], ◌∷◌, length, map, Some, slice_get}
-use Rattle.ebpf_parts.specs.declared.insn.bpf_insn.{bpf_insn}
-use Rattle.ebpf_parts.specs.Slots.{is_pseudo_call}
+use Rattle.std.specs.Prelude.{◌≡◌, ℕ, ◌+◌, ◌≤◌, List, [], ◌∷◌, length, map, Some, slice_get, pos, ◌-ℤ◌}
 use Rattle.ebpf_linker.specs.Functions.{Names, Functions, body, Among, BeginsAt}
-use Rattle.ebpf_linker.specs.Answer.{IsLayout}
+use Rattle.ebpf_linker.specs.Result.{IsLayout}
 use Rattle.ebpf_linker.specs.declared.link_map.NumberedCopy.{NumberedCopy}
 use Rattle.ebpf_linker.specs.declared.link_map.NumberedLinkMap.{NumberedLinkMap}
 use Rattle.ebpf_linker.specs.declared.link_map.Reference.{Reference}
+use Rattle.ebpf_parts.specs.Slots.{is_pseudo_call}
+use Rattle.ebpf_parts.specs.declared.insn.bpf_insn.{bpf_insn}
 
 -- a copy of the function at a key: the place at which it begins, and how many slots it has
 pub record CopyOf (K : Type 0) : Type 0 where
@@ -62,3 +62,25 @@ numbered_copy c = record { function = c.key; base = c.base; slots = c.slots }
 -- the link map of the program p, of functions by their numbers
 abbrev pub IsNumberedLinkMap : {E : Type 0} → Functions ℕ E → ℕ → NumberedLinkMap → Type 0
 IsNumberedLinkMap F p m = (ks : List ℕ) × (cs : List (CopyOf ℕ)) × IsLinkMap F p ks cs m.references × (m.copies ≡ map numbered_copy cs)
+
+-- ---- what follows of a linked program and of what it is made of
+
+-- how many slots these copies have
+abbrev pub copied_slot_count : {K : Type 0} → List (CopyOf K) → ℕ
+copied_slot_count [] = 0
+copied_slot_count (c ∷ cs) = c.slots + copied_slot_count cs
+
+-- A reference of a linked program with these slots and copies: it stands in one of the copies, on a slot that refers
+-- to a function; the slot names the distance from the slot after it to the base of a copy of that function.
+pub record Lands {K E : Type 0} (F : Functions K E) (copies : List (CopyOf K)) (slots : List bpf_insn) (r : Reference) : Type 0 where
+  pub from : CopyOf K
+  pub listed : Among copies from
+  pub i : ℕ
+  pub place : r.place ≡ from.base + i
+  pub to : CopyOf K
+  pub reached : Among copies to
+  pub names : F.reference from.key i ≡ Names to.key
+  pub base : r.base ≡ to.base
+  pub slot : bpf_insn
+  pub stands : slice_get slots r.place ≡ Some slot
+  pub distance : slot.imm ≡ pos r.base -ℤ pos (r.place + 1)

@@ -1,10 +1,8 @@
 -- The flow of control of the separate functions and of the linked program.
 use Rattle.std.specs.Prelude.{◌≡◌, ◌≢◌, ℕ, zero, suc, ◌-◌, ℤ, pos, negsuc, ◌+ℤ◌, Bool, true, nat_lt, if◌then◌else◌, ◌⊎◌, List, [], ◌∷◌, map, length, Option, Some, None, slice_get}
 use Rattle.ebpf_parts.specs.declared.insn.bpf_insn.{bpf_insn}
-use Rattle.ebpf_parts.specs.Opcodes.{ld_imm64}
-use Rattle.ebpf_parts.specs.Slots.{is_pseudo_call}
-use Rattle.ebpf_linker.specs.Slots.{Flow, Return, PseudoCall, WideLoad, Jump, Branch, Next, flow, slot_at_integer}
-use Rattle.ebpf_linker.specs.Functions.{SlotReference, Nothing, Faulty, Names, Functions, body, Among}
+use Rattle.ebpf_parts.specs.Slots.{ld_imm64, is_pseudo_call}
+use Rattle.ebpf_linker.specs.Functions.{Flow, Return, PseudoCall, WideLoad, Jump, Branch, Next, flow, slot_at_integer, SlotReference, Nothing, Faulty, Names, Functions, body, Among}
 
 -- code over places of some kind: the slot at a place, the place so many slots further, and where a call goes
 pub record Code (P : Type 0) : Type 0 where

@@ -1,7 +1,7 @@
 //! Where the copies of functions begin.
 
 ghost use Rattle.std.specs.Prelude.{◌≡◌, ℕ, ◌+◌, ◌<◌, ◌^◌, length, IfOk, All, List};
-ghost use Rattle.ebpf_linker.specs.LinkedSlots.{Fit, with_bases};
+ghost use Rattle.ebpf_linker.specs.Copies.{Fit, with_bases};
 
 use crate::body::Body;
 use crate::tables::Tables;
@@ -9,6 +9,7 @@ use std::alloc::{AllocError, Global};
 
 /// The places at which copies of these functions begin, by number, where the first begins at `first`; those of other
 /// functions can be any.
+#[tactic(auto, using(crate::proofs::Walks::room_next, crate::proofs::Walks::body_read))]
 pub fn copy_bases(
     alloc: Global,
     tables: &Tables,

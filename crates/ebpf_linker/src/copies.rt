@@ -2,7 +2,7 @@
 
 ghost use Rattle.std.specs.Prelude.{◌≡◌, ℕ, ◌+◌, ◌<◌, ◌≤◌, ◌^◌, ◌++◌, length, IfOk, OnOk, All};
 ghost use Rattle.ebpf_linker.specs.Functions.{Among};
-ghost use Rattle.ebpf_linker.specs.LinkedSlots.{linked_slot, copied_slots, linked_copies, bodies_slot_count};
+ghost use Rattle.ebpf_linker.specs.Copies.{linked_slot, copied_slots, linked_copies, bodies_slot_count};
 ghost use Rattle.ebpf_linker.specs.Numbered.{IsWithin, Rises, Sound, of_target, calls_at};
 
 use crate::body::Body;

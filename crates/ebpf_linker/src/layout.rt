@@ -2,7 +2,7 @@
 
 ghost use Rattle.std.specs.Prelude.{◌≡◌, ◌<◌, length, IfOk};
 ghost use Rattle.ebpf_linker.specs.Numbered.{Sound};
-ghost use Rattle.ebpf_linker.specs.Ready.{IsLayoutAnswer};
+ghost use Rattle.ebpf_linker.specs.Copies.{IsLayoutAnswer};
 
 use crate::body::Body;
 use crate::reference::{Call, Fault};

@@ -1,11 +1,9 @@
 //! What a linked program is made of, without its slots.
 
-ghost use Rattle.std.specs.Prelude.{◌≡◌, ℕ, ◌+◌, ◌<◌, ◌≤◌, ◌^◌, [], ◌∷◌, ◌++◌, length, map, IfOk, OnOk, All};
-ghost use Rattle.ebpf_linker.specs.LinkedSlots.{Fit, body_at};
+ghost use Rattle.std.specs.Prelude.{◌≡◌, ◌+◌, ◌<◌, ◌≤◌, [], ◌∷◌, ◌++◌, length, map, IfOk, OnOk, All};
+ghost use Rattle.ebpf_linker.specs.Copies.{Fit, body_at, linked_reference, references_of_copy, references_of_copies, IsReady, IsLaidOut};
 ghost use Rattle.ebpf_linker.specs.LinkMap.{copies_from, numbered_copy, IsNumberedLinkMap};
-ghost use Rattle.ebpf_linker.specs.LinkedReferences.{linked_reference, references_of_copy, references_of_copies};
 ghost use Rattle.ebpf_linker.specs.Numbered.{IsWithin, Sound, functions_by_number};
-ghost use Rattle.ebpf_linker.specs.Ready.{IsReady, IsLaidOut};
 
 use crate::bases::copy_bases;
 use crate::body::Body;
@@ -48,6 +46,7 @@ pub struct NumberedLinkMap {
 }
 
 // The program and the copies of these functions, one after the other.
+#[tactic(auto, using(crate::proofs::Walks::room_more))]
 fn copies_of(
     alloc: Global,
     bodies: &[Body<'_>],
@@ -96,7 +95,7 @@ fn reference_at(body: &[bpf_insn], call: Call, bases: &[usize], base: usize) -> 
 }
 
 // Adds the references of a function whose copy begins at a base.
-#[tactic(auto, using(crate::proofs::LinkMapWalks::reference_here, crate::proofs::LinkMapWalks::no_linked_reference, ebpf_base::proofs::Walks::rest_none))]
+#[tactic(auto, using(crate::proofs::Walks::reference_here, crate::proofs::Walks::no_linked_reference, ebpf_base::proofs::Walks::rest_none))]
 fn add_references(
     references: &mut Vec<Reference>,
     body: &[bpf_insn],
@@ -118,6 +117,7 @@ fn add_references(
 }
 
 // The references of the program and of copies of these functions, one after the other.
+#[tactic(auto, using(crate::proofs::Walks::room_more))]
 fn references_of(
     alloc: Global,
     bodies: &[Body<'_>],

@@ -1,8 +1,8 @@
 //! Linking a program.
 
-ghost use Rattle.std.specs.Prelude.{◌≡◌, ℕ, ◌+◌, ◌<◌, ◌∷◌, List, length, IfOk, All};
+ghost use Rattle.std.specs.Prelude.{◌≡◌, ℕ, ◌<◌, ◌∷◌, List, length, IfOk, All};
 ghost use Rattle.ebpf_linker.specs.Numbered.{Sound, functions_by_number};
-ghost use Rattle.ebpf_linker.specs.Ready.{IsReady, IsLaidOut};
+ghost use Rattle.ebpf_linker.specs.Copies.{IsReady, IsLaidOut};
 ghost use Rattle.ebpf_linker.specs.Result.{IsProgram};
 
 use crate::bases::copy_bases;

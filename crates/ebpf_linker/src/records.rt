@@ -1,18 +1,18 @@
 //! The records of a linked program.
 
-ghost use Rattle.std.specs.Prelude.{◌≡◌, ℕ, ◌+◌, ◌<◌, ◌≤◌, ◌^◌, ◌++◌, List, [], length, map, false, IfOk, OnOk, All};
+ghost use Rattle.std.specs.Prelude.{◌≡◌, ◌+◌, ◌<◌, ◌++◌, [], length, map, false, IfOk, OnOk, All};
 ghost use Rattle.ebpf_linker.specs.Faults.{first_line};
 ghost use Rattle.ebpf_linker.specs.Faults.{has_stray, is_stray};
-ghost use Rattle.ebpf_linker.specs.LinkedSlots.{Fit, body_at};
+ghost use Rattle.ebpf_linker.specs.Copies.{Fit, body_at};
 ghost use Rattle.ebpf_linker.specs.Numbered.{functions_by_number};
-ghost use Rattle.ebpf_linker.specs.Records.{func_moved, line_moved, linked_func_info, linked_line_info, has_lines, count_if};
+ghost use Rattle.ebpf_linker.specs.Result.{func_moved, line_moved, linked_func_info, linked_line_info, has_lines, count_if};
 
 use crate::body::Body;
 use ebpf_ext::{bpf_func_info, bpf_line_info};
 use std::alloc::{AllocError, Global};
 
 // A record on a line, moved from where its function's lines begin to a base.
-#[tactic(auto, using(crate::proofs::Moved::not_stray))]
+#[tactic(auto, using(crate::proofs::Walks::not_stray))]
 fn moved_line(line: bpf_line_info, first: u32, base: u32) -> bpf_line_info
     requires { is_stray first base line ≡ false }
     ensures { result ≡ line_moved first base line }
@@ -60,6 +60,7 @@ fn append_line_info(
 }
 
 /// The func info records of a linked program: its own, then those of each copy.
+#[tactic(auto, using(crate::proofs::Walks::room_more))]
 pub fn func_records(
     alloc: Global,
     bodies: &[Body<'_>],
@@ -82,6 +83,7 @@ pub fn func_records(
 }
 
 /// The line info records of a linked program: its own, then those of each copy.
+#[tactic(auto, using(crate::proofs::Walks::room_more, crate::proofs::Walks::sound_more))]
 pub fn line_records(
     alloc: Global,
     bodies: &[Body<'_>],
@@ -104,6 +106,7 @@ pub fn line_records(
 }
 
 /// Whether one of these functions has line info records.
+#[tactic(auto, using(crate::proofs::Walks::lines_here, crate::proofs::Walks::some_if))]
 pub fn has_lines(bodies: &[Body<'_>], copies: &[usize]) -> bool
     requires { All (λ k. k < length bodies.now) copies.now }
     ensures { result ≡ has_lines (functions_by_number bodies.now []) copies.now }

@@ -1,13 +1,11 @@
 //! The order in which functions are copied, or why they can't be.
 
 ghost use Rattle.std.specs.Prelude.{◌≡◌, ℕ, ◌+◌, ◌<◌, ◌≤◌, length, [], IfOk, Some, All, true, false, slice_index_or};
-ghost use Rattle.ebpf_linker.specs.Found.{Finds};
+ghost use Rattle.ebpf_linker.specs.Search.{Finds, Advanced, Entered, search_at, checked_calls, checked_target};
 ghost use Rattle.ebpf_linker.specs.Faults.{checked_references, append_fault};
 ghost use Rattle.ebpf_linker.specs.Faults.{content_fault, has_stray, is_stray};
-ghost use Rattle.ebpf_linker.specs.PrivateContracts.{content_in};
 ghost use Rattle.ebpf_linker.specs.Functions.{Among};
 ghost use Rattle.ebpf_linker.specs.Numbered.{Sound, IsWithin, body_content, functions_by_number};
-ghost use Rattle.ebpf_linker.specs.Steps.{Advanced, Entered, search_at, checked_calls, checked_target};
 ghost use Rattle.ebpf_linker.specs.declared.reference.Fault.TheVariants.{ProgramTooLong, InvalidLineInfo};
 
 use crate::body::Body;

@@ -1,7 +1,7 @@
 //! Slots that refer to functions.
 
 ghost use Rattle.std.specs.Prelude.{◌≡◌, ◌+◌, ◌<◌, ◌^◌, pos, ◌-ℤ◌};
-ghost use Rattle.ebpf_linker.specs.Slots.{relinked};
+ghost use Rattle.ebpf_linker.specs.Functions.{relinked};
 
 use ebpf_parts::insn::bpf_insn;
 use ebpf_parts::insn::opcodes::BPF_PSEUDO_FUNC;

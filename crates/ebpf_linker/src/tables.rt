@@ -74,6 +74,7 @@ impl Tables {
 }
 
 /// Takes back the flags of these functions, where no other is set.
+#[tactic(auto, using(crate::proofs::Unmarked::unmarked_next))]
 pub fn unmark(flags: &mut Vec<bool>, functions: &[usize])
     requires within { All (λ k. k < length flags.old.items) functions.now }
     requires marked { (k : ℕ) → slice_index_or flags.old.items k false ≡ true → Among functions.now k }

@@ -1,10 +1,10 @@
 -- What is told of an object is told of the object as it was parsed.
-use Rattle.std.proofs.Common.{◌≡◌, ℕ, Bool, true, false, cond, List, Option, Some, None, refl, sym, subst, ◌∙◌}
+use Rattle.std.proofs.Common.{◌≡◌, ℕ, Bool, true, false, cond, List, refl, sym, subst}
 use Rattle.std.specs.Prelude.{is_some}
 use Rattle.std.specs.FinMap.{FinMap}
 use Rattle.ebpf_base.specs.Keys.{key_cmp}
 use Rattle.ebpf_list.specs.Listings.{AreObjectLayouts, IsListed, IsListing, IsWanted}
-use Rattle.ebpf_list.specs.WrittenExterns.{WritesExterns, with_known}
+use Rattle.ebpf_list.specs.ExternRows.{WritesExterns, with_known}
 use Rattle.ebpf_list.specs.declared.layout.Layout.{Layout}
 use Rattle.ebpf_list.specs.declared.listing.Listing.{Listing}
 use Rattle.ebpf_list.specs.declared.listing.Wanted.{Wanted}

@@ -8,8 +8,7 @@ use Rattle.ebpf_model.specs.Memory.{is_memory_at}
 use Rattle.ebpf_model.specs.declared.error.EbpfRelocationError.{EbpfRelocationError}
 use Rattle.ebpf_model.specs.declared.program.Program.{Program}
 use Rattle.ebpf_object.specs.Headline.{linkable}
-use Rattle.ebpf_object.specs.LinkedPrograms.{program_value}
-use Rattle.ebpf_object.specs.ProgramMaps.{MapsProgram}
+use Rattle.ebpf_object.specs.LinkedPrograms.{program_value, MapsProgram}
 use Rattle.ebpf_object.specs.declared.object.Object.{Object}
 use Rattle.ebpf_reloc.specs.Linking.{IsProgramRefusal}
 use Rattle.ebpf_reloc.specs.SlotTargets.{LinkableValue}

@@ -1,5 +1,5 @@
 -- Which programs use what, from what each function that they reach uses.
-use Rattle.std.proofs.Common.{◌≡◌, ℕ, Bool, true, false, ◌||◌, List, [], ◌∷◌, map, Option, Some, None, refl, sym, ap, ◌∙◌, arith}
+use Rattle.std.proofs.Common.{◌≡◌, ℕ, Bool, ◌||◌, List, [], ◌∷◌, map, Option, Some, None, refl, sym, ap, ◌∙◌, arith}
 use Rattle.std.specs.Prelude.{◌==◌, option_map}
 use Rattle.std.specs.FinMap.{FinMap, empty, get, nat_cmp-IsAntisymmetric}
 use Rattle.std.specs.Cmp.{nat_cmp_total}
@@ -11,12 +11,11 @@ use Rattle.ebpf_base.specs.Mapped.{map_values}
 use Rattle.ebpf_base.proofs.Lists.{filter-same}
 use Rattle.ebpf_base.proofs.Mapped.{get-map_values}
 use Rattle.ebpf_base.proofs.TextMaps.{text_exact}
-use Rattle.ebpf_list.proofs.AnyOf.{list_any-flat_map}
+use Rattle.ebpf_list.proofs.ReachedKeys.{list_any-flat_map}
 use Rattle.ebpf_list.proofs.Noted.{users_stand}
 use Rattle.ebpf_list.specs.PrivateContracts.{helpers_of, keys_or_none, names_of, names_or_none, use_names, users_from}
 use Rattle.ebpf_list.specs.Users.{AreUsers, calls, has_use, if_any, numbers_of, uses_map}
 use Rattle.ebpf_list.specs.declared.layout.Layout.{Layout}
-use Rattle.ebpf_model.specs.Keys.{FunctionKey}
 use Rattle.ebpf_model.specs.declared.function.Function.{Function}
 use Rattle.ebpf_object.specs.declared.object.Object.{Object}
 use Rattle.ebpf_report.proofs.SortedKeys.{member-insert_keys}

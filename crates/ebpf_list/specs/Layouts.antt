@@ -2,16 +2,15 @@
 use Rattle.std.specs.Prelude.{◌≡◌, ◌⊎◌, ◌-◌, ◌^◌, min, List, [], ◌∷◌, map, Some, None}
 use Rattle.std.specs.FinMap.{get}
 use Rattle.std.specs.List.{AllZip}
-use Rattle.ebpf_linker.specs.LinkMapLaws.{copied_slot_count}
+use Rattle.ebpf_linker.specs.LinkMap.{copied_slot_count}
 use Rattle.ebpf_list.specs.declared.layout.Layout.{Layout}
 use Rattle.ebpf_model.specs.declared.error.EbpfRelocationError.{EbpfRelocationError}
 use Rattle.ebpf_model.specs.declared.program.Program.{Program}
 use Rattle.ebpf_object.specs.Headline.{linkable}
 use Rattle.ebpf_object.specs.LinkedPrograms.{program_value}
 use Rattle.ebpf_object.specs.declared.object.Object.{Object}
-use Rattle.ebpf_reloc.specs.LinkMapLaws.{copy_of}
-use Rattle.ebpf_reloc.specs.LinkMaps.{IsLinkMapAt}
-use Rattle.ebpf_reloc.specs.Linking.{key_of, IsProgramRefusal}
+use Rattle.ebpf_reloc.specs.Laws.{copy_of}
+use Rattle.ebpf_reloc.specs.Linking.{IsLinkMapAt, key_of, IsProgramRefusal}
 use Rattle.ebpf_reloc.specs.declared.link_map.CodeCopy.{CodeCopy}
 use Rattle.ebpf_reloc.specs.declared.link_map.LinkMap.{LinkMap}
 use Rattle.ebpf_report.specs.declared.programs.ObjectProgram.{ObjectProgram}

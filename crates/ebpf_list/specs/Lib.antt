@@ -2,7 +2,6 @@ pub mod ExternRows
 pub mod Reached
 pub mod Users
 pub mod Layouts
-pub mod WrittenExterns
 pub mod RecordCounts
 pub mod Listings
 pub mod PrivateContracts

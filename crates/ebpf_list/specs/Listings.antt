@@ -1,18 +1,16 @@
 -- What `ebpf list` writes from: the object's tables, row by row, in their order. The maps are read of the object itself.
 use Rattle.std.specs.Prelude.{◌≡◌, Bool, List, map, MatchBool}
 use Rattle.std.specs.List.{AllZip}
-use Rattle.ebpf_list.specs.ExternRows.{extern_rows}
+use Rattle.ebpf_list.specs.ExternRows.{extern_rows, WritesExterns}
 use Rattle.ebpf_list.specs.Layouts.{AreLayouts, IsOfOne}
 use Rattle.ebpf_list.specs.Reached.{unreached_keys}
 use Rattle.ebpf_list.specs.Users.{AreUsers, calls, uses_map}
-use Rattle.ebpf_list.specs.WrittenExterns.{WritesExterns}
 use Rattle.ebpf_list.specs.declared.layout.Layout.{Layout}
 use Rattle.ebpf_list.specs.declared.listing.Listing.{Listing}
 use Rattle.ebpf_list.specs.declared.listing.Wanted.{Wanted}
 use Rattle.ebpf_object.specs.declared.object.Object.{Object}
 use Rattle.ebpf_report.specs.FunctionMaps.{function_maps}
-use Rattle.ebpf_report.specs.ObjectPrograms.{program_row, program_rows}
-use Rattle.ebpf_report.specs.ObjectSettings.{object_settings}
+use Rattle.ebpf_report.specs.ObjectPrograms.{program_row, program_rows, object_settings}
 
 -- what stands in an object as it was parsed: its programs, its externs, those that the kernel's configuration gives, and the
 -- maps that its functions use

@@ -9,7 +9,7 @@ use Rattle.ebpf_base.specs.Keys.{key_cmp}
 use Rattle.ebpf_ext.specs.declared.relocation.Relocation.{Relocation}
 use Rattle.ebpf_list.specs.RecordCounts.{asks, count_at}
 use Rattle.ebpf_list.specs.declared.layout.Layout.{Layout}
-use Rattle.ebpf_model.specs.Keys.{FunctionKey}
+use Rattle.ebpf_model.specs.Symbols.{FunctionKey}
 use Rattle.ebpf_report.specs.declared.kinds.Kind.{Kind}
 use Rattle.ebpf_report.specs.declared.map_uses.MapUse.{MapUse}
 

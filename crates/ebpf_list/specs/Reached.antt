@@ -6,7 +6,7 @@ use Rattle.std.specs.Map.{keys_of}
 use Rattle.std.specs.Ordering.{eq_by_cmp}
 use Rattle.ebpf_base.specs.Keys.{key_cmp}
 use Rattle.ebpf_list.specs.declared.layout.Layout.{Layout}
-use Rattle.ebpf_model.specs.Keys.{FunctionKey}
+use Rattle.ebpf_model.specs.Symbols.{FunctionKey}
 use Rattle.ebpf_object.specs.declared.object.Object.{Object}
 
 -- whether a program reaches the function at a key

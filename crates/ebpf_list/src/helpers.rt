@@ -80,27 +80,8 @@ fn add_helpers_at(
     Ok(())
 }
 
-/// Notes the helper functions that the program of a number calls.
-#[tactic(auto, unfolding(crate::specs::PrivateContracts::helpers_of))]
-fn add_program_helpers(
-    alloc: Global,
-    users: &mut ByNumber<Items<usize>>,
-    by_function: &ByKey<BTreeSet<u32>>,
-    layout: &Layout,
-    program: usize,
-) -> Result<(), AllocError>
-    ensures { OnOk result (users.new ≡ with_users program users.old (helpers_of by_function.now layout.now)) }
-{
-    add_helpers_at(
-        alloc,
-        users,
-        by_function,
-        layout.functions.as_slice(),
-        program,
-    )
-}
-
 /// The programs that call helper functions, by those that each function calls.
+#[tactic(auto, unfolding(crate::specs::PrivateContracts::helpers_of))]
 fn callers(
     alloc: Global,
     by_function: &ByKey<BTreeSet<u32>>,
@@ -110,7 +91,8 @@ fn callers(
 {
     let mut users = ByNumber::new(alloc);
     for (program, layout) in layouts.iter().enumerate() {
-        add_program_helpers(alloc, &mut users, by_function, layout, program)?;
+        let functions = layout.functions.as_slice();
+        add_helpers_at(alloc, &mut users, by_function, functions, program)?;
     }
     Ok(users)
 }

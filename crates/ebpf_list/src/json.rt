@@ -1,16 +1,14 @@
 //! What `ebpf list --json` prints.
 
 use crate::layout::Layout;
-use crate::license::QuotedBytes;
-use crate::listing::{Extern, Listing};
+use crate::listing::{Extern, Listing, QuotedBytes};
 use crate::text::{extern_word, order_word, pinning_word};
 use ebpf_parts::maps::{Map, PinningType};
-use ebpf_report::helper_names::helper_name;
-use ebpf_report::json::separate;
-use ebpf_report::names::Quoted;
+use ebpf_report::helper_calls::helper_name;
+use ebpf_report::names::{Quoted, separate};
 use ebpf_report::programs::ObjectProgram;
-use ebpf_report::stop::Stop;
-use ebpf_report::type_names::{map_type_name, program_type_name};
+use ebpf_report::refuse::Stop;
+use ebpf_report::types::{map_type_name, program_type_name};
 use std::io::{self, Write};
 
 /// Writes a text, or `null`.

@@ -4,7 +4,6 @@
 mod helpers;
 mod json;
 mod layout;
-mod license;
 mod listing;
 mod maps;
 mod numbers;
@@ -12,8 +11,6 @@ mod reaching;
 mod records;
 mod run;
 mod text;
-mod words;
 mod written_externs;
 
-pub use run::list;
-pub use words::ListWords;
+pub use run::{ListWords, list};

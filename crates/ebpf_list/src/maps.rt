@@ -79,21 +79,8 @@ fn add_maps_at(
     Ok(())
 }
 
-/// Notes the maps that the program of a number uses.
-#[tactic(auto, unfolding(crate::specs::PrivateContracts::names_of))]
-fn add_program_maps(
-    alloc: Global,
-    users: &mut ByName<Items<usize>>,
-    uses: &ByKey<Items<MapUse>>,
-    layout: &Layout,
-    program: usize,
-) -> Result<(), AllocError>
-    ensures { OnOk result (users.new ≡ with_users program users.old (names_of uses.now layout.now)) }
-{
-    add_maps_at(alloc, users, uses, layout.functions.as_slice(), program)
-}
-
 /// The programs that use maps, one after the other.
+#[tactic(auto, unfolding(crate::specs::PrivateContracts::names_of))]
 fn users_of_maps(
     alloc: Global,
     uses: &ByKey<Items<MapUse>>,
@@ -103,7 +90,8 @@ fn users_of_maps(
 {
     let mut users = ByName::new(alloc);
     for (program, layout) in layouts.iter().enumerate() {
-        add_program_maps(alloc, &mut users, uses, layout, program)?;
+        let functions = layout.functions.as_slice();
+        add_maps_at(alloc, &mut users, uses, functions, program)?;
     }
     Ok(users)
 }

@@ -4,13 +4,22 @@ use crate::json::write_json;
 use crate::layout::Layout;
 use crate::listing::{Wanted, layouts_of, listing_of, wanted_by};
 use crate::text::write_listing;
-use crate::words::ListWords;
-use ebpf_base::Items;
+use ebpf_base::{Items, Text};
 use ebpf_object::Object;
-use ebpf_report::object_file::read_object;
-use ebpf_report::parsed::parsed_object;
-use ebpf_report::stop::Stop;
+use ebpf_report::object_file::{parsed_object, read_object};
+use ebpf_report::refuse::Stop;
 use std::io::{BufWriter, Write};
+
+/// What `ebpf list` is to do.
+#[derive(Drop)]
+pub struct ListWords {
+    /// The object's file.
+    pub file: Text,
+    /// Which of the objects in the file, where it holds several.
+    pub object: Option<usize>,
+    /// Whether it is told as JSON.
+    pub json: bool,
+}
 
 /// Tells what an object has, as text or as JSON.
 fn tell(

@@ -1,15 +1,15 @@
 //! What `ebpf list` prints for people.
 
 use crate::layout::Layout;
-use crate::license::ShownBytes;
-use crate::listing::{Extern, Listing};
+use crate::listing::{Extern, Listing, ShownBytes};
 use ebpf_base::Endianness;
 use ebpf_parts::maps::{Map, PinningType};
 use ebpf_report::names::Shown;
 use ebpf_report::programs::ObjectProgram;
-use ebpf_report::stop::Stop;
+use ebpf_report::refuse::Stop;
+use ebpf_report::table::Column::{Number, Word};
 use ebpf_report::table::{Column, Table};
-use ebpf_report::type_names::program_type_name;
+use ebpf_report::types::program_type_name;
 use std::alloc::{AllocError, Global};
 use std::io::{self, Write};
 
@@ -62,12 +62,12 @@ fn write_file<W: Write>(out: &mut W, file: &str, listing: &Listing<'_>) -> io::R
 
 /// The columns of programs.
 const PROGRAMS: [Column; 6] = [
-    Column::Number("SLOTS"),
-    Column::Number("LINKED"),
-    Column::Number("FUNCS"),
-    Column::Word("TYPE"),
-    Column::Word("SECTION"),
-    Column::Word("NAME"),
+    Number("SLOTS"),
+    Number("LINKED"),
+    Number("FUNCS"),
+    Word("TYPE"),
+    Word("SECTION"),
+    Word("NAME"),
 ];
 
 /// The slots of a linked program, and how many functions it reaches.
@@ -142,19 +142,19 @@ fn map_columns(listing: &Listing<'_>) -> Result<MapColumns, AllocError> {
 /// The columns of maps: that of pinning and that of inner maps only where something stands in it.
 fn map_heads(alloc: Global, columns: MapColumns) -> Result<Vec<Column>, AllocError> {
     let mut heads = Vec::new(alloc);
-    heads.push(Column::Word("TYPE"))?;
-    heads.push(Column::Number("KEY"))?;
-    heads.push(Column::Number("VALUE"))?;
-    heads.push(Column::Number("ENTRIES"))?;
-    heads.push(Column::Number("FLAGS"))?;
+    heads.push(Word("TYPE"))?;
+    heads.push(Number("KEY"))?;
+    heads.push(Number("VALUE"))?;
+    heads.push(Number("ENTRIES"))?;
+    heads.push(Number("FLAGS"))?;
     if columns.has_pinned {
-        heads.push(Column::Word("PINNED"))?;
+        heads.push(Word("PINNED"))?;
     }
     if columns.has_inner {
-        heads.push(Column::Word("INNER"))?;
+        heads.push(Word("INNER"))?;
     }
-    heads.push(Column::Number("PROGRAMS"))?;
-    heads.push(Column::Word("NAME"))?;
+    heads.push(Number("PROGRAMS"))?;
+    heads.push(Word("NAME"))?;
     Ok(heads)
 }
 
@@ -259,11 +259,7 @@ fn push_names(
 }
 
 /// The columns of helper functions.
-const HELPERS: [Column; 3] = [
-    Column::Number("NUMBER"),
-    Column::Word("NAME"),
-    Column::Word("PROGRAMS"),
-];
+const HELPERS: [Column; 3] = [Number("NUMBER"), Word("NAME"), Word("PROGRAMS")];
 
 /// Writes the helper functions.
 fn write_helpers<W: Write>(alloc: Global, out: &mut W, listing: &Listing<'_>) -> Result<(), Stop> {
@@ -277,12 +273,7 @@ fn write_helpers<W: Write>(alloc: Global, out: &mut W, listing: &Listing<'_>) ->
 }
 
 /// The columns of externs.
-const EXTERNS: [Column; 4] = [
-    Column::Word("KIND"),
-    Column::Word("TYPED"),
-    Column::Word("WEAK"),
-    Column::Word("NAME"),
-];
+const EXTERNS: [Column; 4] = [Word("KIND"), Word("TYPED"), Word("WEAK"), Word("NAME")];
 
 /// Yes or no.
 fn yes_or_no(is: bool) -> &'static str {
@@ -313,7 +304,7 @@ fn write_externs<W: Write>(alloc: Global, out: &mut W, listing: &Listing<'_>) ->
 }
 
 /// The columns of what is wanted of the kernel's configuration.
-const SETTINGS: [Column; 1] = [Column::Word("NAME")];
+const SETTINGS: [Column; 1] = [Word("NAME")];
 
 /// Writes what is wanted of the kernel's configuration.
 fn write_settings<W: Write>(alloc: Global, out: &mut W, listing: &Listing<'_>) -> Result<(), Stop> {
@@ -326,11 +317,7 @@ fn write_settings<W: Write>(alloc: Global, out: &mut W, listing: &Listing<'_>) -
 }
 
 /// The columns of records.
-const RECORDS: [Column; 3] = [
-    Column::Number("COUNT"),
-    Column::Word("KIND"),
-    Column::Word("TYPE"),
-];
+const RECORDS: [Column; 3] = [Number("COUNT"), Word("KIND"), Word("TYPE")];
 
 /// Writes the records.
 fn write_records<W: Write>(alloc: Global, out: &mut W, listing: &Listing<'_>) -> Result<(), Stop> {
@@ -345,7 +332,7 @@ fn write_records<W: Write>(alloc: Global, out: &mut W, listing: &Listing<'_>) ->
 }
 
 /// The columns of functions that no program reaches.
-const UNREACHED: [Column; 2] = [Column::Number("SLOTS"), Column::Word("NAME")];
+const UNREACHED: [Column; 2] = [Number("SLOTS"), Word("NAME")];
 
 /// Writes the functions that no program reaches.
 fn write_unreached<W: Write>(

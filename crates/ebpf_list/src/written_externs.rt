@@ -1,9 +1,9 @@
 //! The externs of an object, written as if a kernel had them all.
 
 ghost use Rattle.std.specs.Prelude.{◌≡◌, IfOk};
-ghost use Rattle.ebpf_list.specs.WrittenExterns.{WritesExterns};
+ghost use Rattle.ebpf_list.specs.ExternRows.{WritesExterns};
 ghost use Rattle.ebpf_model.specs.Memory.{is_memory_at};
-ghost use Rattle.ebpf_report.specs.KnownExterns.{known_externs};
+ghost use Rattle.ebpf_report.specs.ObjectPrograms.{known_externs};
 
 use ebpf_base::{ByName, Text};
 use ebpf_model::{EbpfRelocationError, ExternDesc, RelocationError};

@@ -1,4 +1,2 @@
 pub mod FirstFound
-pub mod Prefixes
-pub mod TargetPieces
-pub mod TargetRows
+pub mod Targets

@@ -1,18 +1,19 @@
 -- What a program is attached to, as the id of a type, by the name of its section (libbpf 1.5, libbpf.c:
 -- libbpf_prepare_prog_load, find_kernel_btf_id, find_attach_btf_id, btf_get_kernel_prefix_kind).
-use Rattle.std.specs.Prelude.{ℕ, ◌==◌, List, [], ◌∷◌, ◌++◌, codes, Option, Some, None, unwrap_or}
+use Rattle.std.specs.Prelude.{ℕ, ◌==◌, List, [], ◌∷◌, ◌++◌, codes, Option, Some, None, unwrap_or, ◌≡◌, Bool, false, is_some}
 use Rattle.std.specs.List.{after_first}
+use Rattle.std.specs.Option.{option_map_or}
 use Rattle.ebpf_btf.specs.Strings.{id_of_name}
 use Rattle.ebpf_btf.specs.TypeInfo.{TypeInfo}
 use Rattle.ebpf_btf.specs.declared.kind.BtfKind.{BtfKind}
 use Rattle.ebpf_btf.specs.declared.kind.BtfKind.TheVariants as kinds
-use Rattle.ebpf_parts.specs.ProgramKinds.{unmarked}
-use Rattle.ebpf_parts.specs.ProgramSections.{first_piece, lookup_piece}
+use Rattle.ebpf_loading.specs.Texts.{without_prefix}
 use Rattle.ebpf_loading.specs.declared.attach.AttachTarget.{AttachTarget}
 use Rattle.ebpf_loading.specs.declared.attach.AttachTarget.TheVariants.{NotWanted, Unnamed, Found, NotFound}
 use Rattle.ebpf_loading.specs.declared.target.TargetKind.{TargetKind}
 use Rattle.ebpf_loading.specs.declared.target.TargetKind.TheVariants.{TracePoint, SecurityHook, Iterator, Function}
-use Rattle.ebpf_loading.specs.Texts.{without_prefix}
+use Rattle.ebpf_parts.specs.ProgramTypes.{unmarked, first_piece, lookup_piece, program_kind}
+use Rattle.ebpf_parts.specs.declared.programs.kind.ProgramKind.{ProgramKind}
 
 -- what the programs of a section are attached to, by the first piece of the section's name
 unfoldable pub targets : List (List ℕ × TargetKind)
@@ -85,3 +86,12 @@ target_or_none types (Some target) name = target_in types target name
 -- what the programs of a section of this name are attached to
 unfoldable pub attach_target : List ℕ → TypeInfo → AttachTarget
 attach_target section types = target_or_none types (wanted section) (target_name section)
+
+-- ---- that the sections whose programs have targets are those of which the table of program kinds says so
+
+-- whether a loader wants the id of a type for the programs of a section
+abbrev pub wants_type : List ℕ → Bool
+wants_type section = option_map_or (λ (kind : ProgramKind). kind.wants_target_type) (program_kind section) false
+
+abbrev pub WantedAsKinds : Type 0
+WantedAsKinds = (section : List ℕ) → is_some (wanted section) ≡ wants_type section

@@ -1,5 +1,4 @@
 pub mod AttachTargets
 pub mod KernelNumbers
 pub mod MapTypeIds
-pub mod TargetLaws
 pub mod Texts

@@ -3,13 +3,11 @@
 ghost use Rattle.std.specs.Prelude.{◌≡◌, ◌==◌, ◌++◌, IfOk, string_bytes};
 ghost use Rattle.std.specs.List.{after_first};
 ghost use Rattle.ebpf_btf.specs.Strings.{id_of_name};
-ghost use Rattle.ebpf_parts.specs.ProgramKinds.{unmarked};
-ghost use Rattle.ebpf_parts.specs.ProgramSections.{first_piece};
-ghost use Rattle.ebpf_loading.specs.AttachTargets.{attach_target, in_kernel, kind_of_target, prefix_of, target_in, type_named};
+ghost use Rattle.ebpf_parts.specs.ProgramTypes.{unmarked, first_piece};
+ghost use Rattle.ebpf_loading.specs.AttachTargets.{attach_target, in_kernel, prefix_of, target_in, type_named};
 
-use crate::named::id_of_name;
 use crate::target::{TargetKind, target_by};
-use crate::texts::without_prefix;
+use crate::texts::{id_of_name, without_prefix};
 use ebpf_base::Text;
 use ebpf_btf::{Btf, BtfKind};
 use std::alloc::{AllocError, Global};

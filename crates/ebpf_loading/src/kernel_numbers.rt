@@ -6,8 +6,7 @@ ghost use Rattle.std.specs.Option.{option_copied};
 ghost use Rattle.ebpf_base.specs.Faults.{or_else};
 ghost use Rattle.ebpf_loading.specs.KernelNumbers.{enumeration, enumerators_of, has_number, helper_name, helpers, knows_helper, knows_map_type, map_type_numbering, name_by, named_enumerators};
 
-use crate::named::is_named;
-use crate::texts::{as_text, without_prefix};
+use crate::texts::{as_text, is_named, without_prefix};
 use ebpf_btf::strings::is_text_at;
 use ebpf_btf::{Btf, BtfEnum, BtfKind, BtfType, Rows};
 use std::marker::Model;

@@ -4,7 +4,7 @@ ghost use Rattle.std.specs.Prelude.{◌≡◌, nat_eq};
 ghost use Rattle.std.specs.List.{list_any};
 ghost use Rattle.ebpf_loading.specs.MapTypeIds.{data_type, has_value_type, is_type_of, map_type_ids, stated_ids, stated_size, taken, untyped_maps};
 
-use crate::named::id_of_name;
+use crate::texts::id_of_name;
 use ebpf_btf::{Btf, BtfKind};
 use ebpf_parts::EbpfSectionKind;
 use ebpf_parts::maps::{LegacyMap, Map};

@@ -1,7 +1,7 @@
 //! What programs are attached to.
 
 ghost use Rattle.std.specs.Prelude.{◌≡◌};
-ghost use Rattle.ebpf_parts.specs.ProgramSections.{lookup_piece};
+ghost use Rattle.ebpf_parts.specs.ProgramTypes.{lookup_piece};
 ghost use Rattle.ebpf_loading.specs.AttachTargets.{kind_of_target, prefix_of, targets};
 
 use ebpf_btf::BtfKind;

@@ -13,7 +13,7 @@ use Rattle.std.proofs.lemmas.List.Kept.{IsStrictlySortedBy-filter}
 use Rattle.ebpf_base.proofs.Lists.{filter-map}
 use Rattle.ebpf_base.proofs.Sorted.{entries_rise}
 use Rattle.ebpf_base.specs.EntriesFrom.{entries_from}
-use Rattle.ebpf_elf.specs.declared.entries.ElfRelocation.{ElfRelocation}
+use Rattle.ebpf_elf.specs.declared.relocation.ElfRelocation.{ElfRelocation}
 use Rattle.ebpf_model.specs.declared.walk.Walk.{Walk}
 use Rattle.ebpf_model.specs.Walks.{found_at, entries_or_none, ahead_in, left, left_in, walked_relocations, is_passed, at_offset, IsBefore}
 

@@ -1,6 +1,3 @@
-pub mod Keys
-pub mod Memory
-pub mod Shapes
 pub mod Symbols
-pub mod TextSections
+pub mod Memory
 pub mod Walks

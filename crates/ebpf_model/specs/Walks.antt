@@ -1,11 +1,25 @@
--- A walk over the relocations of sections, in step with functions and their slots.
-use Rattle.std.specs.Prelude.{◌≡◌, ◌≤◌, ◌==◌, ◌^◌, ℕ, Bool, false, nat_lt, if◌then◌else◌, List, [], ◌∷◌, Option, Some, None}
+-- What a pass keeps of a function: all of it but the slots, and how many these are.
+use Rattle.std.specs.Prelude.{◌≡◌, length, Option, Some, None, IsSomeAnd, MatchOption, ◌≤◌, ◌==◌, ◌^◌, ℕ, Bool, false, nat_lt, if◌then◌else◌, List, [], ◌∷◌}
 use Rattle.std.specs.FinMap.{FinMap, get, entries}
 use Rattle.std.specs.Option.{option_copied}
 use Rattle.std.specs.Ordering.{nat_cmp}
 use Rattle.ebpf_base.specs.EntriesFrom.{entries_from}
-use Rattle.ebpf_elf.specs.declared.entries.ElfRelocation.{ElfRelocation}
+use Rattle.ebpf_base.specs.Keys.{key_cmp}
+use Rattle.ebpf_elf.specs.declared.relocation.ElfRelocation.{ElfRelocation}
+use Rattle.ebpf_model.specs.Symbols.{FunctionKey}
+use Rattle.ebpf_model.specs.declared.function.Function.{Function}
 use Rattle.ebpf_model.specs.declared.walk.Walk.{Walk}
+
+-- name, address, section, place in it, records and sizes of records stay, and there are as many slots
+pub record KeepsShape (before after : Function) : Type 0 where
+  pub others : after ≡ record before { instructions = after.instructions }
+  pub slots : length after.instructions ≡ length before.instructions
+
+-- the same keys, at each of which the function keeps its shape
+abbrev pub KeepShapes : FinMap key_cmp Function → FinMap key_cmp Function → Type 0
+KeepShapes before after = (key : FunctionKey) → MatchOption (get before key) (get after key ≡ None) (λ f. IsSomeAnd (get after key) (KeepsShape f))
+
+-- ---- a walk over the relocations of sections, in step with functions and their slots
 
 -- the relocation at an offset of a section, which is a number of 64 bits (ELF-64 gABI, 'Relocation': r_offset)
 abbrev pub found_at : Option (FinMap nat_cmp ElfRelocation) → ℕ → Option ElfRelocation

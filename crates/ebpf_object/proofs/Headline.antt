@@ -15,24 +15,21 @@ use Rattle.ebpf_core_relo.specs.Alone.{Touches, Carries}
 use Rattle.ebpf_core_relo.specs.Records.{Written, own_slots, slots_so_far, slots_written, with_slots}
 use Rattle.ebpf_ksyms.specs.Sources.{Source}
 use Rattle.ebpf_linker.specs.Functions.{or_empty}
-use Rattle.ebpf_object.specs.RelocatedSlots.{AreRelocatedToTypes, relocated_slots_by}
+use Rattle.ebpf_object.specs.WrittenSlots.{AreRelocatedToTypes, relocated_slots_by, with_externs}
 use Rattle.ebpf_object.specs.Chain.{Chain, Links, with_descriptors}
 use Rattle.ebpf_object.specs.Headline.{key_of_program, ProgramsAreWhole, slot_in, record_inputs_of, IsCopiedTo, StandsAt, RecordsAreCarried, IsFinished, PassesFinish, passes_of, Headline}
 use Rattle.ebpf_object.specs.LinkedPrograms.{program_value, linkable_of, programs_in_order, is_program_key}
 use Rattle.ebpf_object.specs.Objects.{object_as}
 use Rattle.ebpf_object.specs.Prepared.{IsPrepared, Stages}
-use Rattle.ebpf_object.specs.Stages.{RelocatesTypes, LinksPrograms, Resolves, fds_written, with_externs_if, own_maps}
-use Rattle.ebpf_object.specs.Steps.{Chosen, Descriptor}
-use Rattle.ebpf_object.specs.TextSections.{has_function_in}
-use Rattle.ebpf_object.specs.WrittenSlots.{with_externs}
+use Rattle.ebpf_object.specs.Stages.{RelocatesTypes, LinksPrograms, Resolves, fds_written, with_externs_if, own_maps, Chosen, Descriptor}
+use Rattle.ebpf_object.specs.Names.{has_function_in}
 use Rattle.ebpf_object.specs.declared.object.Object.{Object}
 use Rattle.ebpf_model.specs.declared.program.Program.{Program}
 use Rattle.ebpf_parts.specs.declared.insn.bpf_insn.{bpf_insn}
 use Rattle.ebpf_reloc.proofs.OneResult.{copied_slots_stay}
 use Rattle.ebpf_reloc.specs.Linking as linking
 use Rattle.ebpf_reloc.specs.Linking.{ProgramValue}
-use Rattle.ebpf_model.specs.TextSections.{TextSections}
-use Rattle.ebpf_model.specs.Keys.{FunctionKey}
+use Rattle.ebpf_model.specs.Symbols.{TextSections, FunctionKey}
 use Rattle.ebpf_reloc.specs.References.{content_of}
 use Rattle.ebpf_model.specs.declared.function.Function.{Function}
 use Rattle.ebpf_parts.specs.declared.reading.Reading.{Reading}

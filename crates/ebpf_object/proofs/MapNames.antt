@@ -14,7 +14,7 @@ use Rattle.ebpf_base.specs.Faults.{or_else}
 use Rattle.ebpf_base.specs.Keys.{text_cmp, text_total}
 use Rattle.ebpf_base.proofs.Faults.{or_else-None, or_else-assoc}
 use Rattle.ebpf_base.proofs.Sorted.{entries_rise}
-use Rattle.ebpf_object.specs.MapNames.{with_map_name, with_map_names}
+use Rattle.ebpf_object.specs.Names.{with_map_name, with_map_names}
 use Rattle.ebpf_object.specs.Patches.{first_map}
 use Rattle.ebpf_parts.specs.Maps.{section_index_of}
 use Rattle.ebpf_parts.specs.declared.maps.either.Map.{Map}

@@ -1,9 +1,9 @@
--- Preparing has one result, where the bytes of the kernel's symbols are known.
-use Rattle.std.proofs.Common.{◌≡◌, ◌⊎◌, inl, inr, ℕ, Bool, true, false, List, Option, Some, None, Result, Ok, Err, refl, sym, ap, subst, ◌∙◌}
-use Rattle.std.proofs.lemmas.Bool.{or_parts, MatchBool-at_true, MatchBool-at_false}
-use Rattle.std.specs.Prelude.{◌||◌}
-use Rattle.std.specs.Cmp.{eq_by_cmp_equiv}
+-- Linking the programs of an object has one result.
+use Rattle.std.proofs.Common.{◌≡◌, Bool, true, false, Some, sym, ap, ◌∙◌, ◌⊎◌, inl, inr, ℕ, List, Option, None, Result, Ok, Err, refl, subst}
+use Rattle.std.specs.Prelude.{MatchBool, ◌||◌}
 use Rattle.std.specs.FinMap.{FinMap, get, same_map}
+use Rattle.std.proofs.lemmas.Bool.{or_parts, MatchBool-at_true, MatchBool-at_false}
+use Rattle.std.specs.Cmp.{eq_by_cmp_equiv}
 use Rattle.std.specs.Ordering.{eq_by_cmp}
 use Rattle.ebpf_base.proofs.Maps.{key_exact}
 use Rattle.ebpf_base.specs.Keys.{key_cmp, key_total}
@@ -14,26 +14,36 @@ use Rattle.ebpf_core_relo.specs.declared.error.BtfRelocationError.{BtfRelocation
 use Rattle.ebpf_ksyms.specs.Externs as resolution
 use Rattle.ebpf_ksyms.specs.Sources.{Reader}
 use Rattle.ebpf_ksyms.specs.declared.error.KsymsError.{KsymsError}
-use Rattle.ebpf_object.proofs.OneLinking.{one_linking}
+use Rattle.ebpf_model.specs.Symbols.{FunctionKey}
+use Rattle.ebpf_model.specs.declared.error.EbpfRelocationError.{EbpfRelocationError}
+use Rattle.ebpf_model.specs.declared.function.Function.{Function}
 use Rattle.ebpf_object.proofs.OneResolution.{not_resolved, one_refusal, one_resolved}
-use Rattle.ebpf_object.specs.RelocatedSlots.{relocated_slots}
-use Rattle.ebpf_object.specs.LinkedPrograms.{ProgramsAreLinked, is_program_key, linkable_of, programs_in_order}
+use Rattle.ebpf_object.specs.LinkedPrograms.{is_program_key, OneLinking, ProgramsAreLinked, linkable_of, programs_in_order}
+use Rattle.ebpf_object.specs.Names.{has_function_in}
 use Rattle.ebpf_object.specs.Objects.{object_as, parse_fault_as}
-use Rattle.ebpf_object.specs.OnePreparation.{OnePreparation, OneStaging, is_access, is_access_error, prepare_error_without_texts}
-use Rattle.ebpf_object.specs.Prepared.{IsStageFault, IsFaultAfter, IsFirstPrepareFault, IsPrepared, NamesNothing, RefusesPreparing, Stages, before_calls, before_externs, before_maps, before_resolution, is_prepare_memory}
-use Rattle.ebpf_object.specs.Stages.{RelocatesTypes, TypesFault, LinksPrograms, LinkingFault, Resolves, ResolvingFault, fds_written, fds_fault, with_externs_if, externs_fault_if}
-use Rattle.ebpf_object.specs.Steps.{Chosen}
-use Rattle.ebpf_object.specs.TextSections.{has_function_in}
+use Rattle.ebpf_object.specs.Prepared.{OnePreparation, OneStaging, is_access, is_access_error, prepare_error_without_texts, IsStageFault, IsFaultAfter, IsFirstPrepareFault, IsPrepared, NamesNothing, RefusesPreparing, Stages, before_calls, before_externs, before_maps, before_resolution, is_prepare_memory}
+use Rattle.ebpf_object.specs.WrittenSlots.{relocated_slots}
+use Rattle.ebpf_object.specs.Stages.{RelocatesTypes, TypesFault, LinksPrograms, LinkingFault, Resolves, ResolvingFault, fds_written, fds_fault, with_externs_if, externs_fault_if, Chosen}
 use Rattle.ebpf_object.specs.declared.object.Object.{Object}
 use Rattle.ebpf_object.specs.declared.prepare_error.PrepareError.{PrepareError}
 use Rattle.ebpf_object.specs.declared.prepare_error.PrepareError.TheVariants.{Parse, Types, Maps, Ksyms, Externs, Calls, OutOfMemory}
 use Rattle.ebpf_parts.specs.declared.error.ParseError.{ParseError}
 use Rattle.ebpf_parts.specs.declared.reading.Reading.{Reading}
-use Rattle.ebpf_reloc.proofs.OneResult.{any_at, not_refused, one_result}
-use Rattle.ebpf_reloc.specs.Linking.{IsFirstRefusal as IsFirstProgram, ProgramValue, key_of}
+use Rattle.ebpf_reloc.proofs.OneResult.{one_way, any_at, not_refused, one_result}
+use Rattle.ebpf_reloc.specs.Linking.{IsLinked, IsFirstRefusal as IsFirstProgram, ProgramValue, key_of}
 use Rattle.ebpf_reloc.specs.SlotTargets.{LinkableValue}
-use Rattle.ebpf_model.specs.declared.error.EbpfRelocationError.{EbpfRelocationError}
-use Rattle.ebpf_model.specs.declared.function.Function.{Function}
+
+at_key : (parts : LinkableValue) (key : FunctionKey) (after other : FinMap key_cmp Function) (b : Bool)
+    → MatchBool b ((g : Function) × (get after key ≡ Some g) × IsLinked parts key g) (get after key ≡ get parts.functions key)
+    → MatchBool b ((g : Function) × (get other key ≡ Some g) × IsLinked parts key g) (get other key ≡ get parts.functions key)
+    → get after key ≡ get other key
+at_key parts key after other true h g = h.1 ∙ ap Some (one_way parts key h.0 g.0 h.2 g.2) ∙ sym g.1
+at_key parts key after other false h g = h ∙ sym g
+
+pub one_linking : OneLinking
+one_linking parts programs after other h g = same_map key_total key_exact after other (λ key. at_key parts key after other (is_program_key programs key) (h key) (g key))
+
+-- ---- preparing has one result, where the bytes of the kernel's symbols are known
 
 -- ---- answers
 

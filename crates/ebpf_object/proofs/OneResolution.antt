@@ -5,12 +5,11 @@ use Rattle.std.specs.Io.BufRead.{drop_through}
 use Rattle.ebpf_base.proofs.Faults.{both_None}
 use Rattle.ebpf_btf.specs.TypeInfo.{TypeInfo}
 use Rattle.ebpf_ksyms.proofs.Reading.{lines_fault-push}
-use Rattle.ebpf_ksyms.specs.Addresses.{Line, line_fault, lines_fault}
+use Rattle.ebpf_ksyms.specs.Addresses.{Line, line_fault, lines_fault, is_one_of}
 use Rattle.ebpf_ksyms.specs.Externs.{Externs, lines_refused, names_read, names_refused, reads_lines, resolved_externs, types_refused}
-use Rattle.ebpf_ksyms.specs.Named.{is_one_of}
-use Rattle.ebpf_ksyms.specs.Readers.{AreFirst, AreLines, CountsLines, IsRefusedIn, IsResolvedIn, StopsAtLineIn, StopsAtNameIn, StopsAtAccessIn, read_lines}
+use Rattle.ebpf_ksyms.specs.Sources.{AreFirst, AreLines, CountsLines, IsRefusedIn, IsResolvedIn, StopsAtLineIn, StopsAtNameIn, StopsAtAccessIn, read_lines}
 use Rattle.ebpf_ksyms.specs.declared.error.KsymsError.{KsymsError}
-use Rattle.ebpf_object.specs.OnePreparation.{is_access_error}
+use Rattle.ebpf_object.specs.Prepared.{is_access_error}
 
 -- ---- the lines of some bytes
 

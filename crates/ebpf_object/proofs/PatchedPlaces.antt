@@ -9,9 +9,8 @@ use Rattle.ebpf_base.proofs.Orderings.{is_equal}
 use Rattle.ebpf_parts.specs.Maps.{bytes_of, with_bytes}
 use Rattle.ebpf_parts.specs.declared.maps.either.Map.{Map}
 use Rattle.ebpf_parts.specs.declared.maps.either.Map.TheVariants.{Legacy, Btf}
-use Rattle.ebpf_object.specs.Patches.{PatchValue, overwritten, with_patch, patched_at, all_patched, map_data_of}
-use Rattle.ebpf_object.specs.PatchedBytes.{Covers, byte_at}
-use Rattle.ebpf_object.proofs.Overwrites.{overwritten_long, overwritten_beside, overwritten_within}
+use Rattle.ebpf_object.specs.Patches.{PatchValue, overwritten, with_patch, patched_at, all_patched, map_data_of, Covers, byte_at}
+use Rattle.ebpf_object.proofs.Values.{overwritten_long, overwritten_beside, overwritten_within}
 
 -- texts are one or differ
 pub one_or_other : (a b : List ℕ) → (a ≡ b) ⊎ (eq_by_cmp text_cmp a b ≡ false)

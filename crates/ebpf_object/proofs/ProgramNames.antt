@@ -1,22 +1,23 @@
 -- The programs of names, one after the other.
-use Rattle.std.proofs.Common.{◌≡◌, ℕ, ◌+◌, ◌<◌, true, false, cond, List, [], ◌∷◌, ◌++◌, map, length, drop, Some, Bor, refl, sym, ap, ◌∙◌}
-use Rattle.std.specs.Prelude.{slice_index_or}
+use Rattle.std.proofs.Common.{◌≡◌, ℕ, ◌+◌, ◌<◌, true, false, cond, List, [], ◌∷◌, ◌++◌, map, length, drop, Some, Bor, refl, sym, ap, ◌∙◌, Bool, subst}
+use Rattle.std.specs.Prelude.{slice_index_or, MatchBool}
 use Rattle.std.specs.Cmp.{eq_by_cmp_equiv}
-use Rattle.std.specs.FinMap.{FinMap, entries, find, get-entries}
+use Rattle.std.specs.FinMap.{FinMap, entries, find, get-entries, get}
 use Rattle.std.specs.List.{flat_map, IsDistinct, AllByRecursion}
 use Rattle.std.specs.Map.{keys_of}
 use Rattle.std.specs.Ordering.{eq_by_cmp}
 use Rattle.std.proofs.lemmas.Map.Keys.{IsDistinct-from_sorted}
+use Rattle.std.proofs.lemmas.List.{append_assoc}
 use Rattle.ebpf_base.proofs.Lists.{flat_map-same}
 use Rattle.ebpf_base.proofs.Sorted.{entries_rise}
-use Rattle.ebpf_base.specs.Keys.{text_cmp, text_total}
-use Rattle.ebpf_object.specs.LinkedPrograms.{program_value, programs_in_order}
-use Rattle.ebpf_object.specs.PrivateContracts.{program_if, program_with}
-use Rattle.ebpf_model.specs.declared.program.Program.{Program}
-use Rattle.std.proofs.lemmas.List.{append_assoc}
-use Rattle.ebpf_base.specs.Keys.{lent_bytes}
 use Rattle.ebpf_base.proofs.Walks.{rest_more}
-use Rattle.ebpf_reloc.specs.Linking.{ProgramValue}
+use Rattle.ebpf_base.specs.Keys.{text_cmp, text_total, lent_bytes, key_cmp, key_total}
+use Rattle.ebpf_model.specs.declared.function.Function.{Function}
+use Rattle.ebpf_model.specs.declared.program.Program.{Program}
+use Rattle.ebpf_object.specs.LinkedPrograms.{program_value, programs_in_order, is_program_key, MapsTellOfLinked}
+use Rattle.ebpf_object.specs.PrivateContracts.{program_if, program_with}
+use Rattle.ebpf_reloc.proofs.OneResult.{link_maps_match, any_at}
+use Rattle.ebpf_reloc.specs.Linking.{ProgramValue, key_of, IsLinked}
 
 -- those so far, with that of the first name that is left, and those of the others
 pub one_name : (f : List ℕ → List ProgramValue) (before : List ProgramValue) (names : List (Bor (List ℕ))) (i : ℕ) (name : Bor (List ℕ)) → i < length names → name ≡ slice_index_or names i name
@@ -46,3 +47,12 @@ module _ (programs : FinMap text_cmp Program) where
   all_names =
       flat_map-same (program_with programs) (found_in (entries programs)) (keys_of (entries programs)) (λ name. ap (program_if name) (get-entries programs name))
       ∙ by_names (entries programs) (IsDistinct-from_sorted text_cmp _ (entries_rise programs))
+
+-- ---- what the maps of programs tell of once the programs are linked
+
+pub maps_tell_of_linked : MapsTellOfLinked
+maps_tell_of_linked parts programs after function i program at m a =
+    let key = key_of program in
+    let is : is_program_key programs key ≡ true = any_at (λ p. eq_by_cmp key_cmp key (key_of p)) programs i program at ((eq_by_cmp_equiv key_total).refl key) in
+    let (g, there, b) = subst (λ (c : Bool). MatchBool c ((g : Function) × (get after key ≡ Some g) × IsLinked parts key g) (get after key ≡ get parts.functions key)) is (function key) in
+    (g, there, b, link_maps_match parts key m g a b)

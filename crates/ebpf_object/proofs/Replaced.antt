@@ -14,7 +14,7 @@ use Rattle.ebpf_object.specs.PrivateContracts.{replaced}
 use Rattle.ebpf_base.proofs.Orderings.{is_equal}
 use Rattle.ebpf_reloc.specs.Linking.{ProgramValue, IsLinked, AreLinked}
 use Rattle.ebpf_reloc.specs.SlotTargets.{LinkableValue}
-use Rattle.ebpf_model.specs.Keys.{FunctionKey}
+use Rattle.ebpf_model.specs.Symbols.{FunctionKey}
 use Rattle.ebpf_model.specs.declared.function.Function.{Function}
 
 -- one function takes its place

@@ -1,16 +1,22 @@
 -- The stages of preparing an object, put together.
-use Rattle.std.proofs.Common.{◌≡◌, ℕ, Bool, true, false, List, Option, Some, None, refl, subst, sym}
-use Rattle.std.specs.Prelude.{MatchBool, Result, Ok, Err, OnOk, IfOk, IfErr, IsErrAnd}
-use Rattle.ebpf_object.specs.Prepared.{Stages, before_calls, before_externs, before_resolution, before_maps, IsStageFault, IsFirstPrepareFault, IsPrepared, IsParsed, RefusesPreparing, NamesNothing, is_prepare_memory}
+use Rattle.std.proofs.Common.{◌≡◌, ℕ, Bool, true, false, List, Some, None, refl, subst, sym, ap, ◌∙◌, ◌+◌, ◌<◌, [], ◌∷◌, ◌++◌, map, length, drop, Bor}
+use Rattle.std.specs.Prelude.{MatchBool, Result, Ok, Err, OnOk, IfOk, IfErr, IsErrAnd, ℤ, slice_index_or, option_map}
+use Rattle.std.proofs.lemmas.List.{append_assoc, map-append}
+use Rattle.std.specs.FinMap.{FinMap, get}
+use Rattle.std.specs.List.{cons_option}
+use Rattle.ebpf_base.proofs.Walks.{rest_more}
+use Rattle.ebpf_base.specs.Keys.{text_cmp}
 use Rattle.ebpf_ksyms.specs.Sources.{Source}
 use Rattle.ebpf_object.specs.Objects.{object_as, parse_fault_as}
-use Rattle.ebpf_object.specs.StageFaults.{Wrapped}
-use Rattle.ebpf_object.specs.Stages.{RelocatesTypes, TypesFault, fds_written, fds_fault, Resolves, ResolvingFault, with_externs_if, externs_fault_if, LinksPrograms, LinkingFault}
-use Rattle.ebpf_object.specs.Steps.{Chosen}
+use Rattle.ebpf_object.specs.Prepared.{Stages, before_calls, before_externs, before_resolution, before_maps, IsStageFault, IsFirstPrepareFault, IsPrepared, IsParsed, RefusesPreparing, NamesNothing, is_prepare_memory}
+use Rattle.ebpf_object.specs.Stages.{Wrapped, RelocatesTypes, TypesFault, fds_written, fds_fault, Resolves, ResolvingFault, with_externs_if, externs_fault_if, LinksPrograms, LinkingFault, Chosen, own_maps, descriptor_of}
+use Rattle.ebpf_object.specs.UnchangedFields.{KeepsOthers}
 use Rattle.ebpf_object.specs.declared.object.Object.{Object}
 use Rattle.ebpf_object.specs.declared.prepare_error.PrepareError.{PrepareError}
 use Rattle.ebpf_object.specs.declared.prepare_error.PrepareError.TheVariants.{Parse, Types, Maps, Ksyms, Externs, Calls, OutOfMemory}
+use Rattle.ebpf_parts.specs.declared.maps.either.Map.{Map}
 use Rattle.ebpf_parts.specs.declared.reading.Reading.{Reading}
+use Rattle.ebpf_passes.specs.Maps.{GivenMap, LentMap, given_map}
 
 -- what follows of an answer
 module _ {U E : Type 0} where
@@ -172,3 +178,36 @@ module _ (steps : Chosen) (lines : Source) (reading : Reading) (bytes : List ℕ
   file_refused e r =
       other_fault (is_prepare_memory e) (NamesNothing e) (IsStageFault steps lines (object_as reading bytes) e) (IsFirstPrepareFault steps lines reading bytes e) (first_of steps lines reading bytes from.sound e)
       (subst (λ (x : Object). RefusesPreparing (IsStageFault steps lines x) e) from.is r)
+
+-- ---- what stays of an object over two and more passes that change no more than its functions and its externs
+
+pub kept_twice : (o a b : Object) → KeepsOthers o a → KeepsOthers a b → KeepsOthers o b
+kept_twice o a b first second = second ∙ ap (λ (x : Object). record x { functions = b.functions; externs = b.externs }) first
+
+pub kept_thrice : (o a b d : Object) → KeepsOthers o a → KeepsOthers a b → KeepsOthers b d → KeepsOthers o d
+kept_thrice o a b d first second third = kept_twice o b d (kept_twice o a b first second) third
+
+pub kept_four_times : (o a b d e : Object) → KeepsOthers o a → KeepsOthers a b → KeepsOthers b d → KeepsOthers d e → KeepsOthers o e
+kept_four_times o a b d e first second third fourth = kept_twice o d e (kept_thrice o a b d first second third) fourth
+
+-- ---- maps that are listed with their descriptors, one after the other
+
+module _ (maps : FinMap text_cmp Map) where
+  abbrev listed : List (Bor (List ℕ) × ℤ) → List GivenMap
+  listed ds = own_maps maps (map descriptor_of ds)
+
+  -- a map that is there, and those of the names that are left
+  pub one_listed : (own : List LentMap) (ds : List (Bor (List ℕ) × ℤ)) (i : ℕ) (d : Bor (List ℕ) × ℤ) (m : Bor Map)
+      → i < length ds → d ≡ slice_index_or ds i d → get maps d.0.now ≡ Some m.now
+      → map given_map (own ++ (d.0, d.1, m) ∷ []) ++ own_maps maps (map descriptor_of (drop (i + 1) ds)) ≡ map given_map own ++ own_maps maps (map descriptor_of (drop i ds))
+  one_listed own ds i d m below here there =
+      ap (λ front. front ++ listed (drop (i + 1) ds)) (map-append given_map own ((d.0, d.1, m) ∷ []))
+      ∙ append_assoc (map given_map own) ((d.1, m.now) ∷ []) (listed (drop (i + 1) ds))
+      ∙ ap (λ rest. map given_map own ++ rest) (sym (ap listed (rest_more ds i d below here) ∙ ap (λ found. cons_option (option_map (λ f. (d.1, f)) found) (listed (drop (i + 1) ds))) there))
+
+  -- a name that stands for no map
+  pub none_listed : (ds : List (Bor (List ℕ) × ℤ)) (i : ℕ) (d : Bor (List ℕ) × ℤ)
+      → i < length ds → d ≡ slice_index_or ds i d → get maps d.0.now ≡ None
+      → own_maps maps (map descriptor_of (drop (i + 1) ds)) ≡ own_maps maps (map descriptor_of (drop i ds))
+  none_listed ds i d below here absent =
+      sym (ap listed (rest_more ds i d below here) ∙ ap (λ found. cons_option (option_map (λ f. (d.1, f)) found) (listed (drop (i + 1) ds))) absent)

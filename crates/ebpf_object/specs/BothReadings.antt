@@ -1,7 +1,7 @@
 -- The object of a file in both readings.
 use Rattle.std.specs.Prelude.{◌≡◌, ℕ, List, None}
 use Rattle.ebpf_base.specs.declared.endianness.Endianness.TheVariants.{Little}
-use Rattle.ebpf_elf.specs.File.{ei_data}
+use Rattle.ebpf_elf.specs.Headers.{ei_data}
 use Rattle.ebpf_object.specs.Objects.{object_as, object_of, parse_fault, parse_fault_as}
 use Rattle.ebpf_parts.specs.declared.reading.Reading.TheVariants.{Broad}
 

@@ -7,7 +7,7 @@ use Rattle.ebpf_object.specs.Stages.{RelocatesTypes}
 use Rattle.ebpf_object.specs.WrittenSlots.{with_maps, with_externs}
 use Rattle.ebpf_object.specs.declared.object.Object.{Object}
 use Rattle.ebpf_passes.specs.Maps.{GivenMap}
-use Rattle.ebpf_model.specs.TextSections.{TextSections}
+use Rattle.ebpf_model.specs.Symbols.{TextSections}
 
 -- the passes that were made: the types that functions were relocated to; the sections of code and the maps with
 -- descriptors that slots were written by; whether externs were written; the sections of code that programs were linked by

@@ -22,17 +22,15 @@ use Rattle.ebpf_object.specs.Chain.{Passes, Chain}
 use Rattle.ebpf_object.specs.LinkedPrograms.{linkable_of, programs_in_order, is_program_key}
 use Rattle.ebpf_object.specs.Objects.{object_as}
 use Rattle.ebpf_object.specs.Prepared.{IsPrepared}
-use Rattle.ebpf_object.specs.Stages.{own_maps}
-use Rattle.ebpf_object.specs.Steps.{Chosen}
-use Rattle.ebpf_object.specs.TextSections.{has_function_in}
+use Rattle.ebpf_object.specs.Stages.{own_maps, Chosen}
+use Rattle.ebpf_object.specs.Names.{has_function_in}
 use Rattle.ebpf_object.specs.declared.object.Object.{Object}
 use Rattle.ebpf_model.specs.declared.program.Program.{Program}
 use Rattle.ebpf_parts.specs.declared.insn.bpf_insn.{bpf_insn}
 use Rattle.ebpf_parts.specs.declared.reading.Reading.{Reading}
 use Rattle.ebpf_reloc.specs.Linking.{IsLinked}
-use Rattle.ebpf_model.specs.TextSections.{TextSections}
+use Rattle.ebpf_model.specs.Symbols.{TextSections, FunctionKey}
 use Rattle.ebpf_reloc.specs.SlotTargets.{LinkableValue}
-use Rattle.ebpf_model.specs.Keys.{FunctionKey}
 use Rattle.ebpf_reloc.specs.References.{functions_of}
 use Rattle.ebpf_model.specs.declared.error.RelocationError.{RelocationError}
 use Rattle.ebpf_model.specs.declared.function.Function.{Function}

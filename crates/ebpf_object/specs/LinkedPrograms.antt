@@ -1,16 +1,20 @@
 -- Linking the programs of an object with the functions that they reach.
-use Rattle.std.specs.Prelude.{◌≡◌, ℕ, Bool, List, map, Some, MatchBool}
+use Rattle.std.specs.Prelude.{◌≡◌, ℕ, Bool, List, map, Some, MatchBool, slice_get, Option, None, Result, Ok, Err, ⊤, option_map, option_and_then}
 use Rattle.std.specs.FinMap.{FinMap, get, entries}
 use Rattle.std.specs.List.{list_any}
 use Rattle.std.specs.Ordering.{eq_by_cmp}
 use Rattle.ebpf_base.specs.Keys.{text_cmp, key_cmp}
-use Rattle.ebpf_object.specs.declared.object.Object.{Object}
-use Rattle.ebpf_model.specs.declared.program.Program.{Program}
-use Rattle.ebpf_reloc.specs.Linking.{ProgramValue, key_of, IsLinked}
-use Rattle.ebpf_model.specs.TextSections.{TextSections}
-use Rattle.ebpf_reloc.specs.SlotTargets.{LinkableValue}
-use Rattle.ebpf_model.specs.Keys.{FunctionKey}
+use Rattle.ebpf_model.specs.Memory.{is_memory_at}
+use Rattle.ebpf_model.specs.Symbols.{TextSections, FunctionKey}
+use Rattle.ebpf_model.specs.declared.error.EbpfRelocationError.{EbpfRelocationError}
 use Rattle.ebpf_model.specs.declared.function.Function.{Function}
+use Rattle.ebpf_model.specs.declared.program.Program.{Program}
+use Rattle.ebpf_object.specs.declared.object.Object.{Object}
+use Rattle.ebpf_parts.specs.declared.insn.bpf_insn.{bpf_insn}
+use Rattle.ebpf_reloc.specs.Laws.{MatchesLinked}
+use Rattle.ebpf_reloc.specs.Linking.{ProgramValue, key_of, IsLinked, IsLinkMapAt, IsProgramRefusal}
+use Rattle.ebpf_reloc.specs.SlotTargets.{LinkableValue}
+use Rattle.ebpf_reloc.specs.declared.link_map.LinkMap.{LinkMap}
 
 -- what linking reads of an object
 abbrev pub linkable_of : Object → TextSections → LinkableValue
@@ -44,3 +48,29 @@ ProgramsAreLinked parts programs after =
 abbrev pub OneLinking : Type 0
 OneLinking = (parts : LinkableValue) (programs : List ProgramValue) (after other : FinMap key_cmp Function)
     → ProgramsAreLinked parts programs after → ProgramsAreLinked parts programs other → after ≡ other
+
+-- ---- what the maps of programs tell of once the programs are linked
+
+-- once programs are linked, the function of each is the linked program that its map tells of
+abbrev pub MapsTellOfLinked : Type 0
+MapsTellOfLinked = (parts : LinkableValue) (programs : List ProgramValue) (after : FinMap key_cmp Function) → ProgramsAreLinked parts programs after
+    → (i : ℕ) (program : ProgramValue) → slice_get programs i ≡ Some program → (m : LinkMap) (a : IsLinkMapAt parts (key_of program) m)
+    → (function : Function) × (get after (key_of program) ≡ Some function) × (b : IsLinked parts (key_of program) function) × MatchesLinked parts (key_of program) m function a b
+
+-- ---- what the linked programs of an object are made of
+
+-- the map of a program, or its refusal; want of memory fits beside both
+abbrev pub MapsProgram : LinkableValue → ProgramValue → Result (Option LinkMap) EbpfRelocationError → Type 0
+MapsProgram parts program (Ok (Some m)) = IsLinkMapAt parts (key_of program) m
+MapsProgram parts program (Ok None) = ⊥
+MapsProgram parts program (Err e) = MatchBool (is_memory_at e) ⊤ (IsProgramRefusal parts program e)
+
+-- ---- the function and the slots of a program, by the program's name
+
+-- the function at the key of the program with a name
+abbrev pub function_of_named_program : Object → List ℕ → Option Function
+function_of_named_program o name = option_and_then (λ p. get o.functions (p.section_index, p.address)) (get o.programs name)
+
+-- its slots
+abbrev pub program_slots : Object → List ℕ → Option (List bpf_insn)
+program_slots o name = option_map (λ f. f.instructions) (function_of_named_program o name)

@@ -1,10 +1,9 @@
 -- The object that the bytes of a file are. Its tables and the first fault of a file are those of what it has.
 use Rattle.std.specs.Prelude.{ℕ, List}
-use Rattle.ebpf_elf.specs.File.{ei_data}
+use Rattle.ebpf_elf.specs.Headers.{ei_data}
 use Rattle.ebpf_object.specs.declared.object.Object.{Object}
-use Rattle.ebpf_parsing.specs.FileExterns.{types_of_file, externs_of}
-use Rattle.ebpf_parsing.specs.FileSymbols.{file_symbols, symbol_table}
-use Rattle.ebpf_parsing.specs.FileTypes.{ext_of}
+use Rattle.ebpf_parsing.specs.FileTypes.{types_of_file, externs_of, ext_of}
+use Rattle.ebpf_parsing.specs.Symbols.{file_symbols, symbol_table}
 use Rattle.ebpf_parsing.specs.LicenseAndVersion.{license_as, kernel_version_of}
 use Rattle.ebpf_parts.specs.declared.reading.Reading.{Reading}
 use Rattle.ebpf_parts.specs.declared.reading.Reading.TheVariants.{Stated}

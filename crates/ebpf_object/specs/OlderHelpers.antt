@@ -1,13 +1,13 @@
 -- Calls of helper functions that older kernels lack, and of the older functions in their place
 -- (helper functions by their numbers in the kernel's `bpf_func_id`).
-use Rattle.std.specs.Prelude.{◌≡◌, ℕ, ℤ, pos, Bool, true, false, ◌&&◌, ◌||◌, map, MatchBool, option_map, if◌then◌else◌}
+use Rattle.std.specs.Prelude.{◌≡◌, ℤ, pos, Bool, true, false, ◌&&◌, ◌||◌, map, MatchBool, option_map, if◌then◌else◌}
 use Rattle.std.specs.FinMap.{FinMap, get, entries}
 use Rattle.std.specs.List.{list_any}
 use Rattle.std.specs.Ordering.{int_eq}
 use Rattle.ebpf_base.specs.Keys.{key_cmp}
 use Rattle.ebpf_parts.specs.declared.insn.bpf_insn.{bpf_insn}
 use Rattle.ebpf_parts.specs.Slots.{is_helper_call}
-use Rattle.ebpf_model.specs.Keys.{FunctionKey}
+use Rattle.ebpf_model.specs.Symbols.{FunctionKey}
 use Rattle.ebpf_model.specs.declared.function.Function.{Function}
 
 -- probe_read_user, probe_read_kernel

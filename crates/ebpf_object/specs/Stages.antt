@@ -1,24 +1,56 @@
--- The stages of preparing an object: what each leaves of it, and how it refuses it. A stage that is not chosen leaves
--- it as it is.
-use Rattle.std.specs.Prelude.{◌≡◌, ℕ, Bool, true, false, List, Option, Some, None, option_map, Err}
+-- What is chosen of the passes over an object.
+use Rattle.std.specs.Prelude.{ℕ, ℤ, Bool, List, map, Option, option_map, is_some, ◌≡◌, true, false, Some, None, Err}
+use Rattle.std.specs.Option.{option_copied}
 use Rattle.std.specs.FinMap.{FinMap, get}
 use Rattle.std.specs.List.{filter_map}
+use denote.Ref.{Bor}
 use Rattle.ebpf_base.specs.Keys.{text_cmp}
 use Rattle.ebpf_btf.specs.TypeInfo.{TypeInfo}
 use Rattle.ebpf_core_relo.specs.Answers.{without_texts_at}
 use Rattle.ebpf_core_relo.specs.declared.error.BtfRelocationError.{BtfRelocationError}
 use Rattle.ebpf_ksyms.specs.Sources.{IsRefusedFrom, IsResolvedFrom, Source}
 use Rattle.ebpf_ksyms.specs.declared.error.KsymsError.{KsymsError}
-use Rattle.ebpf_object.specs.RelocatedSlots.{relocated_slots, AreRelocatedToTypes}
+use Rattle.ebpf_model.specs.declared.error.EbpfRelocationError.{EbpfRelocationError}
 use Rattle.ebpf_object.specs.LinkedPrograms.{linkable_of, programs_in_order, ProgramsAreLinked}
-use Rattle.ebpf_object.specs.Steps.{Descriptor}
-use Rattle.ebpf_object.specs.TextSections.{has_function_in}
-use Rattle.ebpf_object.specs.WrittenSlots.{with_maps, maps_fault, with_externs, externs_fault}
+use Rattle.ebpf_object.specs.WrittenSlots.{relocated_slots, AreRelocatedToTypes, with_maps, maps_fault, with_externs, externs_fault}
+use Rattle.ebpf_object.specs.Names.{has_function_in}
 use Rattle.ebpf_object.specs.declared.object.Object.{Object}
+use Rattle.ebpf_object.specs.declared.prepare.Steps.{Steps}
+use Rattle.ebpf_object.specs.declared.prepare_error.PrepareError.{PrepareError}
 use Rattle.ebpf_parts.specs.declared.maps.either.Map.{Map}
 use Rattle.ebpf_passes.specs.Maps.{GivenMap}
 use Rattle.ebpf_reloc.specs.Linking.{IsFirstRefusal}
-use Rattle.ebpf_model.specs.declared.error.EbpfRelocationError.{EbpfRelocationError}
+
+-- the name of a map, and its descriptor
+abbrev pub Descriptor : Type 0
+Descriptor = List ℕ × ℤ
+
+abbrev pub descriptor_of : Bor (List ℕ) × ℤ → Descriptor
+descriptor_of lent = (lent.0.now, lent.1)
+
+abbrev pub descriptors_of : Option (Bor (List (Bor (List ℕ) × ℤ))) → Option (List Descriptor)
+descriptors_of lent = option_map (λ ds. map descriptor_of ds.now) lent
+
+-- The types to relocate to, the descriptors of maps, and the kernel's types to resolve externs with, if it has any: each
+-- where its pass is chosen. The last two say whether externs are written, and whether programs are linked.
+pub record Chosen : Type 0 where
+  pub target : Option TypeInfo
+  pub descriptors : Option (List Descriptor)
+  pub kernel : Option (Option TypeInfo)
+  pub externs : Bool
+  pub calls : Bool
+
+abbrev pub chosen : Steps → Chosen
+chosen steps = record {
+  target = option_copied steps.target_btf;
+  descriptors = descriptors_of steps.map_fds;
+  kernel = option_map option_copied steps.externs;
+  externs = is_some steps.externs;
+  calls = steps.calls;
+}
+
+-- ---- the stages of preparing an object: what each leaves of it, and how it refuses it. A stage that is not chosen leaves
+-- it as it is
 
 -- ---- types
 
@@ -88,3 +120,9 @@ LinksPrograms true o after =
 abbrev pub LinkingFault : Bool → Object → EbpfRelocationError → Type 0
 LinkingFault false o e = ⊥
 LinkingFault true o e = IsFirstRefusal (linkable_of o (has_function_in o.functions)) (programs_in_order o.programs) e
+
+-- ---- the refusal of one stage, in that stage's own variant
+
+module _ {E : Type 0} (variant : E → PrepareError) (Fault : E → Type 0) where
+  abbrev pub Wrapped : PrepareError → Type 0
+  Wrapped e = (own : E) × (e ≡ variant own) × Fault own

@@ -1,6 +1,6 @@
 //! ELF64 files.
 
-pub use crate::section_names::section_name;
+pub use crate::queries::section_name;
 pub use ebpf_elf::{
     ElfFile, ElfReadError, ElfRelocation, ElfRelocationSection, ElfSection, ElfSymbol, EntryExtent,
     RelocationEntries, RelocationSections, Relocations, SectionIndex, Sections, SymbolKind,

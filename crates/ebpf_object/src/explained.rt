@@ -4,7 +4,7 @@ ghost use Rattle.std.specs.Prelude.{◌≡◌};
 
 use crate::object::Object;
 use crate::prepare_error::PrepareError;
-use crate::section_words::SectionWords;
+use crate::queries::SectionWords;
 use ebpf_base::Text;
 use ebpf_ksyms::KsymsError;
 use ebpf_model::{EbpfRelocationError, RelocationError};

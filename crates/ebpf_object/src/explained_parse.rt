@@ -2,8 +2,8 @@
 
 ghost use Rattle.std.specs.Prelude.{◌≡◌};
 
+use crate::queries::SectionWords;
 use crate::refused_places::{section_without_symbol, symbol_without_name, uneven_function};
-use crate::section_words::SectionWords;
 use ebpf_btf::BtfError;
 use ebpf_elf::ElfFile;
 use ebpf_parts::ParseError;

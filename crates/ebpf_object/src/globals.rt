@@ -7,13 +7,13 @@ ghost use Rattle.std.specs.List.{IsDistinct};
 ghost use Rattle.std.specs.Map.{keys_of};
 ghost use Rattle.std.specs.Str.{bytes_eq};
 ghost use Rattle.ebpf_base.specs.Keys.{lent_bytes};
-ghost use Rattle.ebpf_object.specs.PatchValues.{global_of, globals_of};
+ghost use Rattle.ebpf_object.specs.Patches.{global_of, globals_of};
 
 use std::alloc::{AllocError, Global};
 use std::collections::HashMap;
 
 /// The value of a variable, and whether the object has to have it.
-#[tactic(auto, using(crate::proofs::GivenValues::get_given))]
+#[tactic(auto, using(crate::proofs::Values::get_given))]
 pub fn value_at<'a>(
     globals: &HashMap<&str, (&'a [u8], bool)>,
     name: &str,

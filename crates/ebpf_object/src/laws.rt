@@ -2,11 +2,10 @@
 
 ghost use Rattle.ebpf_object.specs.BothReadings.{ObjectsAgree};
 ghost use Rattle.ebpf_object.specs.Headline.{PassesFinish};
-ghost use Rattle.ebpf_object.specs.LinkedPrograms.{OneLinking};
-ghost use Rattle.ebpf_object.specs.LinkedProgramMaps.{MapsTellOfLinked};
+ghost use Rattle.ebpf_object.specs.LinkedPrograms.{OneLinking, MapsTellOfLinked};
 ghost use Rattle.ebpf_object.specs.OlderHelpers.{TwiceIsOnce};
-ghost use Rattle.ebpf_object.specs.OnePreparation.{OnePreparation, OneStaging};
-ghost use Rattle.ebpf_object.specs.PatchedBytes.{GreatestNameStands, OtherBytesStay, LengthsStay, MapsStay, PatchesAreValues, ValuesArePatches};
+ghost use Rattle.ebpf_object.specs.Prepared.{OnePreparation, OneStaging};
+ghost use Rattle.ebpf_object.specs.Patches.{GreatestNameStands, OtherBytesStay, LengthsStay, MapsStay, PatchesAreValues, ValuesArePatches};
 
 pub use ebpf_core::laws::{
     first_fault_refuses, one_first_variant, one_local_side, outcomes_rest_on_questions,
@@ -52,6 +51,7 @@ pub fn maps_tell_of_linked()
 /// `Object::relocate_btf`, `relocate_maps`, `resolve_externs` or `resolve_lines`, `relocate_externs` and
 /// `relocate_calls` say of the objects on the way, for any choice of them, any descriptors and any sections of code.
 /// `prepare` is one case of it.
+#[tactic(auto, using(crate::proofs::Headline::passes_finish))]
 pub fn passes_finish()
     ensures { PassesFinish }
 {}
@@ -72,12 +72,14 @@ pub fn preparing_has_one_result()
 {}
 
 /// What `Object::sanitize_functions` makes of functions is the same where it is done twice.
+#[tactic(auto, using(crate::proofs::Sanitizing::twice))]
 pub fn sanitizing_twice_is_once()
     ensures { TwiceIsOnce }
 {}
 
 /// Of a little-endian file that `Object::parse` takes, `Object::parse_as` gives the same object in both readings, and
 /// refuses it in neither.
+#[tactic(auto, using(crate::proofs::Readings::readings_agree))]
 pub fn readings_agree()
     ensures { ObjectsAgree }
 {}

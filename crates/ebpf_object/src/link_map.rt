@@ -2,12 +2,10 @@
 
 ghost use Rattle.std.specs.Prelude.{◌≡◌, true, IfOk, IfErr, ⊤, MatchBool, MatchOption, Ok, None};
 ghost use Rattle.std.specs.FinMap as map;
-ghost use Rattle.ebpf_object.specs.LinkedPrograms.{linkable_of, program_value};
-ghost use Rattle.ebpf_object.specs.ProgramMaps.{MapsProgram};
-ghost use Rattle.ebpf_reloc.specs.LinkMaps.{IsLinkMapAt};
-ghost use Rattle.ebpf_reloc.specs.Linking.{key_of, IsProgramRefusal};
+ghost use Rattle.ebpf_object.specs.LinkedPrograms.{linkable_of, program_value, MapsProgram};
+ghost use Rattle.ebpf_reloc.specs.Linking.{IsLinkMapAt, key_of, IsProgramRefusal};
 ghost use Rattle.ebpf_model.specs.Memory.{is_memory_at, NamesNoneForMemory};
-ghost use Rattle.ebpf_model.specs.TextSections.{text_sections_in};
+ghost use Rattle.ebpf_model.specs.Symbols.{text_sections_in};
 ghost use Rattle.ebpf_reloc.specs.SlotTargets.{read};
 
 use crate::object::Object;

@@ -2,16 +2,14 @@
 
 ghost use Rattle.std.specs.Prelude.{◌≡◌, map, None, Some, OnOk, OnErr, IfOk, IfErr, MatchBool};
 ghost use Rattle.ebpf_object.specs.Prepared.{RefusesPreparing};
-ghost use Rattle.ebpf_object.specs.StageFaults.{Wrapped};
-ghost use Rattle.ebpf_object.specs.Stages.{own_maps, fds_written, fds_fault};
-ghost use Rattle.ebpf_object.specs.Steps.{descriptor_of};
-ghost use Rattle.ebpf_object.specs.TextSections.{has_function_in};
+ghost use Rattle.ebpf_object.specs.Stages.{Wrapped, own_maps, fds_written, fds_fault, descriptor_of};
+ghost use Rattle.ebpf_object.specs.Names.{has_function_in};
 ghost use Rattle.ebpf_object.specs.WrittenSlots.{with_maps, maps_fault};
 ghost use Rattle.ebpf_object.specs.declared.prepare_error.PrepareError.TheVariants.{Maps};
 ghost use Rattle.ebpf_passes.specs.Maps.{given_map};
 ghost use Rattle.ebpf_passes.specs.Relocated.{out_of_memory};
 ghost use Rattle.ebpf_model.specs.Memory.{is_memory_at};
-ghost use Rattle.ebpf_model.specs.TextSections.{text_sections_in};
+ghost use Rattle.ebpf_model.specs.Symbols.{text_sections_in};
 
 use crate::object::Object;
 use crate::prepare_error::PrepareError;
@@ -26,7 +24,7 @@ use std::mem;
 type MapWithFd<'a> = (&'a str, i32, &'a Map);
 
 /// The maps of these names with their descriptors; a name that stands for none is passed over.
-#[tactic(auto, using(crate::proofs::OwnMaps::one_listed, crate::proofs::OwnMaps::none_listed, ebpf_base::proofs::Walks::rest_none))]
+#[tactic(auto, using(crate::proofs::Staging::one_listed, crate::proofs::Staging::none_listed, ebpf_base::proofs::Walks::rest_none))]
 fn own_maps<'a>(
     alloc: Global,
     maps: &'a ByName<Map>,

@@ -1,10 +1,9 @@
 //! Calls by the sections that an object's own functions stand in.
 
-ghost use Rattle.std.specs.Prelude.{◌≡◌, true, ⊤, IfErr, OnOk, OnErr, MatchBool, MatchOption, Ok, None};
+ghost use Rattle.std.specs.Prelude.{◌≡◌, ⊤, IfErr, OnOk, OnErr, MatchBool, MatchOption, Ok, None};
 ghost use Rattle.std.specs.FinMap as map;
-ghost use Rattle.ebpf_object.specs.LinkedPrograms.{linkable_of, program_value, programs_in_order, ProgramsAreLinked};
-ghost use Rattle.ebpf_object.specs.ProgramMaps.{MapsProgram};
-ghost use Rattle.ebpf_object.specs.TextSections.{has_function_in};
+ghost use Rattle.ebpf_object.specs.LinkedPrograms.{linkable_of, program_value, programs_in_order, ProgramsAreLinked, MapsProgram};
+ghost use Rattle.ebpf_object.specs.Names.{has_function_in};
 ghost use Rattle.ebpf_reloc.specs.Linking.{IsFirstRefusal};
 ghost use Rattle.ebpf_model.specs.Memory.{is_memory_at, NamesNoneForMemory};
 

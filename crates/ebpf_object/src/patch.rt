@@ -3,12 +3,11 @@
 ghost use Rattle.std.specs.Prelude.{◌≡◌, ℕ, IfOk, map};
 ghost use Rattle.std.specs.FinMap as finite;
 ghost use Rattle.std.specs.List.{flat_map};
-ghost use Rattle.std.specs.Map.{keys_of};
 ghost use Rattle.ebpf_base.specs.Keyed.{put_all};
 ghost use Rattle.ebpf_base.specs.Keys.{lent_bytes};
 ghost use Rattle.ebpf_parts.specs.Maps.{bytes_of, with_bytes};
-ghost use Rattle.ebpf_object.specs.MapNames.{with_map_names};
-ghost use Rattle.ebpf_object.specs.Patches.{PatchValue, overwritten, with_patch, all_patched, named_at, symbol_indices, first_map};
+ghost use Rattle.ebpf_object.specs.Names.{with_map_names};
+ghost use Rattle.ebpf_object.specs.Patches.{overwritten, with_patch, all_patched, named_at, symbol_indices, first_map};
 ghost use Rattle.ebpf_object.specs.PrivateContracts.{value_of};
 
 use ebpf_base::{ByIndex, ByName, Text};

@@ -5,7 +5,7 @@ ghost use Rattle.ebpf_object.specs.Headline.{Headline};
 ghost use Rattle.ebpf_object.specs.UnchangedFields.{KeepsOthers};
 ghost use Rattle.ebpf_object.specs.Objects.{object_of};
 ghost use Rattle.ebpf_object.specs.Prepared.{IsParsed, IsStageFault, IsFirstPrepareFault, RefusesPreparing, Stages};
-ghost use Rattle.ebpf_object.specs.Steps.{chosen};
+ghost use Rattle.ebpf_object.specs.Stages.{chosen};
 ghost use Rattle.ebpf_parts.specs.declared.reading.Reading.{Reading};
 ghost use Rattle.ebpf_parts.specs.declared.reading.Reading.TheVariants.{Stated};
 

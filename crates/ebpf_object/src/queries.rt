@@ -1,16 +1,29 @@
-//! Whether the externs of an object need the kernel's types.
+//! What an object has by a name or a number, and what its functions ask for.
 
-ghost use Rattle.std.specs.Prelude.{◌≡◌, not, ◌&&◌};
-ghost use Rattle.std.specs.List.{list_any};
+ghost use Rattle.std.specs.Prelude.{◌≡◌, not, ◌&&◌, ◌==◌, IfOk, ℕ, List, is_some, codes};
+ghost use Rattle.std.specs.List.{list_any, find};
 ghost use Rattle.std.specs.List.Sorted.{IsStrictlySortedBy};
 ghost use Rattle.std.specs.Map.{keys_of, values_of};
 ghost use Rattle.std.specs.String.{string_cmp};
+ghost use Rattle.std.specs.Option.{option_copied};
+ghost use Rattle.std.specs.declared.alloc.Global.{Global};
+ghost use Rattle.std.specs.FinMap as map;
+ghost use Rattle.ebpf_model.specs.Symbols.{text_sections_in};
+ghost use Rattle.ebpf_object.specs.LinkedPrograms.{function_of_named_program, program_slots};
+ghost use Rattle.ebpf_object.specs.Names.{name_in_file, has_function_in};
+ghost use Rattle.ebpf_object.specs.Prepared.{IsParsed};
 ghost use Rattle.ebpf_object.specs.TypedExterns.{has_extern, has_typed, has_strong_typed};
+ghost use Rattle.ebpf_parsing.specs.Sections.{first_section_named};
+ghost use Rattle.ebpf_parts.specs.declared.reading.Reading.{Reading};
 
 use crate::object::Object;
 use ebpf_base::ByName;
-use ebpf_model::ExternDesc;
-use std::collections::BTreeMap;
+use ebpf_elf::{ElfFile, ElfSection, Sections};
+use ebpf_model::{ExternDesc, Function};
+use ebpf_parts::insn::bpf_insn;
+use std::alloc::{AllocError, Global};
+use std::collections::{BTreeMap, HashSet};
+use std::fmt;
 
 // The externs in the order of their names.
 fn typed_among(externs: &BTreeMap<String, ExternDesc>) -> bool
@@ -56,5 +69,104 @@ impl Object {
         ensures { result ≡ has_strong_typed self.now.btf self.now.externs }
     {
         self.btf.is_some() && any_strong_typed(&self.externs)
+    }
+}
+
+impl Object {
+    /// The function of the program with this name: its own slots as parsed, and after `relocate_calls` those of every
+    /// function that it reaches behind them. `None` where no program has the name, or the program no function, as never
+    /// in a parsed object.
+    pub fn program_function(&self, name: &str) -> Option<&Function>
+        ensures { option_copied result ≡ function_of_named_program self.now name.now }
+    {
+        match self.programs.get(name) {
+            Some(program) => self.functions.get(program.function_key()),
+            None => None,
+        }
+    }
+
+    /// The slots of the function of the program with this name, which a kernel takes once the passes are done. `None`
+    /// as of `program_function`.
+    pub fn program_slots(&self, name: &str) -> Option<&[bpf_insn]>
+        ensures { option_copied result ≡ program_slots self.now name.now }
+    {
+        match self.program_function(name) {
+            Some(function) => Some(function.instructions.as_slice()),
+            None => None,
+        }
+    }
+}
+
+/// The section with this index.
+fn section_at<'a>(sections: Sections<'a>, index: usize) -> Option<ElfSection<'a>>
+    ensures { result ≡ find (λ s. s.index == index) sections.entry }
+{
+    for section in sections {
+        if section.index().0 == index {
+            return Some(section);
+        }
+    }
+    None
+}
+
+/// The name of the section with this index in a file. So a program's `section_index` gives the name of its section, by
+/// which it says where it is to be attached; also where two sections share one name, of which `Object::section_infos`
+/// has the later one alone. `None` where no section has the index, or its name can't be read.
+pub fn section_name<'a>(file: &ElfFile<'a>, index: usize) -> Option<&'a str>
+    ensures { option_copied result ≡ name_in_file file.now index }
+{
+    let Some(section) = section_at(file.sections(), index) else {
+        return None;
+    };
+    match section.name() {
+        Ok(name) => Some(name),
+        Err(_) => None,
+    }
+}
+
+impl Object {
+    /// The indices of the sections that functions stand in, by their keys. `Err` only where memory was refused.
+    pub fn text_sections(&self, alloc: Global) -> Result<HashSet<usize>, AllocError>
+        ensures { IfOk result (λ sections. text_sections_in sections ≡ has_function_in self.now.functions) }
+    {
+        let mut sections = HashSet::new(alloc);
+        for (key, _) in self.functions.iter() {
+            sections.insert(key.0)?;
+        }
+        Ok(sections)
+    }
+}
+
+impl Object {
+    /// Whether the file has a section `license`, and so states the license. Else `license` is the default `GPL`.
+    pub fn states_license(&self) -> bool
+        ensures named { result ≡ map.contains_key self.now.section_infos (codes "license") }
+        ensures stated { (reading : Reading) (file : List ℕ) → IsParsed reading file self.now → result ≡ is_some (first_section_named (codes "license") file) }
+    {
+        self.section_infos.contains_key("license")
+    }
+
+    /// The allocator that the object was made with. A pass over the object takes its memory from it.
+    pub fn allocator(&self) -> Global
+        ensures { (other : Global) → result ≡ other }
+    {
+        *self.license.as_vec().allocator()
+    }
+}
+
+/// A section, as errors speak of it: `section 5 ".bss"`, its index as `readelf -S` has it, and its name where that is
+/// known.
+#[derive(Clone, Copy)]
+pub struct SectionWords<'a> {
+    pub number: usize,
+    pub name: Option<&'a str>,
+}
+
+impl fmt::Display for SectionWords<'_> {
+    fn fmt<W: fmt::Write>(&self, f: &mut fmt::Formatter<W>) -> fmt::Result {
+        match self.name {
+            Some(name) => write!(f, "section {} {name:?}", self.number),
+            None => write!(f, "section {}", self.number),
+        }
     }
 }

@@ -1,7 +1,7 @@
 //! What each CO-RE relocation of an object comes to over a kernel's types.
 
 ghost use Rattle.std.specs.Prelude.{IfOk};
-ghost use Rattle.ebpf_object.specs.TargetRecords.{AreRecordOutcomes};
+ghost use Rattle.ebpf_object.specs.WrittenSlots.{AreRecordOutcomes};
 
 use crate::object::Object;
 use ebpf_base::{ByKey, Items};

@@ -1,6 +1,6 @@
 //! Linking the programs of an object with the functions that they reach.
 
-ghost use Rattle.std.specs.Prelude.{◌≡◌, ◌++◌, ⊤, IfOk, IfErr, OnOk, OnErr, MatchBool, Some, true, if◌then◌else◌};
+ghost use Rattle.std.specs.Prelude.{◌≡◌, ◌++◌, ⊤, IfOk, IfErr, OnOk, OnErr, MatchBool, Some, if◌then◌else◌};
 ghost use Rattle.std.specs.FinMap as map;
 ghost use Rattle.std.specs.List.{flat_map};
 ghost use Rattle.std.specs.Ordering.{eq_by_cmp};
@@ -8,8 +8,7 @@ ghost use Rattle.ebpf_base.specs.Keys.{key_cmp, lent_bytes};
 ghost use Rattle.ebpf_object.specs.LinkedPrograms.{linkable_of, programs_in_order, ProgramsAreLinked};
 ghost use Rattle.ebpf_object.specs.PrivateContracts.{program_with, replaced};
 ghost use Rattle.ebpf_reloc.specs.Linking.{AreLinked, IsFirstRefusal};
-ghost use Rattle.ebpf_model.specs.Keys.{FunctionKey};
-ghost use Rattle.ebpf_model.specs.TextSections.{text_sections_in};
+ghost use Rattle.ebpf_model.specs.Symbols.{FunctionKey, text_sections_in};
 ghost use Rattle.ebpf_model.specs.Memory.{is_memory_at, NamesNoneForMemory};
 
 use crate::object::Object;

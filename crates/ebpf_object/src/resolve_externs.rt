@@ -5,9 +5,7 @@ ghost use Rattle.std.specs.Iterator.{IsFinite};
 ghost use Rattle.std.specs.Option.{option_copied};
 ghost use Rattle.ebpf_ksyms.specs.Externs.{IsResolutionFault, IsResolved};
 ghost use Rattle.ebpf_ksyms.specs.Faults.{is_ksyms_memory};
-ghost use Rattle.ebpf_ksyms.specs.Readers.{IsRefusedIn, IsResolvedIn};
-ghost use Rattle.ebpf_ksyms.specs.Sources.{IsRefusedFrom, IsResolvedFrom};
-ghost use Rattle.ebpf_ksyms.specs.Texts.{IsRefusedBy, IsResolvedBy};
+ghost use Rattle.ebpf_ksyms.specs.Sources.{IsRefusedIn, IsResolvedIn, IsRefusedFrom, IsResolvedFrom, IsRefusedBy, IsResolvedBy};
 
 use crate::object::Object;
 use ebpf_btf::Btf;

@@ -4,7 +4,7 @@ ghost use Rattle.std.specs.Prelude.{◌≡◌, map, option_map, false};
 ghost use Rattle.std.specs.FinMap as finite;
 ghost use Rattle.std.specs.List.{list_any};
 ghost use Rattle.ebpf_object.specs.OlderHelpers.{older_helper, calls_newer, older, sanitized, have_newer, AreSanitized};
-ghost use Rattle.ebpf_model.specs.Keys.{FunctionKey};
+ghost use Rattle.ebpf_model.specs.Symbols.{FunctionKey};
 
 use crate::object::Object;
 use ebpf_base::ByKey;

@@ -4,9 +4,7 @@ ghost use Rattle.std.specs.Prelude.{◌≡◌, None, Some, option_map, is_some, 
 ghost use Rattle.std.specs.Option.{option_copied};
 ghost use Rattle.ebpf_object.specs.UnchangedFields.{KeepsOthers};
 ghost use Rattle.ebpf_object.specs.Prepared.{Stages, IsStageFault, RefusesPreparing};
-ghost use Rattle.ebpf_object.specs.Stages.{RelocatesTypes, TypesFault, Resolves, ResolvingFault, with_externs_if, externs_fault_if, LinksPrograms, LinkingFault, fds_written, fds_fault};
-ghost use Rattle.ebpf_object.specs.StageFaults.{Wrapped};
-ghost use Rattle.ebpf_object.specs.Steps.{chosen, descriptors_of};
+ghost use Rattle.ebpf_object.specs.Stages.{RelocatesTypes, TypesFault, Resolves, ResolvingFault, with_externs_if, externs_fault_if, LinksPrograms, LinkingFault, fds_written, fds_fault, Wrapped, chosen, descriptors_of};
 ghost use Rattle.ebpf_object.specs.declared.prepare_error.PrepareError.TheVariants.{Types, Maps, Ksyms, Externs, Calls};
 
 use crate::object::Object;

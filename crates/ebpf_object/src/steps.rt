@@ -2,7 +2,7 @@
 
 ghost use Rattle.std.specs.Prelude.{◌≡◌, map, false, true, None, Some};
 ghost use Rattle.std.specs.Option.{option_copied};
-ghost use Rattle.ebpf_object.specs.Steps.{chosen, descriptor_of};
+ghost use Rattle.ebpf_object.specs.Stages.{chosen, descriptor_of};
 
 use crate::prepare::Steps;
 use ebpf_btf::Btf;

@@ -1,40 +1,26 @@
 -- A little-endian file that the stated reading takes, the broad one reads alike.
 use Rattle.std.proofs.Common.{◌≡◌, ◌≢◌, ℕ, suc, ◌+◌, ◌-◌, Bool, true, false, List, [], ◌∷◌, ◌++◌, length, map, filter, take, Option, Some, None, option_map, refl, sym, ap, ◌∙◌, arith}
-use Rattle.std.specs.Prelude.{◌==◌, ◌&&◌, ◌||◌, not, nat_lt, if◌then◌else◌}
-use Rattle.std.specs.List.{before_first, flat_map, list_any, position_or_len, AllByRecursion}
 use Rattle.std.proofs.lemmas.Bool.{or_parts, not-false}
+use Rattle.std.specs.FinMap.{empty, get}
+use Rattle.std.specs.List.{before_first, flat_map, list_any, position_or_len, AllByRecursion}
+use Rattle.std.specs.Prelude.{◌==◌, ◌&&◌, ◌||◌, not, nat_lt, if◌then◌else◌}
 use Rattle.ebpf_base.proofs.Faults.{both_None}
 use Rattle.ebpf_base.proofs.Keyed.{later_text_stands}
 use Rattle.ebpf_base.proofs.TextMaps.{text_exact}
 use Rattle.ebpf_base.specs.Faults.{or_else, first_of, first_in, first_some}
 use Rattle.ebpf_base.specs.Keyed.{put_all}
 use Rattle.ebpf_base.specs.Keys.{text_cmp}
-use Rattle.std.specs.FinMap.{empty}
-use Rattle.ebpf_btf.specs.TypeInfo.{TypeInfo}
 use Rattle.ebpf_base.specs.declared.endianness.Endianness.TheVariants.{Little}
+use Rattle.ebpf_btf.specs.TypeInfo.{TypeInfo}
 use Rattle.ebpf_declarations.proofs.BothReadings.{broad_declares_as_stated}
-use Rattle.ebpf_declarations.specs.TypesInReading.{types_in_reading}
 use Rattle.ebpf_declarations.specs.Maps.{btf_maps_fault}
+use Rattle.ebpf_declarations.specs.TypesInReading.{types_in_reading}
 use Rattle.ebpf_elf.specs.Faults.{faults}
-use Rattle.ebpf_elf.specs.File.{ei_data}
+use Rattle.ebpf_elf.specs.Headers.{ei_data}
 use Rattle.ebpf_elf.specs.Sections.{SectionOf, sections}
-use Rattle.ebpf_parsing.proofs.EntriesStand.{stands, all_flat_map}
-use Rattle.ebpf_parsing.specs.CodeOrder.{is_big, has_code, has_big_endian_code, order_fault_as}
-use Rattle.ebpf_parsing.specs.FileContents.{map_entries, program_entries, maps_as, programs_as, read_fault, sections_fault, other_sections, object_sections, own_symbols}
-use Rattle.ebpf_parsing.specs.BtfDefinedMaps.{btf_defined_maps, btf_defined_maps_fault}
-use Rattle.ebpf_parsing.specs.FileExterns.{types_of_file, file_externs_fault}
-use Rattle.ebpf_parsing.specs.FileSymbols.{file_symbols, symbols_fault}
-use Rattle.ebpf_parsing.specs.FileTypes.{file_types_fault}
-use Rattle.ebpf_parsing.specs.OfSection.{maps_by, maps_in, programs_by, programs_in, fault_by, fault_in, program_section_faults}
-use Rattle.ebpf_parsing.specs.Programs.{program_of, programs_of, programs_fault, is_program_symbol}
-use Rattle.ebpf_parsing.specs.Readings.{ReadingsAgree, StatedKindsAreNamed}
-use Rattle.ebpf_parsing.specs.SymbolNames.{symbol_indices_by_name}
-use Rattle.ebpf_parsing.specs.Symbols.{SymbolValue, section_symbols}
-use Rattle.ebpf_parsing.specs.LicenseAndVersion.{has_zero, front_of, stated_text_fault, license_text, license_text_fault, license_in, license_fault_in, license_as, license_fault_as, kernel_version_of, version_fault}
 use Rattle.ebpf_model.specs.declared.program.Program.{Program}
 use Rattle.ebpf_parts.proofs.NamesRead.{broad_keeps_kinds, no_name_says_other}
-use Rattle.ebpf_parts.specs.ProgramSections.{no_section}
-use Rattle.ebpf_parts.specs.Readings.{section_as, section_fault_as}
+use Rattle.ebpf_parts.specs.ProgramTypes.{no_section, section_as, section_fault_as}
 use Rattle.ebpf_parts.specs.Sections.{SectionValue, section_of, section_with, section_fault}
 use Rattle.ebpf_parts.specs.declared.error.ParseError.{ParseError}
 use Rattle.ebpf_parts.specs.declared.error.ParseError.TheVariants.{BigEndianCode, ElfError, NoSymbolsForSection}
@@ -43,7 +29,16 @@ use Rattle.ebpf_parts.specs.declared.program_section.ProgramSection.TheVariants.
 use Rattle.ebpf_parts.specs.declared.reading.Reading.TheVariants.{Stated, Broad}
 use Rattle.ebpf_parts.specs.declared.section_kind.EbpfSectionKind.{EbpfSectionKind}
 use Rattle.ebpf_parts.specs.declared.section_kind.EbpfSectionKind.TheVariants.{Maps, BtfMaps, Data, Rodata, Bss, Text, Program as Programs}
-use Rattle.std.specs.FinMap.{get}
+use Rattle.ebpf_parsing.specs.FileContents.{map_entries, program_entries, maps_as, programs_as, read_fault, sections_fault, own_symbols}
+use Rattle.ebpf_parsing.specs.FileTypes.{types_of_file, file_externs_fault, file_types_fault}
+use Rattle.ebpf_parsing.specs.Laws.{ReadingsAgree, StatedKindsAreNamed}
+use Rattle.ebpf_parsing.specs.LicenseAndVersion.{has_zero, front_of, stated_text_fault, license_text, license_text_fault, license_in, license_fault_in, license_as, license_fault_as, kernel_version_of, version_fault}
+use Rattle.ebpf_parsing.specs.Maps.{btf_defined_maps, btf_defined_maps_fault}
+use Rattle.ebpf_parsing.specs.OfSection.{maps_by, maps_in, programs_by, programs_in, fault_by, fault_in, program_section_faults}
+use Rattle.ebpf_parsing.specs.Programs.{program_of, programs_of, programs_fault, is_program_symbol}
+use Rattle.ebpf_parsing.specs.Sections.{is_big, has_code, has_big_endian_code, order_fault_as, other_sections, object_sections}
+use Rattle.ebpf_parsing.specs.Symbols.{file_symbols, symbols_fault, symbol_indices_by_name, SymbolValue, section_symbols}
+use Rattle.ebpf_parsing.proofs.Entries.{stands, all_flat_map}
 
 -- ---- the license
 
@@ -69,10 +64,10 @@ before_last [] some none = absurd (cc)
 before_last (b ∷ []) some none = let here : (b == 0) ≡ true = only (b == 0) some in rw here refl
 before_last (b ∷ c ∷ bytes) some none =
     let before : (b == 0 || has_zero (front_of (c ∷ bytes))) ≡ false = ap has_zero (sym (front_step b c bytes)) ∙ none in
-    let object_tables = or_parts (b == 0) (has_zero (front_of (c ∷ bytes))) before in
-    let later : has_zero (c ∷ bytes) ≡ true = later_of (b == 0) (has_zero (c ∷ bytes)) object_tables.0 some in
+    let parts = or_parts (b == 0) (has_zero (front_of (c ∷ bytes))) before in
+    let later : has_zero (c ∷ bytes) ≡ true = later_of (b == 0) (has_zero (c ∷ bytes)) parts.0 some in
     let on : 1 + position_or_len (λ b. b == 0) (c ∷ bytes) ≡ suc (position_or_len (λ b. b == 0) (c ∷ bytes)) = omega arith in
-    let step : before_first (λ b. b == 0) (b ∷ c ∷ bytes) ≡ b ∷ front_of (c ∷ bytes) = rw (object_tables.0, on) (ap (λ rest. b ∷ rest) (before_last (c ∷ bytes) later object_tables.1)) in
+    let step : before_first (λ b. b == 0) (b ∷ c ∷ bytes) ≡ b ∷ front_of (c ∷ bytes) = rw (parts.0, on) (ap (λ rest. b ∷ rest) (before_last (c ∷ bytes) later parts.1)) in
     step ∙ sym (front_step b c bytes)
 
 passed_by : (b : Bool) (o : Option ParseError) → o ≡ None → (if b then None else o) ≡ None
@@ -90,9 +85,9 @@ text_alike bytes clear =
 license_alike : (s : Option SectionOf) → license_fault_in Stated s ≡ None → (license_in Broad s ≡ license_in Stated s) × (license_fault_in Broad s ≡ None)
 license_alike None clear = (refl, refl)
 license_alike (Some s) clear =
-    let object_tables = both_None (section_fault s) _ clear in
-    let text = text_alike (section_of s).bytes object_tables.1 in
-    (text.0, ap (λ o. or_else o (license_text_fault Broad (section_of s).bytes)) object_tables.0 ∙ text.1)
+    let parts = both_None (section_fault s) _ clear in
+    let text = text_alike (section_of s).bytes parts.1 in
+    (text.0, ap (λ o. or_else o (license_text_fault Broad (section_of s).bytes)) parts.0 ∙ text.1)
 
 -- ---- sections
 
@@ -110,9 +105,9 @@ module _ (s : SectionValue) (ys : List SymbolValue) where
   unfolding btf_defined_maps btf_defined_maps_fault
   declared_alike None clear = absurd (cc)
   declared_alike (Some types) clear =
-      let object_tables = both_None (first_of ((length ys == 0, NoSymbolsForSection s.name) ∷ [])) _ clear in
-      let maps = broad_declares_as_stated types (get (symbol_indices_by_name ys)) s.index.0 s.name object_tables.1 in
-      (maps.0, ap (λ o. or_else o (btf_maps_fault Broad types (get (symbol_indices_by_name ys)) s.index.0 s.name)) object_tables.0 ∙ maps.1)
+      let parts = both_None (first_of ((length ys == 0, NoSymbolsForSection s.name) ∷ [])) _ clear in
+      let maps = broad_declares_as_stated types (get (symbol_indices_by_name ys)) s.index.0 s.name parts.1 in
+      (maps.0, ap (λ o. or_else o (btf_maps_fault Broad types (get (symbol_indices_by_name ys)) s.index.0 s.name)) parts.0 ∙ maps.1)
 
   maps_alike : (types : Option TypeInfo) (kind : EbpfSectionKind) → fault_by kind Stated types s ys ≡ None → maps_by kind Broad types s ys ≡ maps_by kind Stated types s ys
   maps_alike types BtfMaps clear = (declared_alike types clear).0
@@ -121,9 +116,9 @@ module _ (s : SectionValue) (ys : List SymbolValue) where
   named_alike : program_section_faults Stated s ys ≡ None → (section_as Broad s.name ≡ section_as Stated s.name) × (program_section_faults Broad s ys ≡ None)
   unfolding program_section_faults
   named_alike clear =
-      let object_tables = both_None (section_fault_as Stated s.name) _ clear in
-      let kind = kind_alike s.name object_tables.0 in
-      (kind.0, ap (λ o. or_else o (or_else (first_of ((length ys == 0, NoSymbolsForSection s.name) ∷ [])) (programs_fault s ys))) kind.1 ∙ object_tables.1)
+      let parts = both_None (section_fault_as Stated s.name) _ clear in
+      let kind = kind_alike s.name parts.0 in
+      (kind.0, ap (λ o. or_else o (or_else (first_of ((length ys == 0, NoSymbolsForSection s.name) ∷ [])) (programs_fault s ys))) kind.1 ∙ parts.1)
 
   programs_alike : (license : List ℕ) (version : Option ℕ) (types : Option TypeInfo) (kind : EbpfSectionKind) → fault_by kind Stated types s ys ≡ None
       → programs_by kind Broad license version s ys ≡ programs_by kind Stated license version s ys
@@ -145,9 +140,9 @@ all_alike : {X : Type 0} (f g : SectionValue → List X) (a b : SectionOf → Op
     → (xs : List SectionOf) → first_some a xs ≡ None → (flat_map g (map section_of xs) ≡ flat_map f (map section_of xs)) × (first_some b xs ≡ None)
 all_alike f g a b each [] clear = (refl, refl)
 all_alike f g a b each (x ∷ xs) clear =
-    let object_tables = both_None (a x) (first_some a xs) clear in
-    let here = each x object_tables.0 in
-    let later = all_alike f g a b each xs object_tables.1 in
+    let parts = both_None (a x) (first_some a xs) clear in
+    let here = each x parts.0 in
+    let later = all_alike f g a b each xs parts.1 in
     (ap (λ l. l ++ flat_map g (map section_of xs)) here.0 ∙ ap (λ l. f (section_of x) ++ l) later.0, ap (λ o. or_else o (first_some b xs)) here.1 ∙ later.1)
 
 module _ (bytes : List ℕ) (types : Option TypeInfo) where
@@ -155,8 +150,8 @@ module _ (bytes : List ℕ) (types : Option TypeInfo) where
       → (fault_in Stated types (section_of x) (own_symbols bytes (section_of x)) ≡ None) × (read_fault Broad types bytes x ≡ None)
   unfolding fault_in section_of section_with
   read_alike x clear =
-      let object_tables = both_None (section_fault x) _ clear in
-      (object_tables.1, ap (λ o. or_else o (fault_in Broad types (section_of x) (section_symbols (file_symbols bytes) x.index))) object_tables.0 ∙ fault_alike (section_of x) (section_symbols (file_symbols bytes) x.index) types (section_of x).kind object_tables.1)
+      let parts = both_None (section_fault x) _ clear in
+      (parts.1, ap (λ o. or_else o (fault_in Broad types (section_of x) (section_symbols (file_symbols bytes) x.index))) parts.0 ∙ fault_alike (section_of x) (section_symbols (file_symbols bytes) x.index) types (section_of x).kind parts.1)
 
   section_maps : (x : SectionOf) → read_fault Stated types bytes x ≡ None
       → (maps_in Broad types (section_of x) (own_symbols bytes (section_of x)) ≡ maps_in Stated types (section_of x) (own_symbols bytes (section_of x))) × (read_fault Broad types bytes x ≡ None)

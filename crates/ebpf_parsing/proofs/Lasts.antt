@@ -1,18 +1,72 @@
--- An entry that is put again later need not be put before.
-use Rattle.std.proofs.Common.{◌≡◌, ℕ, Bool, true, false, cond, ◌||◌, List, [], ◌∷◌, Option, Some, None, refl, sym, ap, ◌∙◌, arith}
-use Rattle.std.specs.Prelude.{if◌then◌else◌}
-use Rattle.std.specs.declared.cmp.Ordering.{Ordering}
-use Rattle.std.specs.Cmp.{IsTotalOrder, eq_by_cmp_equiv}
-use Rattle.std.specs.FinMap.{FinMap, IsAntisymmetric, get, insert, empty, get-insert, get-empty, same_map}
-use Rattle.std.specs.List.{list_any, flat_map}
-use Rattle.std.specs.Ordering.{eq_by_cmp}
+-- The last entry with a key: one that is put again later need not be put before. So with maps of data and with programs.
+use Rattle.std.proofs.Common.{◌≡◌, true, false, cond, List, [], ◌∷◌, ◌++◌, Option, Some, None, refl, ap, ◌∙◌, if◌then◌else◌, ℕ, Bool, ◌||◌, sym, arith, ◌<◌, ◌+◌, map, filter, length, drop, subst}
 use Rattle.std.proofs.lemmas.Bool.Decides.{nat_tests}
 use Rattle.std.proofs.lemmas.List.Folds.{list_any-append}
+use Rattle.std.specs.Cmp.{IsTotalOrder, eq_by_cmp_equiv, nat_cmp_total}
+use Rattle.std.specs.FinMap.{find, FinMap, IsAntisymmetric, get, insert, empty, get-insert, get-empty, same_map}
+use Rattle.std.specs.List.{AllByRecursion, list_any, flat_map}
+use Rattle.std.specs.Ordering.{is_eq, eq_by_cmp, nat_cmp, ordering_then}
+use Rattle.std.specs.Prelude.{slice_index_or}
+use Rattle.std.specs.declared.cmp.Ordering.{Ordering}
+use Rattle.std.specs.declared.cmp.Ordering.TheVariants.{Equal}
 use Rattle.ebpf_base.proofs.Keyed.{later_stands}
+use Rattle.ebpf_base.proofs.Maps.{key_exact}
 use Rattle.ebpf_base.proofs.Orderings.{is_equal}
-use Rattle.ebpf_base.specs.Keyed.{put_all, last_at}
-use Rattle.ebpf_parsing.proofs.LastEntries.{last_at-append}
-use Rattle.ebpf_parsing.specs.LastData.{is_index}
+use Rattle.ebpf_base.proofs.TextMaps.{text_exact}
+use Rattle.ebpf_base.proofs.Walks.{rest_more, kept_more, passed_more, fault_here}
+use Rattle.ebpf_base.specs.Faults.{or_else, first_some}
+use Rattle.ebpf_base.specs.Keyed.{last_at, put_all}
+use Rattle.ebpf_base.specs.Keys.{text_cmp, text_total, key_cmp, key_total}
+use Rattle.ebpf_btf.specs.TypeInfo.{TypeInfo}
+use Rattle.ebpf_model.specs.declared.function.Function.{Function}
+use Rattle.ebpf_parts.specs.Sections.{SectionValue}
+use Rattle.ebpf_parts.specs.declared.maps.either.Map.{Map}
+use Rattle.ebpf_parts.specs.declared.reading.Reading.{Reading}
+use Rattle.ebpf_parts.specs.declared.section_kind.EbpfSectionKind.{EbpfSectionKind}
+use Rattle.ebpf_parts.specs.declared.section_kind.EbpfSectionKind.TheVariants.{Undefined, Maps, BtfMaps, Data, Rodata, Bss, Text, Btf, BtfExt, License, Version, Program as Programs}
+use Rattle.ebpf_parsing.specs.FileContents.{symbols_at}
+use Rattle.ebpf_parsing.specs.Maps.{data_maps}
+use Rattle.ebpf_parsing.specs.ObjectTables.{last_maps, put_by, added_last, added, all_added}
+use Rattle.ebpf_parsing.specs.OfSection.{maps_by, maps_in}
+use Rattle.ebpf_parsing.specs.Programs.{is_program_symbol, program_function, program_fault, program_functions, programs_fault, with_key, program_symbol_row}
+use Rattle.ebpf_parsing.specs.Records.{FuncAndLineInfo}
+use Rattle.ebpf_parsing.specs.Sections.{is_index, is_data_kind, data_row}
+use Rattle.ebpf_parsing.specs.Symbols.{SymbolValue}
+use Rattle.ebpf_parsing.specs.declared.file_contents.FileMetadata.{FileMetadata}
+use Rattle.ebpf_parsing.specs.declared.object_tables.ObjectTables.{ObjectTables}
+
+-- ---- the last entry with a key, and the one that is found
+
+-- no two keys are equal
+abbrev pub KeysDiffer : {K X : Type 0} → (K → K → Ordering) → List (K × X) → Type 0
+KeysDiffer R [] = Unit {0}
+KeysDiffer R (e ∷ es) = AllByRecursion (λ x. eq_by_cmp R e.0 x.0 ≡ false) es × KeysDiffer R es
+
+module _ {K X : Type 0} (R : K → K → Ordering) (q : K) where
+  pub last_at-append : (before : Option X) (es fs : List (K × X)) → last_at R q before (es ++ fs) ≡ last_at R q (last_at R q before es) fs
+  last_at-append before [] fs = refl
+  last_at-append before (e ∷ es) fs = last_at-append (if eq_by_cmp R q e.0 then Some e.1 else before) es fs
+
+  -- among other keys there is none
+  pub last_at-apart : (before : Option X) (es : List (K × X)) → AllByRecursion (λ e. eq_by_cmp R q e.0 ≡ false) es → last_at R q before es ≡ before
+  last_at-apart before [] h = refl
+  last_at-apart before (e ∷ es) h = ap (λ b. last_at R q (if b then Some e.1 else before) es) h.0 ∙ last_at-apart before es h.1
+
+  module _ (o : IsTotalOrder R) where
+    tied_apart : (k : K) (es : List (K × X)) → R q k ≡ Equal → AllByRecursion (λ e. eq_by_cmp R k e.0 ≡ false) es → AllByRecursion (λ e. eq_by_cmp R q e.0 ≡ false) es
+    tied_apart k [] t h = tt
+    tied_apart k (e ∷ es) t h = (ap is_eq (o.congr q k e.0 t) ∙ h.0, tied_apart k es t h.1)
+
+    -- where the keys differ, the last with a key is the one that is found
+    pub last_at-differ : (es : List (K × X)) → KeysDiffer R es → last_at R q None es ≡ find R q es
+    last_at-differ [] h = refl
+    last_at-differ (e ∷ es) h =
+        elim (eq_by_cmp R q e.0) as (λ b. eq_by_cmp R q e.0 ≡ b → last_at R q (if b then Some e.1 else None) es ≡ cond b (Some e.1) (find R q es)) [
+          | true ↦ λ t. last_at-apart (Some e.1) es (tied_apart e.0 es (is_equal _ t) h.0)
+          | false ↦ λ t. last_at-differ es h.1
+        ] refl
+
+-- ---- an entry that is put again later need not be put before
 
 -- whether a key is among entries
 abbrev pub has : {K X : Type 0} → (K → K → Ordering) → K → List (K × X) → Bool
@@ -103,3 +157,145 @@ module _ {K A : Type 0} {R : K → K → Ordering} (o : IsTotalOrder R) (row : A
             ∙ none_last R k (flat_map row rest) at (Some i) in
             let wrong : true ≡ false = sym is_itself ∙ ap (is_index i) (sym stands) ∙ differs in
             cc
+
+-- ---- the maps of sections of data, of which only the last of a name is put
+
+abbrev pub DataLasts : FinMap text_cmp ℕ → List SectionValue → Type 0
+DataLasts last rest = Lasts text_total data_row last rest
+
+module _ (reading : Reading) (types : Option TypeInfo) where
+  -- a section of data gives a map of its name
+  data_gives : (q : List ℕ) (s : SectionValue) (symbols : List SymbolValue) (k : EbpfSectionKind) → has text_cmp q (if is_data_kind k then (s.name, s.index.0) ∷ [] else []) ≡ true → has text_cmp q (maps_by k reading types s symbols) ≡ true
+  data_gives q s symbols Data h = h
+  data_gives q s symbols Rodata h = h
+  data_gives q s symbols Bss h = h
+  data_gives q s symbols Undefined h = false_is_not h
+  data_gives q s symbols Maps h = false_is_not h
+  data_gives q s symbols BtfMaps h = false_is_not h
+  data_gives q s symbols Programs h = false_is_not h
+  data_gives q s symbols Text h = false_is_not h
+  data_gives q s symbols Btf h = false_is_not h
+  data_gives q s symbols BtfExt h = false_is_not h
+  data_gives q s symbols License h = false_is_not h
+  data_gives q s symbols Version h = false_is_not h
+
+  module _ (ys : List SymbolValue) where
+    abbrev maps_of : List SectionValue → List (List ℕ × Map)
+    maps_of rest = flat_map (λ s. maps_in reading types s (symbols_at ys s)) rest
+
+    all_give : (q : List ℕ) (rest : List SectionValue) → has text_cmp q (flat_map data_row rest) ≡ true → has text_cmp q (maps_of rest) ≡ true
+    unfolding maps_in
+    all_give q [] h = false_is_not h
+    all_give q (s ∷ rest) h =
+        list_any-append (λ e. eq_by_cmp text_cmp q e.0) (maps_in reading types s (symbols_at ys s)) (maps_of rest)
+        ∙ either (has text_cmp q (data_row s)) (has text_cmp q (flat_map data_row rest)) (has text_cmp q (maps_in reading types s (symbols_at ys s))) (has text_cmp q (maps_of rest))
+        (data_gives q s (symbols_at ys s) s.kind) (all_give q rest) (sym (list_any-append (λ e. eq_by_cmp text_cmp q e.0) (data_row s) (flat_map data_row rest)) ∙ h)
+      where
+        either : (a b c d : Bool) → (a ≡ true → c ≡ true) → (b ≡ true → d ≡ true) → (a || b) ≡ true → (c || d) ≡ true
+        either a b true d f g h = refl
+        either true b false d f g h = false_is_not (f refl)
+        either false b false d f g h = g h
+
+module _ (last : FinMap text_cmp ℕ) (s : SectionValue) (rest : List SectionValue) (lasts : DataLasts last (s ∷ rest)) (metadata : FileMetadata) (p : ObjectTables) (ys : List SymbolValue) where
+  abbrev rest_maps : List (List ℕ × Map)
+  rest_maps = maps_of metadata.reading metadata.btf ys rest
+
+  skipped : is_data_kind s.kind ≡ true → put_all (put_all p.maps (last_maps last s)) rest_maps ≡ put_all (put_all p.maps (data_maps s)) rest_maps
+  skipped is = step (is_index s.index.0 (get last s.name)) refl
+    where
+      step : (b : Bool) → is_index s.index.0 (get last s.name) ≡ b → put_all (put_all p.maps (if is_index s.index.0 (get last s.name) then data_maps s else [])) rest_maps ≡ put_all (put_all p.maps (data_maps s)) rest_maps
+      step true at = rw at refl
+      step false at = rw at (sym (put_again text_total text_exact p.maps s.name _ rest_maps (all_give metadata.reading metadata.btf ys s.name rest (another text_total data_row last s rest lasts s.name s.index.0 (ap (λ (b : Bool). if b then (s.name, s.index.0) ∷ [] else []) is) at))))
+
+  same_put : (symbols : List SymbolValue) (k : EbpfSectionKind) → s.kind ≡ k → put_all (put_all p.maps (put_by k last metadata.reading metadata.btf s symbols)) rest_maps ≡ put_all (put_all p.maps (maps_by k metadata.reading metadata.btf s symbols)) rest_maps
+  same_put symbols Data at = skipped (ap is_data_kind at)
+  same_put symbols Rodata at = skipped (ap is_data_kind at)
+  same_put symbols Bss at = skipped (ap is_data_kind at)
+  same_put symbols Undefined at = refl
+  same_put symbols Maps at = refl
+  same_put symbols BtfMaps at = refl
+  same_put symbols Programs at = refl
+  same_put symbols Text at = refl
+  same_put symbols Btf at = refl
+  same_put symbols BtfExt at = refl
+  same_put symbols License at = refl
+  same_put symbols Version at = refl
+
+  -- what the sections that are left add is the same
+  pub same_added : (symbols : List SymbolValue) → all_added metadata (added_last last metadata p s symbols) ys rest ≡ all_added metadata (added metadata p s symbols) ys rest
+  unfolding added maps_in
+  same_added symbols = λ i. record (all_added metadata (added metadata p s symbols) ys rest) { maps = same_put symbols s.kind refl i }
+
+-- ---- the functions of programs, of which only the last at an address is put
+
+abbrev pub ProgramLasts : FinMap nat_cmp ℕ → List SymbolValue → Type 0
+ProgramLasts last rest = Lasts nat_cmp_total program_symbol_row last rest
+
+-- a symbol that names a program, and one that names none
+pub row_more : (xs : List SymbolValue) (i : ℕ) (x : SymbolValue) → i < length xs → x ≡ slice_index_or xs i x → is_program_symbol x ≡ true
+    → flat_map program_symbol_row (drop i xs) ≡ (x.address, x.index) ∷ flat_map program_symbol_row (drop (i + 1) xs)
+row_more xs i x below here kept = ap (flat_map program_symbol_row) (rest_more xs i x below here) ∙ ap (λ (b : Bool). (if b then (x.address, x.index) ∷ [] else []) ++ flat_map program_symbol_row (drop (i + 1) xs)) kept
+
+pub row_passed : (xs : List SymbolValue) (i : ℕ) (x : SymbolValue) → i < length xs → x ≡ slice_index_or xs i x → is_program_symbol x ≡ false
+    → flat_map program_symbol_row (drop i xs) ≡ flat_map program_symbol_row (drop (i + 1) xs)
+row_passed xs i x below here passed = ap (flat_map program_symbol_row) (rest_more xs i x below here) ∙ ap (λ (b : Bool). (if b then (x.address, x.index) ∷ [] else []) ++ flat_map program_symbol_row (drop (i + 1) xs)) passed
+
+pub fewer : (last : FinMap nat_cmp ℕ) (xs : List SymbolValue) (i : ℕ) (x : SymbolValue) → i < length xs → x ≡ slice_index_or xs i x → ProgramLasts last (drop i xs) → ProgramLasts last (drop (i + 1) xs)
+fewer last xs i x below here lasts = fewer_lasts nat_cmp_total program_symbol_row last x (drop (i + 1) xs) (subst (λ (l : List SymbolValue). ProgramLasts last l) (rest_more xs i x below here) lasts)
+
+module _ (infos : FuncAndLineInfo) (s : SectionValue) where
+  abbrev entries_of : List SymbolValue → List ((ℕ × ℕ) × Function)
+  entries_of symbols = map with_key (program_functions infos s symbols)
+
+  same_section : (q a : ℕ) → eq_by_cmp key_cmp (s.index.0, q) (s.index.0, a) ≡ eq_by_cmp nat_cmp q a
+  same_section q a = ap (λ r. is_eq (ordering_then r (nat_cmp q a))) (is_equal (nat_cmp s.index.0 s.index.0) ((eq_by_cmp_equiv nat_cmp_total).refl s.index.0))
+
+  either : (a b c d : Bool) → c ≡ a → (b ≡ true → d ≡ true) → (a || b) ≡ true → (c || d) ≡ true
+  either true b c d e g h = ap (λ x. x || d) e
+  either false b c d e g h = ap (λ x. x || d) e ∙ g h
+
+  -- a program's symbol gives a function at its address
+  rows_give : (q : ℕ) (rest : List SymbolValue) → has nat_cmp q (flat_map program_symbol_row rest) ≡ true → has key_cmp (s.index.0, q) (entries_of rest) ≡ true
+  unfolding program_function
+  rows_give q [] h = false_is_not h
+  rows_give q (x ∷ rest) h = step (rows_give q rest) (is_program_symbol x) h
+    where
+      step : (has nat_cmp q (flat_map program_symbol_row rest) ≡ true → has key_cmp (s.index.0, q) (entries_of rest) ≡ true) → (b : Bool) → has nat_cmp q ((if b then (x.address, x.index) ∷ [] else []) ++ flat_map program_symbol_row rest) ≡ true
+          → has key_cmp (s.index.0, q) (map with_key (map (program_function infos s) (if b then x ∷ filter is_program_symbol rest else filter is_program_symbol rest))) ≡ true
+      step more true g = either (eq_by_cmp nat_cmp q x.address) (has nat_cmp q (flat_map program_symbol_row rest)) (eq_by_cmp key_cmp (s.index.0, q) (s.index.0, x.address)) (has key_cmp (s.index.0, q) (entries_of rest)) (same_section q x.address) more g
+      step more false g = more g
+
+  -- one that is not the last at its address need not be put
+  pub program_passed : (m : FinMap key_cmp Function) (last : FinMap nat_cmp ℕ) (xs : List SymbolValue) (i : ℕ) (x : SymbolValue) → i < length xs → x ≡ slice_index_or xs i x → is_program_symbol x ≡ true
+      → ProgramLasts last (drop i xs) → is_index x.index (get last x.address) ≡ false
+      → put_all m (entries_of (drop (i + 1) xs)) ≡ put_all m (entries_of (drop i xs))
+  unfolding program_function
+  program_passed m last xs i x below here kept lasts differs =
+      let more : drop i xs ≡ x ∷ drop (i + 1) xs = rest_more xs i x below here in
+      let row : program_symbol_row x ≡ (x.address, x.index) ∷ [] = ap (λ (b : Bool). if b then (x.address, x.index) ∷ [] else []) kept in
+      let behind = another nat_cmp_total program_symbol_row last x (drop (i + 1) xs) (subst (λ (l : List SymbolValue). ProgramLasts last l) more lasts) x.address x.index row differs in
+      let f = program_function infos s x in
+      sym (put_again key_total key_exact m (s.index.0, x.address) f (entries_of (drop (i + 1) xs)) (rows_give x.address (drop (i + 1) xs) behind))
+      ∙ sym (ap (λ (b : Bool). put_all m (map with_key (map (program_function infos s) (if b then x ∷ filter is_program_symbol (drop (i + 1) xs) else filter is_program_symbol (drop (i + 1) xs))))) kept)
+      ∙ sym (ap (λ l. put_all m (entries_of l)) more)
+
+  -- the next symbol: it names no program, or one without a fault
+  pub passed_fault : (xs : List SymbolValue) (i : ℕ) (x : SymbolValue) → i < length xs → x ≡ slice_index_or xs i x → is_program_symbol x ≡ false
+      → programs_fault s (drop (i + 1) xs) ≡ programs_fault s (drop i xs)
+  passed_fault xs i x below here passed = ap (first_some (program_fault s)) (sym (passed_more (program_function infos s) (program_fault s) is_program_symbol xs i x below here passed))
+
+  pub passed_put : (m : FinMap key_cmp Function) (xs : List SymbolValue) (i : ℕ) (x : SymbolValue) → i < length xs → x ≡ slice_index_or xs i x → is_program_symbol x ≡ false
+      → put_all m (entries_of (drop (i + 1) xs)) ≡ put_all m (entries_of (drop i xs))
+  passed_put m xs i x below here passed = ap (λ l. put_all m (map with_key (map (program_function infos s) l))) (sym (passed_more (program_function infos s) (program_fault s) is_program_symbol xs i x below here passed))
+
+  pub next_fault : (xs : List SymbolValue) (i : ℕ) (x : SymbolValue) → i < length xs → x ≡ slice_index_or xs i x → is_program_symbol x ≡ true → program_fault s x ≡ None
+      → programs_fault s (drop (i + 1) xs) ≡ programs_fault s (drop i xs)
+  next_fault xs i x below here kept clear =
+      sym (fault_here (program_function infos s) (program_fault s) is_program_symbol xs i x below here kept ∙ ap (λ o. or_else o (programs_fault s (drop (i + 1) xs))) clear)
+
+  pub next_put : (m n : FinMap key_cmp Function) (f : Function) (xs : List SymbolValue) (i : ℕ) (x : SymbolValue) → i < length xs → x ≡ slice_index_or xs i x → is_program_symbol x ≡ true
+      → f ≡ program_function infos s x → n ≡ insert m (f.section_index.0, f.address) f
+      → put_all n (entries_of (drop (i + 1) xs)) ≡ put_all m (entries_of (drop i xs))
+  next_put m n f xs i x below here kept is put =
+      ap (λ k. put_all k (entries_of (drop (i + 1) xs))) (put ∙ ap (λ (g : Function). insert m (g.section_index.0, g.address) g) is)
+      ∙ sym (ap (λ l. put_all m (map with_key l)) (kept_more (program_function infos s) (program_fault s) is_program_symbol xs i x below here kept))

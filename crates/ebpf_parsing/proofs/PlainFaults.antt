@@ -1,40 +1,25 @@
 -- Which faults of a file the two readings have not in common: a name that says no kind, and big-endian code. None is that
 -- of a limit.
 use Rattle.std.proofs.Common.{◌≡◌, ◌≢◌, ℕ, Bool, true, false, List, [], ◌∷◌, length, filter, Option, Some, None, Result, Ok, Err, option_map, refl, sym, ap, ◌∙◌}
-use Rattle.std.specs.Prelude.{◌+◌, ◌^◌, ◌||◌, ◌==◌, not, nat_lt, is_some, if◌then◌else◌}
 use Rattle.std.specs.List.{list_any, AllByRecursion}
+use Rattle.std.specs.Prelude.{◌+◌, ◌^◌, ◌||◌, ◌==◌, not, nat_lt, is_some, if◌then◌else◌}
 use Rattle.ebpf_base.specs.Faults.{or_else, first_of, first_in, first_some, fault_of}
+use Rattle.ebpf_base.specs.declared.endianness.Endianness.{Endianness}
 use Rattle.ebpf_btf.specs.Next.{if_some}
 use Rattle.ebpf_btf.specs.TypeInfo.{TypeInfo}
-use Rattle.ebpf_base.specs.declared.endianness.Endianness.{Endianness}
 use Rattle.ebpf_btf.specs.declared.error.BtfError.{BtfError as TypeError}
 use Rattle.ebpf_btf.specs.declared.error.BtfError.TheVariants.{InvalidSymbolName}
 use Rattle.ebpf_declarations.specs.DataSections.{DatasecMatch, Named, UnreadableName, datasec_match}
-use Rattle.ebpf_declarations.specs.TypesInReading.{TypesInReading, types_in_reading}
 use Rattle.ebpf_declarations.specs.Maps.{declared, map_with_symbol, map_at, entry_map, matched_maps_fault as fault_of_entries, type_maps_fault, btf_maps_fault}
+use Rattle.ebpf_declarations.specs.TypesInReading.{TypesInReading, types_in_reading}
 use Rattle.ebpf_declarations.specs.declared.definitions.MapDefinitions.{MapDefinitions}
 use Rattle.ebpf_elf.specs.Faults.{faults}
-use Rattle.ebpf_elf.specs.File.{ei_data}
+use Rattle.ebpf_elf.specs.Headers.{ei_data}
 use Rattle.ebpf_elf.specs.Relocations.{relocations}
-use Rattle.ebpf_elf.specs.declared.error.ElfReadError.TheVariants.{BadStringTable}
 use Rattle.ebpf_elf.specs.Sections.{SectionOf, section_name, data_faults}
 use Rattle.ebpf_elf.specs.Symbols.{SymbolOf, symbol_name, symbols}
-use Rattle.ebpf_parsing.specs.CodeOrder.{has_big_endian_code, order_fault_as}
-use Rattle.ebpf_parsing.specs.FileContents.{read_fault, sections_fault, parse_fault_as, other_sections}
-use Rattle.ebpf_parsing.specs.DataMaps.{data_map_fault}
-use Rattle.ebpf_parsing.specs.BtfDefinedMaps.{btf_defined_maps_fault}
-use Rattle.ebpf_parsing.specs.FileExterns.{types_of_file, externs_fault_beside, file_externs_fault}
-use Rattle.ebpf_parsing.specs.FileSymbols.{file_symbols, symbol_fault, symbols_fault}
-use Rattle.ebpf_parsing.specs.FileTypes.{btf_of, types_fault_in, btf_fault, ext_fault_in, ext_fault_beside, ext_fault, file_types_fault, types_section, ext_section}
-use Rattle.ebpf_parsing.specs.LegacyMaps.{struct_bytes, word_at, legacy_fault, legacy_maps_fault}
-use Rattle.ebpf_parsing.specs.OfSection.{fault_by, fault_in, program_section_faults}
-use Rattle.ebpf_parsing.specs.Programs.{is_program_symbol, program_bytes, range_faults, program_fault, programs_fault}
-use Rattle.ebpf_parsing.specs.Readings.{BroadRefusesNoName, StatedTakesBothOrders}
-use Rattle.ebpf_parsing.specs.Symbols.{SymbolValue, section_symbols}
-use Rattle.ebpf_parsing.specs.LicenseAndVersion.{stated_text_fault, license_text_fault, license_fault_in, license_fault_as, version_number_fault, version_fault_in, version_fault, has_zero, front_of}
-use Rattle.ebpf_parsing.specs.Texts.{text_function_bytes, conflict_fault_at, conflict_fault, repeated, text_fault_of, text_fault_at, symbol_at_offset, offsets, text_fault}
-use Rattle.ebpf_parts.specs.Readings.{section_as}
-use Rattle.ebpf_parts.specs.ProgramSections.{no_section}
+use Rattle.ebpf_elf.specs.declared.error.ElfReadError.TheVariants.{BadStringTable}
+use Rattle.ebpf_parts.specs.ProgramTypes.{no_section, section_as}
 use Rattle.ebpf_parts.specs.Sections.{SectionValue, section_of, section_name_fault, data_fault, section_fault, section_fault_with}
 use Rattle.ebpf_parts.specs.Slots.{code_faults}
 use Rattle.ebpf_parts.specs.declared.error.ParseError.{ParseError}
@@ -45,28 +30,38 @@ use Rattle.ebpf_parts.specs.declared.reading.Reading.{Reading}
 use Rattle.ebpf_parts.specs.declared.reading.Reading.TheVariants.{Stated, Broad}
 use Rattle.ebpf_parts.specs.declared.section_kind.EbpfSectionKind.{EbpfSectionKind}
 use Rattle.ebpf_parts.specs.declared.section_kind.EbpfSectionKind.TheVariants.{Maps, BtfMaps, Data, Rodata, Bss, Text, Program as Programs}
+use Rattle.ebpf_parsing.specs.FileContents.{read_fault, sections_fault, parse_fault_as}
+use Rattle.ebpf_parsing.specs.FileTypes.{types_of_file, externs_fault_beside, file_externs_fault, btf_of, types_fault_in, btf_fault, ext_fault_in, ext_fault_beside, ext_fault, file_types_fault, types_section, ext_section}
+use Rattle.ebpf_parsing.specs.Laws.{BroadRefusesNoName, StatedTakesBothOrders}
+use Rattle.ebpf_parsing.specs.LicenseAndVersion.{stated_text_fault, license_text_fault, license_fault_in, license_fault_as, version_number_fault, version_fault_in, version_fault, has_zero, front_of}
+use Rattle.ebpf_parsing.specs.Maps.{data_map_fault, btf_defined_maps_fault, struct_bytes, word_at, legacy_fault, legacy_maps_fault}
+use Rattle.ebpf_parsing.specs.OfSection.{fault_by, fault_in, program_section_faults}
+use Rattle.ebpf_parsing.specs.Programs.{is_program_symbol, program_bytes, range_faults, program_fault, programs_fault}
+use Rattle.ebpf_parsing.specs.Sections.{has_big_endian_code, order_fault_as, other_sections}
+use Rattle.ebpf_parsing.specs.Symbols.{file_symbols, symbol_fault, symbols_fault, SymbolValue, section_symbols}
+use Rattle.ebpf_parsing.specs.Texts.{text_function_bytes, conflict_fault_at, conflict_fault, repeated, text_fault_of, text_fault_at, symbol_at_offset, offsets, text_fault}
 
 -- a fault that only one of the readings has, or that of a limit
-is_told : ParseError → Bool
+abbrev is_told : ParseError → Bool
 is_told (InvalidProgramSection _) = true
 is_told BigEndianCode = true
 is_told (TooLarge _) = true
 is_told _ = false
 
-told : Option ParseError → Bool
-told None = false
-told (Some e) = is_told e
+-- a test of a fault, where there is one
+abbrev says : (ParseError → Bool) → Option ParseError → Bool
+says test None = false
+says test (Some e) = test e
+
+abbrev told : Option ParseError → Bool
+told = says is_told
 
 abbrev Plain : Option ParseError → Type 0
 Plain o = told o ≡ false
 
-is_big_endian_code : ParseError → Bool
+abbrev is_big_endian_code : ParseError → Bool
 is_big_endian_code BigEndianCode = true
 is_big_endian_code _ = false
-
-big : Option ParseError → Bool
-big None = false
-big (Some e) = is_big_endian_code e
 
 -- ---- faults one after the other
 
@@ -80,11 +75,9 @@ module _ (test : Option ParseError → Bool) where
   all_of none f each (x ∷ xs) = either (f x) (first_some f xs) (each x) (all_of none f each xs)
 
 plain_all : {A : Type 0} (f : A → Option ParseError) → ((x : A) → Plain (f x)) → (xs : List A) → Plain (first_some f xs)
-unfolding told
 plain_all f each xs = all_of told refl f each xs
 
 rows_plain : (rows : List (Bool × ParseError)) → AllByRecursion (λ row. is_told row.1 ≡ false) rows → Plain (first_of rows)
-unfolding told
 rows_plain [] all = refl
 rows_plain (row ∷ rows) all = by_test row.0 (rows_plain rows all.1)
   where
@@ -93,31 +86,28 @@ rows_plain (row ∷ rows) all = by_test row.0 (rows_plain rows all.1)
     by_test false later = later
 
 made_plain : {A : Type 0} (g : A → ParseError) → ((x : A) → is_told (g x) ≡ false) → (o : Option A) → Plain (option_map g o)
-unfolding told
 made_plain g each None = refl
 made_plain g each (Some x) = each x
 
 if_plain : (b : Bool) (e : ParseError) → is_told e ≡ false → Plain (if b then Some e else None)
-unfolding told
 if_plain true e is = is
 if_plain false e is = refl
 
 unless_plain : (b : Bool) (o : Option ParseError) → Plain o → Plain (if b then None else o)
-unfolding told
 unless_plain true o is = refl
 unless_plain false o is = is
 
 -- ---- sections
 
 section_plain : (s : SectionOf) → Plain (section_fault s)
-unfolding section_fault section_fault_with is_told told
+unfolding section_fault section_fault_with
 section_plain s =
     either told (section_name_fault s) _ (unless_plain (is_some (section_name s)) (Some (SectionError s.index BadStringTable)) refl)
     (either told (data_fault s) _ (made_plain (SectionError s.index) (λ e. refl) (first_of (data_faults s)))
     (if_plain (list_any (λ r. r.symbol_index == 0) (relocations s)) UnsupportedRelocationTarget refl))
 
 stated_plain : (bytes : List ℕ) → Plain (stated_text_fault bytes)
-unfolding stated_text_fault is_told told
+unfolding stated_text_fault
 stated_plain bytes = rows_plain ((nat_lt (length bytes) 2, InvalidLicense bytes) ∷ (not (has_zero bytes), MissingLicenseNullTerminator bytes) ∷ (has_zero (front_of bytes), InvalidLicense bytes) ∷ []) (refl, (refl, (refl, tt)))
 
 license_text_plain : (reading : Reading) (bytes : List ℕ) → Plain (license_text_fault reading bytes)
@@ -126,7 +116,6 @@ license_text_plain Stated bytes = stated_plain bytes
 license_text_plain Broad bytes = unless_plain _ (stated_text_fault bytes) (stated_plain bytes)
 
 license_in_plain : (reading : Reading) (s : Option SectionOf) → Plain (license_fault_in reading s)
-unfolding told
 license_in_plain reading None = refl
 license_in_plain reading (Some s) = either told (section_fault s) _ (section_plain s) (license_text_plain reading (section_of s).bytes)
 
@@ -135,7 +124,7 @@ unfolding license_fault_as
 license_plain reading bytes = license_in_plain reading _
 
 version_in_plain : (s : Option SectionOf) → Plain (version_fault_in s)
-unfolding told version_number_fault is_told
+unfolding version_number_fault
 version_in_plain None = refl
 version_in_plain (Some s) = either told (section_fault s) _ (section_plain s) (rows_plain ((not (length (section_of s).bytes == 4), InvalidKernelVersion (section_of s).bytes) ∷ []) (refl, tt))
 
@@ -144,21 +133,17 @@ unfolding version_fault
 version_plain bytes = version_in_plain _
 
 symbol_plain : (s : SymbolOf) → Plain (symbol_fault s)
-unfolding is_told told
 symbol_plain s = unless_plain (is_some (symbol_name s)) (Some (BtfError InvalidSymbolName)) refl
 
 types_in_plain : (o : Endianness) (s : Option SectionOf) → Plain (types_fault_in o s)
-unfolding told is_told
 types_in_plain o None = refl
 types_in_plain o (Some s) = either told (section_fault s) _ (section_plain s) (made_plain BtfError (λ e. refl) _)
 
 ext_in_plain : (o : Endianness) (types : TypeInfo) (s : Option SectionOf) → Plain (ext_fault_in o types s)
-unfolding told is_told
 ext_in_plain o types None = refl
 ext_in_plain o types (Some s) = either told (section_fault s) _ (section_plain s) (made_plain BtfError (λ e. refl) _)
 
 ext_plain : (bytes : List ℕ) (types : Option TypeInfo) → Plain (ext_fault_beside bytes types)
-unfolding told
 ext_plain bytes None = refl
 ext_plain bytes (Some types) = ext_in_plain (ei_data bytes) types (ext_section bytes)
 
@@ -167,7 +152,6 @@ unfolding file_types_fault btf_fault ext_fault
 file_types_plain bytes = either told _ _ (types_in_plain (ei_data bytes) (types_section bytes)) (ext_plain bytes (btf_of bytes))
 
 beside_plain : (ys : List SymbolValue) (types : Option TypeInfo) → Plain (externs_fault_beside ys types)
-unfolding told is_told
 beside_plain ys None = refl
 beside_plain ys (Some types) = made_plain BtfError (λ e. refl) _
 
@@ -178,12 +162,11 @@ externs_plain bytes = beside_plain (file_symbols bytes) (btf_of bytes)
 -- ---- what sections hold
 
 conflict_plain : (section : ℕ) (o : Option ℕ) → Plain (conflict_fault_at section o)
-unfolding told is_told
 conflict_plain section None = refl
 conflict_plain section (Some a) = refl
 
 begins_plain : (s : SectionValue) (offset : ℕ) (o : Option SymbolValue) → Plain (text_fault_of s offset o)
-unfolding told is_told code_faults
+unfolding code_faults
 begins_plain s offset None = refl
 begins_plain s offset (Some y) =
     either told _ _ (rows_plain ((y.size == 0 || nat_lt (length s.bytes) (offset + y.size), InvalidSymbol y.index (Some y.name)) ∷ []) (refl, tt))
@@ -195,41 +178,38 @@ text_plain s ys =
     either told _ _ (conflict_plain s.index.0 (repeated ys)) (plain_all (text_fault_at s ys) (λ offset. begins_plain s offset (symbol_at_offset s ys offset)) (offsets s ys))
 
 program_plain : (s : SectionValue) (y : SymbolValue) → Plain (program_fault s y)
-unfolding program_fault told is_told code_faults
+unfolding program_fault code_faults
 program_plain s y =
     either told _ _ (rows_plain (range_faults s y) (refl, tt)) (either told _ _ (rows_plain (code_faults (program_bytes s y)) (refl, tt)) refl)
 
 behind_name : (s : SectionValue) (ys : List SymbolValue) → Plain (or_else (first_of ((length ys == 0, NoSymbolsForSection s.name) ∷ [])) (programs_fault s ys))
-unfolding is_told told
 behind_name s ys = either told _ _ (rows_plain ((length ys == 0, NoSymbolsForSection s.name) ∷ []) (refl, tt)) (plain_all (program_fault s) (program_plain s) (filter is_program_symbol ys))
 
 data_plain : (s : SectionValue) → Plain (data_map_fault s)
-unfolding data_map_fault is_told told
+unfolding data_map_fault
 data_plain s = rows_plain ((not (nat_lt s.size (2 ^ 32)), InvalidMapDefinition s.name) ∷ []) (refl, tt)
 
 struct_plain : (s : SectionValue) (y : SymbolValue) → Plain (legacy_fault s y)
-unfolding legacy_fault is_told told
+unfolding legacy_fault
 struct_plain s y =
     rows_plain ((nat_lt (length s.bytes) (y.address + y.size), InvalidSymbol y.index (Some y.name)) ∷ (nat_lt y.size 20, InvalidMapDefinition y.name) ∷ (nat_lt 1 (word_at (struct_bytes s y) 24), InvalidMapDefinition y.name) ∷ [])
     (refl, (refl, (refl, tt)))
 
 structs_plain : (s : SectionValue) (ys : List SymbolValue) → Plain (legacy_maps_fault s ys)
-unfolding legacy_maps_fault is_told told
+unfolding legacy_maps_fault
 structs_plain s ys = either told _ _ (rows_plain ((length ys == 0, NoSymbolsForSection s.name) ∷ []) (refl, tt)) (plain_all (legacy_fault s) (struct_plain s) ys)
 
 module _ (numbers : List ℕ → Option ℕ) (section : ℕ) where
   numbered_plain : (d : List ℕ × MapDefinitions) (o : Option ℕ) → Plain (fault_of {X = List ℕ × Map} (if_some o (λ y. Ok (d.0, map_at d.1 section y)) (Err (SymbolNotFound d.0))))
-  unfolding told is_told
   numbered_plain d None = refl
   numbered_plain d (Some y) = refl
 
   placed_plain : (r : Result (List ℕ × MapDefinitions) TypeError) → Plain (fault_of (map_with_symbol numbers section r))
-  unfolding told is_told
   placed_plain (Err e) = refl
   placed_plain (Ok d) = numbered_plain d (numbers d.0)
 
   met_plain : (reading : Reading) (info : TypeInfo) (met : Option DatasecMatch) → Plain (fault_of_entries reading info numbers section met)
-  unfolding told is_told entry_map
+  unfolding entry_map
   met_plain reading info None = refl
   met_plain reading info (Some (UnreadableName e)) = refl
   met_plain reading info (Some (Named entries)) = plain_all (λ entry. fault_of (entry_map reading info numbers section entry)) (λ entry. placed_plain (declared reading info entry)) entries
@@ -239,7 +219,7 @@ module _ (numbers : List ℕ → Option ℕ) (section : ℕ) where
   types_plain reading info name = plain_all (type_maps_fault reading info numbers section name) (λ t. met_plain reading info (datasec_match info name t)) info.types
 
 declared_plain : (types : Option TypesInReading) (s : SectionValue) (ys : List SymbolValue) → Plain (btf_defined_maps_fault types s ys)
-unfolding btf_defined_maps_fault told is_told
+unfolding btf_defined_maps_fault
 declared_plain None s ys = refl
 declared_plain (Some d) s ys = either told _ _ (rows_plain ((length ys == 0, NoSymbolsForSection s.name) ∷ []) (refl, tt)) (types_plain _ s.index.0 d.reading d.types s.name)
 
@@ -252,7 +232,6 @@ module _ (test : Option ParseError → Bool) (plain : (o : Option ParseError) �
   name_passes s ys = either test _ _ (named s.name) (plain _ (behind_name s ys))
 
   kind_passes : (types : Option TypeInfo) (s : SectionValue) (ys : List SymbolValue) (kind : EbpfSectionKind) → test (fault_by kind reading types s ys) ≡ false
-  unfolding told
   kind_passes types s ys Programs = name_passes s ys
   kind_passes types s ys Text = plain _ (text_plain s ys)
   kind_passes types s ys Data = plain _ (data_plain s)
@@ -263,7 +242,7 @@ module _ (test : Option ParseError → Bool) (plain : (o : Option ParseError) �
   kind_passes types s ys _ = plain None refl
 
   sections_pass : (types : Option TypeInfo) (bytes : List ℕ) → test (sections_fault reading types bytes) ≡ false
-  unfolding sections_fault fault_in told
+  unfolding sections_fault fault_in
   sections_pass types bytes = all_of test (plain None refl) (read_fault reading types bytes)
       (λ s. either test (section_fault s) _ (plain _ (section_plain s)) (kind_passes types (section_of s) (section_symbols (file_symbols bytes) s.index) (section_of s).kind))
       (other_sections bytes)
@@ -279,13 +258,11 @@ module _ (test : Option ParseError → Bool) (plain : (o : Option ParseError) �
       (either test _ _ (plain _ (externs_plain bytes)) (sections_pass (types_of_file bytes) bytes)))))
 
 file_plain : (bytes : List ℕ) → Plain (option_map ElfError (first_in (faults bytes)))
-unfolding is_told told
 file_plain bytes = made_plain ElfError (λ e. refl) _
 
 -- ---- the broad reading
 
 no_name : (name : List ℕ) (o : Option ParseError) → Plain o → o ≢ Some (InvalidProgramSection name)
-unfolding told is_told
 no_name name o plain is = let no : true ≡ false = sym (ap told is) ∙ plain in cc
 
 in_order : (name : List ℕ) (a : Option ParseError) (ordered : Bool) (rest : Option ParseError) → Plain a → Plain rest
@@ -295,7 +272,7 @@ in_order name None true rest first later is = cc
 in_order name None false rest first later is = no_name name rest later is
 
 broad_name : (name : List ℕ) → Plain (no_section name (section_as Broad name))
-unfolding told section_as
+unfolding section_as
 broad_name name = refl
 
 pub broad_refuses_no_name : BroadRefusesNoName
@@ -303,59 +280,44 @@ broad_refuses_no_name bytes name = in_order name _ (has_big_endian_code bytes) _
 
 -- ---- the stated reading
 
-from_plain : (o : Option ParseError) → Plain o → big o ≡ false
-unfolding told is_told big is_big_endian_code
+from_plain : (o : Option ParseError) → Plain o → says is_big_endian_code o ≡ false
 from_plain None plain = refl
 from_plain (Some BigEndianCode) plain = absurd (cc)
 from_plain (Some _) plain = refl
 
-unnamed : (name : List ℕ) (kind : Option ProgramSection) → big (no_section name kind) ≡ false
-unfolding big is_big_endian_code
-unnamed name None = refl
-unnamed name (Some kind) = refl
+unnamed : (test : ParseError → Bool) (name : List ℕ) → test (InvalidProgramSection name) ≡ false → (kind : Option ProgramSection) → says test (no_section name kind) ≡ false
+unnamed test name other None = other
+unnamed test name other (Some kind) = refl
 
 pub stated_takes_both_orders : StatedTakesBothOrders
-unfolding big is_big_endian_code
 stated_takes_both_orders bytes is =
-    let never : big (parse_fault_as Stated bytes) ≡ false =
-    either big _ _ (from_plain _ (file_plain bytes)) (behind_order big from_plain Stated (λ name. unnamed name (section_as Stated name)) bytes) in
-    let no : true ≡ false = sym (ap big is) ∙ never in
+    let never : says is_big_endian_code (parse_fault_as Stated bytes) ≡ false =
+    either (says is_big_endian_code) _ _ (from_plain _ (file_plain bytes)) (behind_order (says is_big_endian_code) from_plain Stated (λ name. unnamed is_big_endian_code name refl (section_as Stated name)) bytes) in
+    let no : true ≡ false = sym (ap (says is_big_endian_code) is) ∙ never in
     cc
 
 -- ---- the fault of a limit
 
-is_too_large : ParseError → Bool
+abbrev is_too_large : ParseError → Bool
 is_too_large (TooLarge _) = true
 is_too_large _ = false
 
-large : Option ParseError → Bool
-large None = false
-large (Some e) = is_too_large e
-
-small : (o : Option ParseError) → Plain o → large o ≡ false
-unfolding told is_told large is_too_large
+small : (o : Option ParseError) → Plain o → says is_too_large o ≡ false
 small None plain = refl
 small (Some (TooLarge _)) plain = absurd (cc)
 small (Some _) plain = refl
 
-small_name : (name : List ℕ) (kind : Option ProgramSection) → large (no_section name kind) ≡ false
-unfolding large is_too_large
-small_name name None = refl
-small_name name (Some kind) = refl
-
-small_order : (reading : Reading) (bytes : List ℕ) → large (order_fault_as reading bytes) ≡ false
-unfolding large is_too_large
+small_order : (reading : Reading) (bytes : List ℕ) → says is_too_large (order_fault_as reading bytes) ≡ false
 small_order Stated bytes = refl
-small_order Broad bytes = elim (has_big_endian_code bytes) as (λ b. large (if b then Some BigEndianCode else None) ≡ false) [
+small_order Broad bytes = elim (has_big_endian_code bytes) as (λ b. says is_too_large (if b then Some BigEndianCode else None) ≡ false) [
   | true ↦ refl
   | false ↦ refl
 ]
 
 pub never_too_large : (reading : Reading) (bytes : List ℕ) (most : ℕ) → parse_fault_as reading bytes ≢ Some (TooLarge most)
-unfolding large is_too_large
 never_too_large reading bytes most is =
-    let never : large (parse_fault_as reading bytes) ≡ false =
-    either large _ _ (small _ (file_plain bytes))
-    (either large _ _ (small_order reading bytes) (behind_order large small reading (λ name. small_name name (section_as reading name)) bytes)) in
-    let no : true ≡ false = sym (ap large is) ∙ never in
+    let never : says is_too_large (parse_fault_as reading bytes) ≡ false =
+    either (says is_too_large) _ _ (small _ (file_plain bytes))
+    (either (says is_too_large) _ _ (small_order reading bytes) (behind_order (says is_too_large) small reading (λ name. unnamed is_too_large name refl (section_as reading name)) bytes)) in
+    let no : true ≡ false = sym (ap (says is_too_large) is) ∙ never in
     cc

@@ -1,36 +1,79 @@
--- What an object's table of functions has of one section.
-use Rattle.std.proofs.Common.{◌≡◌, ℕ, suc, zero, ◌+◌, ◌-◌, ◌<◌, ◌≤◌, ◌^◌, true, false, not, cond, List, [], ◌∷◌, map, length, Option, Some, None, refl, sym, ap, subst, ◌∙◌, arith, slice_get, if◌then◌else◌, ◌==◌, ◌⊎◌, inl, inr, ⊎_elim}
+-- Where a file has no fault, none of its sections has; what an object's table of functions has of one section.
+use Rattle.std.proofs.Common.{◌≡◌, ℕ, zero, suc, List, [], ◌∷◌, map, Option, Some, None, option_map, subst, slice_get, ◌+◌, ◌-◌, ◌<◌, ◌≤◌, ◌^◌, true, false, not, cond, length, refl, sym, ap, ◌∙◌, arith, if◌then◌else◌, ◌==◌, ◌⊎◌, inl, inr, ⊎_elim}
+use Rattle.std.proofs.lemmas.List.{length-take, length-drop}
 use Rattle.std.specs.Cmp.{eq_by_cmp_equiv}
 use Rattle.std.specs.FinMap.{get, empty, get-empty, find}
+use Rattle.std.specs.List.{AllByRecursion, flat_map, range_with_len}
 use Rattle.std.specs.List as list
 use Rattle.std.specs.Ordering.{eq_by_cmp}
-use Rattle.std.specs.List.{AllByRecursion, flat_map, range_with_len}
-use Rattle.std.proofs.lemmas.List.{length-take, length-drop}
-use Rattle.ebpf_base.specs.Keyed.{last_at}
-use Rattle.ebpf_base.specs.Keys.{key_cmp, key_total}
 use Rattle.ebpf_base.proofs.Faults.{both_None}
 use Rattle.ebpf_base.proofs.Keyed.{later_key_stands}
-use Rattle.ebpf_elf.specs.File.{section_count, range_of}
+use Rattle.ebpf_base.specs.Faults.{or_else, first_some, first_in}
+use Rattle.ebpf_base.specs.Keyed.{last_at}
+use Rattle.ebpf_base.specs.Keys.{key_cmp, key_total}
+use Rattle.ebpf_elf.specs.Faults.{faults}
+use Rattle.ebpf_elf.specs.Headers.{section_count, range_of}
+use Rattle.ebpf_elf.specs.Relocations.{relocations}
 use Rattle.ebpf_elf.specs.Sections.{SectionOf, header, data_of}
 use Rattle.ebpf_elf.specs.declared.constants.TheConstants.{SHT_NOBITS}
-use Rattle.ebpf_parsing.specs.FileContents.{functions, function_entries, is_type_information, object_sections, own_symbols}
-use Rattle.ebpf_parsing.specs.FileExterns.{types_of_file}
-use Rattle.ebpf_parsing.specs.FileTypes.{ext_of}
-use Rattle.ebpf_parsing.specs.OfSection.{functions_by, functions_in, fault_by, fault_in}
+use Rattle.ebpf_model.specs.declared.function.Function.{Function}
+use Rattle.ebpf_parts.specs.Sections.{SectionValue, section_of, section_with, section_fault, section_fault_with, section_name_fault, data_fault, target_fault}
+use Rattle.ebpf_parts.specs.declared.error.ParseError.TheVariants.{ElfError}
+use Rattle.ebpf_parts.specs.declared.reading.Reading.{Reading}
+use Rattle.ebpf_parsing.specs.FileContents.{parse_fault_as, read_fault, sections_fault, own_symbols, functions, function_entries}
+use Rattle.ebpf_parsing.specs.FileTypes.{types_of_file, file_externs_fault, file_types_fault, ext_of}
+use Rattle.ebpf_parsing.specs.Laws.{IsTextSection, AreInOrder, own_functions, AtEachAddress, InOrder, SectionsTile}
+use Rattle.ebpf_parsing.specs.LicenseAndVersion.{license_fault_as, version_fault}
+use Rattle.ebpf_parsing.specs.OfSection.{fault_in, functions_by, functions_in, fault_by}
 use Rattle.ebpf_parsing.specs.Programs.{with_key}
 use Rattle.ebpf_parsing.specs.Records.{FuncAndLineInfo, func_and_line_info_of}
-use Rattle.ebpf_parsing.specs.Symbols.{SymbolValue}
+use Rattle.ebpf_parsing.specs.Sections.{other_sections, object_sections, order_fault_as, is_type_information}
+use Rattle.ebpf_parsing.specs.Symbols.{file_symbols, symbols_fault, section_symbols, SymbolValue}
 use Rattle.ebpf_parsing.specs.Texts.{text_fault, conflict_fault, walk_fault, offsets_from}
-use Rattle.ebpf_parsing.specs.TiledSections.{IsTextSection, AreInOrder, own_functions, AtEachAddress, InOrder, SectionsTile}
-use Rattle.ebpf_parsing.proofs.AddedLemmas.{others}
-use Rattle.ebpf_parsing.proofs.ClearSections.{kind_clear}
-use Rattle.ebpf_parsing.proofs.LastEntries.{KeysDiffer, last_at-append, last_at-apart, last_at-differ}
-use Rattle.ebpf_parsing.proofs.TextKeys.{Key, Entry, flipped, entries_apart, section_keys, text_keys, key_of_address, rise, differ}
-use Rattle.ebpf_parsing.proofs.OffsetOrder.{one_order}
+use Rattle.ebpf_parsing.proofs.Added.{others}
+use Rattle.ebpf_parsing.proofs.Lasts.{KeysDiffer, last_at-append, last_at-apart, last_at-differ}
+use Rattle.ebpf_parsing.proofs.TextKeys.{Key, Entry, entries_apart, section_keys, text_keys, key_of_address, rise, differ, one_order}
 use Rattle.ebpf_parsing.proofs.Tiles as tiles
-use Rattle.ebpf_parts.specs.Sections.{SectionValue, section_of, section_with}
-use Rattle.ebpf_model.specs.declared.function.Function.{Function}
-use Rattle.ebpf_parts.specs.declared.reading.Reading.{Reading}
+
+-- ---- where a file has no fault, none of its sections has
+
+-- what is made of an item, where none of them has a fault
+clear_item : {A B E : Type 0} (f : A → Option E) (g : A → B) (xs : List A) (j : ℕ) (b : B) → first_some f xs ≡ None → slice_get (map g xs) j ≡ Some b → (x : A) × ((g x ≡ b) × (f x ≡ None))
+clear_item f g [] j b clear e = absurd (let no : ⊥ = cc in no)
+clear_item f g (x ∷ xs) zero b clear e = let same : g x ≡ b = cc in (x, (same, (both_None (f x) (first_some f xs) clear).0))
+clear_item f g (x ∷ xs) (suc j) b clear e = clear_item f g xs j b (both_None (f x) (first_some f xs) clear).1 e
+
+clear_sections : (reading : Reading) (bytes : List ℕ) → parse_fault_as reading bytes ≡ None → first_some (read_fault reading (types_of_file bytes) bytes) (other_sections bytes) ≡ None
+unfolding sections_fault
+clear_sections reading bytes clear =
+    let a = both_None (option_map ElfError (first_in (faults bytes))) _ clear in
+    let o = both_None (order_fault_as reading bytes) _ a.1 in
+    let b = both_None (license_fault_as reading bytes) _ o.1 in
+    let c = both_None (version_fault bytes) _ b.1 in
+    let d = both_None (symbols_fault bytes) _ c.1 in
+    let e = both_None (file_types_fault bytes) _ d.1 in
+    (both_None (file_externs_fault bytes) _ e.1).1
+
+module _ (reading : Reading) (bytes : List ℕ) (clear : parse_fault_as reading bytes ≡ None) (n : ℕ) (s : SectionValue) (here : slice_get (object_sections bytes) n ≡ Some s) where
+  read : (x : SectionOf) × ((section_of x ≡ s) × (read_fault reading (types_of_file bytes) bytes x ≡ None))
+  read = clear_item (read_fault reading (types_of_file bytes) bytes) section_of (other_sections bytes) n s (clear_sections reading bytes clear) here
+
+  both : (section_fault read.0 ≡ None) × (fault_in reading (types_of_file bytes) (section_of read.0) (section_symbols (file_symbols bytes) read.0.index) ≡ None)
+  both = both_None (section_fault read.0) (fault_in reading (types_of_file bytes) (section_of read.0) (section_symbols (file_symbols bytes) read.0.index)) read.1.1
+
+  -- what the section's kind asks for is there
+  pub kind_clear : fault_in reading (types_of_file bytes) s (own_symbols bytes s) ≡ None
+  unfolding section_of section_with
+  kind_clear = subst (λ t. fault_in reading (types_of_file bytes) t (own_symbols bytes t) ≡ None) read.1.0 both.1
+
+  -- no relocation names symbol 0
+  pub targets_clear : target_fault s.relocations ≡ None
+  unfolding section_of section_with section_fault section_fault_with
+  targets_clear =
+      let inner = both_None (section_name_fault read.0) (or_else (data_fault read.0) (target_fault (relocations read.0))) both.0 in
+      subst (λ t. target_fault t.relocations ≡ None) read.1.0 (both_None (data_fault read.0) (target_fault (relocations read.0)) inner.1).1
+
+-- ---- what an object's table of functions has of one section
 
 first_or_later : {A : Type 0} (x : A) (xs : List A) (j : ℕ) (y : A) → slice_get (x ∷ xs) j ≡ Some y → (x ≡ y) ⊎ ((k : ℕ) × (slice_get xs k ≡ Some y))
 first_or_later x xs zero y e = inl (cc)
@@ -51,16 +94,21 @@ module _ (bytes : List ℕ) where
   unfolding section_of section_with
   number_of a = refl
 
-  number_from : (a n j : ℕ) (s : SectionValue) → slice_get (read_from a n) j ≡ Some s → a ≤ s.index.0
-  number_from a zero j s e = absurd (let no : ⊥ = cc in no)
-  number_from a (suc n) j s e =
-      elim (is_type_information (section_at a)) as (λ b. slice_get (map section_of (cond (not b) (section_at a ∷ others_from (a + 1) n) (others_from (a + 1) n))) j ≡ Some s → a ≤ s.index.0) [
-        | true ↦ λ f. let later : a + 1 ≤ s.index.0 = number_from (a + 1) n j s f in omega arith
-        | false ↦ λ f. ⊎_elim
-            (λ same. subst (λ t. a ≤ t.index.0) same (let here : (section_of (section_at a)).index.0 ≡ a = number_of a in omega (arith, here)))
-            (λ k. let later : a + 1 ≤ s.index.0 = number_from (a + 1) n k.0 s k.1 in omega arith)
-            (first_or_later (section_of (section_at a)) (read_from (a + 1) n) j s f)
+  -- each is one of the file's, from that number on
+  place_from : (a n j : ℕ) (s : SectionValue) → slice_get (read_from a n) j ≡ Some s → (k : ℕ) × ((a ≤ k) × (section_of (section_at k) ≡ s))
+  place_from a zero j s e = absurd (let no : ⊥ = cc in no)
+  place_from a (suc n) j s e =
+      elim (is_type_information (section_at a)) as (λ b. slice_get (map section_of (cond (not b) (section_at a ∷ others_from (a + 1) n) (others_from (a + 1) n))) j ≡ Some s → (k : ℕ) × ((a ≤ k) × (section_of (section_at k) ≡ s))) [
+        | true ↦ λ f. behind (place_from (a + 1) n j s f)
+        | false ↦ λ f. ⊎_elim (λ same. (a, ((let here : a ≤ a = omega arith in here), same))) (λ k. behind (place_from (a + 1) n k.0 s k.1)) (first_or_later (section_of (section_at a)) (read_from (a + 1) n) j s f)
       ] e
+    where
+      behind : (k : ℕ) × ((a + 1 ≤ k) × (section_of (section_at k) ≡ s)) → (k : ℕ) × ((a ≤ k) × (section_of (section_at k) ≡ s))
+      behind p = (p.0, ((let low : a ≤ p.0 = omega (arith, p.1.0) in low), p.1.1))
+
+  number_from : (a n j : ℕ) (s : SectionValue) → slice_get (read_from a n) j ≡ Some s → a ≤ s.index.0
+  unfolding section_of section_with
+  number_from a n j s e = let place = place_from a n j s e in subst (λ t. a ≤ t.index.0) place.1.1 place.1.0
 
   data_within : (x : SectionOf) → length (data_of x) ≤ length x.file
   unfolding data_of
@@ -72,15 +120,7 @@ module _ (bytes : List ℕ) where
   -- a section's data is no longer than the file
   short_from : (a n j : ℕ) (s : SectionValue) → slice_get (read_from a n) j ≡ Some s → length s.bytes ≤ length bytes
   unfolding section_of section_with
-  short_from a zero j s e = absurd (let no : ⊥ = cc in no)
-  short_from a (suc n) j s e =
-      elim (is_type_information (section_at a)) as (λ b. slice_get (map section_of (cond (not b) (section_at a ∷ others_from (a + 1) n) (others_from (a + 1) n))) j ≡ Some s → length s.bytes ≤ length bytes) [
-        | true ↦ λ f. short_from (a + 1) n j s f
-        | false ↦ λ f. ⊎_elim
-            (λ same. subst (λ t. length t.bytes ≤ length bytes) same (data_within (section_at a)))
-            (λ k. short_from (a + 1) n k.0 s k.1)
-            (first_or_later (section_of (section_at a)) (read_from (a + 1) n) j s f)
-      ] e
+  short_from a n j s e = let place = place_from a n j s e in subst (λ t. length t.bytes ≤ length bytes) place.1.1 (data_within (section_at place.0))
 
   -- ---- only the section itself has its number
 
@@ -134,7 +174,7 @@ number_at (g ∷ fs) number (suc i) f h e = number_at fs number i f h.1 e
 apart_at : (q : Key) (fs : List Function) (i : ℕ) (f : Function) → AllByRecursion (λ e. eq_by_cmp key_cmp q e.0 ≡ false) (map with_key fs) → slice_get fs i ≡ Some f
     → eq_by_cmp key_cmp (f.section_index.0, f.address) q ≡ false
 apart_at q [] i f h e = absurd (let no : ⊥ = cc in no)
-apart_at q (g ∷ fs) zero f h e = let same : g ≡ f = cc in subst (λ t. eq_by_cmp key_cmp (t.section_index.0, t.address) q ≡ false) same (flipped q (g.section_index.0, g.address) h.0)
+apart_at q (g ∷ fs) zero f h e = let same : g ≡ f = cc in subst (λ t. eq_by_cmp key_cmp (t.section_index.0, t.address) q ≡ false) same ((eq_by_cmp_equiv key_total).symm (g.section_index.0, g.address) q ∙ h.0)
 apart_at q (g ∷ fs) (suc i) f h e = apart_at q fs i f h.1 e
 
 -- where the keys differ, each function is found at its own

@@ -1,29 +1,77 @@
--- The keys of a section's functions.
-use Rattle.std.proofs.Common.{◌≡◌, ℕ, suc, zero, ◌+◌, ◌*◌, ◌/◌, ◌%◌, ◌^◌, ◌<◌, ◌≤◌, Bool, true, false, ◌&&◌, cond, List, [], ◌∷◌, ◌++◌, map, filter, length, Option, Some, None, refl, sym, ap, subst, ◌∙◌, arith, nat_lt, ◌==◌, slice_get, eqb-true, div-add-mod', mul-le-mul_right, suc-mul, ⊎_elim, if◌then◌else◌, nat_cmp}
-use Rattle.std.specs.declared.cmp.Ordering.TheVariants.{Equal}
+-- The keys of a section's functions, and their order by offset.
+use Rattle.std.proofs.Common.{◌≡◌, ℕ, suc, zero, ◌<◌, List, [], ◌∷◌, Some, refl, sym, ap, subst, ◌∙◌, arith, slice_get, ◌+◌, ◌*◌, ◌/◌, ◌%◌, ◌^◌, ◌≤◌, Bool, true, false, cond, ◌++◌, map, filter, length, Option, None, nat_lt, ◌==◌, eqb-true, div-add-mod', mul-le-mul_right, suc-mul, ⊎_elim, if◌then◌else◌}
+use Rattle.std.proofs.lemmas.Bool.{cases_lt, eqb-false, ltb-true, and_parts}
 use Rattle.std.specs.Cmp.{eq_by_cmp_equiv}
 use Rattle.std.specs.List.{AllByRecursion, flat_map, find}
 use Rattle.std.specs.Ordering.{eq_by_cmp}
-use Rattle.std.proofs.lemmas.Bool.{cases_lt, eqb-false, ltb-true}
-use Rattle.std.proofs.lemmas.Map.Lookups.{exact_pairs, exact_unsigned}
+use Rattle.ebpf_base.proofs.Faults.{both_None}
+use Rattle.ebpf_base.proofs.Maps.{key_exact}
+use Rattle.ebpf_base.proofs.Orderings.{is_equal}
 use Rattle.ebpf_base.specs.Faults.{first_some}
 use Rattle.ebpf_base.specs.Keys.{key_cmp, key_total}
-use Rattle.ebpf_base.proofs.Faults.{both_None}
-use Rattle.ebpf_base.proofs.Orderings.{is_equal}
 use Rattle.ebpf_ext.specs.ExtReading.{ExtInfo}
-use Rattle.ebpf_parsing.specs.Programs.{with_key, program_function, is_program_symbol}
-use Rattle.ebpf_parsing.specs.OfSection.{functions_by, functions_in}
-use Rattle.ebpf_parsing.specs.Records.{FuncAndLineInfo, func_and_line_info_of}
-use Rattle.ebpf_parsing.specs.Symbols.{SymbolValue}
-use Rattle.ebpf_parsing.specs.Texts.{is_text_at, is_defined_text, address_at, symbol_at_offset, text_function, text_function_of, function_at, text_fault_at, size_at, symbol_size_of, offsets_from}
-use Rattle.ebpf_parsing.proofs.LastEntries.{KeysDiffer}
-use Rattle.ebpf_parsing.proofs.OffsetOrder.{rise_cons}
-use Rattle.ebpf_parsing.proofs.Tiles.{Stands, stands}
-use Rattle.ebpf_parsing.specs.TiledSections.{OffsetsRise}
+use Rattle.ebpf_model.specs.declared.function.Function.{Function}
 use Rattle.ebpf_parts.specs.Sections.{SectionValue}
 use Rattle.ebpf_parts.specs.declared.section_kind.EbpfSectionKind.{EbpfSectionKind}
 use Rattle.ebpf_parts.specs.declared.section_kind.EbpfSectionKind.TheVariants.{Text, Program as Programs}
-use Rattle.ebpf_model.specs.declared.function.Function.{Function}
+use Rattle.ebpf_parsing.specs.Laws.{OffsetsRise}
+use Rattle.ebpf_parsing.specs.OfSection.{functions_by, functions_in}
+use Rattle.ebpf_parsing.specs.Programs.{with_key, program_function, is_program_symbol}
+use Rattle.ebpf_parsing.specs.Records.{FuncAndLineInfo, func_and_line_info_of}
+use Rattle.ebpf_parsing.specs.Symbols.{SymbolValue}
+use Rattle.ebpf_parsing.specs.Texts.{is_text_at, is_defined_text, address_at, symbol_at_offset, text_function, text_function_of, function_at, text_fault_at, size_at, symbol_size_of, offsets_from}
+use Rattle.ebpf_parsing.proofs.Lasts.{KeysDiffer}
+use Rattle.ebpf_parsing.proofs.Tiles.{Stands, stands}
+
+-- ---- functions in order of their offset: there is one such order
+
+-- the functions of one list are functions of another
+abbrev pub Within : List Function → List Function → Type 0
+Within xs ys = (i : ℕ) (f : Function) → slice_get xs i ≡ Some f → (j : ℕ) × (slice_get ys j ≡ Some f)
+
+-- a function in front of others
+pub rise_cons : (x : Function) (fs : List Function) → ((j : ℕ) (g : Function) → slice_get fs j ≡ Some g → x.section_offset < g.section_offset) → OffsetsRise fs → OffsetsRise (x ∷ fs)
+rise_cons x fs first rest zero zero f g below e h = absurd (let no : ⊥ = omega (arith, below) in no)
+rise_cons x fs first rest (suc i) zero f g below e h = absurd (let no : ⊥ = omega (arith, below) in no)
+rise_cons x fs first rest zero (suc j) f g below e h = let same : x ≡ f = cc in subst (λ t. t.section_offset < g.section_offset) same (first j g h)
+rise_cons x fs first rest (suc i) (suc j) f g below e h = rest i j f g (omega (arith, below)) e h
+
+tail_rise : (x : Function) (xs : List Function) → OffsetsRise (x ∷ xs) → OffsetsRise xs
+tail_rise x xs r i j f g below e h = r (suc i) (suc j) f g (omega (arith, below)) e h
+
+first_same : (x y : Function) (xs ys : List Function) → OffsetsRise (x ∷ xs) → OffsetsRise (y ∷ ys)
+    → (j : ℕ) → slice_get (y ∷ ys) j ≡ Some x → (k : ℕ) → slice_get (x ∷ xs) k ≡ Some y → x ≡ y
+first_same x y xs ys rx ry zero e k h = let same : x ≡ y = cc in same
+first_same x y xs ys rx ry (suc j) e zero h = let same : x ≡ y = cc in same
+first_same x y xs ys rx ry (suc j) e (suc k) h =
+    let a : y.section_offset < x.section_offset = ry 0 (suc j) y x (omega arith) refl e in
+    let b : x.section_offset < y.section_offset = rx 0 (suc k) x y (omega arith) refl h in
+    absurd (let no : ⊥ = omega (arith, a, b) in no)
+
+-- one behind the first is among those behind the first
+tail_place : (x y : Function) (xs ys : List Function) → x ≡ y → OffsetsRise (x ∷ xs) → (i : ℕ) (f : Function) → slice_get xs i ≡ Some f
+    → (j : ℕ) → slice_get (y ∷ ys) j ≡ Some f → (k : ℕ) × (slice_get ys k ≡ Some f)
+tail_place x y xs ys same rx i f e zero h =
+    let here : y ≡ f = cc in
+    let a : x.section_offset < f.section_offset = rx 0 (suc i) x f (omega arith) refl e in
+    let b : x.section_offset ≡ f.section_offset = ap (λ t. t.section_offset) (same ∙ here) in
+    absurd (let no : ⊥ = omega (arith, a, b) in no)
+tail_place x y xs ys same rx i f e (suc j) h = (j, h)
+
+pub one_order : (xs ys : List Function) → OffsetsRise xs → OffsetsRise ys → Within xs ys → Within ys xs → xs ≡ ys
+one_order [] [] rx ry w v = refl
+one_order [] (y ∷ ys) rx ry w v = let found = v 0 y refl in absurd (let e : slice_get [] found.0 ≡ Some y = found.1 in let no : ⊥ = cc in no)
+one_order (x ∷ xs) [] rx ry w v = let found = w 0 x refl in absurd (let e : slice_get [] found.0 ≡ Some x = found.1 in let no : ⊥ = cc in no)
+one_order (x ∷ xs) (y ∷ ys) rx ry w v =
+    let there = w 0 x refl in
+    let here = v 0 y refl in
+    let same : x ≡ y = first_same x y xs ys rx ry there.0 there.1 here.0 here.1 in
+    let rest : xs ≡ ys = one_order xs ys (tail_rise x xs rx) (tail_rise y ys ry)
+    (λ i f e. let found = w (suc i) f e in tail_place x y xs ys same rx i f e found.0 found.1)
+    (λ i f e. let found = v (suc i) f e in tail_place y x ys xs (sym same) ry i f e found.0 found.1) in
+    λ k. same k ∷ rest k
+
+-- ---- the keys of a section's functions
 
 abbrev pub Key : Type 0
 Key = ℕ × ℕ
@@ -31,26 +79,10 @@ Key = ℕ × ℕ
 abbrev pub Entry : Type 0
 Entry = (ℕ × ℕ) × Function
 
-pub key_exact : (x y : Key) → key_cmp x y ≡ Equal → x ≡ y
-key_exact = exact_pairs nat_cmp nat_cmp exact_unsigned exact_unsigned
-
--- keys of two sections differ
-pub keys_apart : (p q : Key) → (p.0 ≡ q.0 → ⊥) → eq_by_cmp key_cmp p q ≡ false
-keys_apart p q differ = elim (eq_by_cmp key_cmp p q) as (λ b. eq_by_cmp key_cmp p q ≡ b → eq_by_cmp key_cmp p q ≡ false) [
-  | true ↦ λ t. absurd (differ (ap (λ k. k.0) (key_exact p q (is_equal _ t))))
-  | false ↦ λ t. t
-] refl
-
--- and so do those of two addresses
-address_apart : (number a b : ℕ) → (a ≡ b → ⊥) → eq_by_cmp key_cmp (number, a) (number, b) ≡ false
-address_apart number a b differ = elim (eq_by_cmp key_cmp (number, a) (number, b)) as (λ t. eq_by_cmp key_cmp (number, a) (number, b) ≡ t → eq_by_cmp key_cmp (number, a) (number, b) ≡ false) [
-  | true ↦ λ t. absurd (differ (ap (λ k. k.1) (key_exact (number, a) (number, b) (is_equal _ t))))
-  | false ↦ λ t. t
-] refl
-
-pub flipped : (p q : Key) → eq_by_cmp key_cmp p q ≡ false → eq_by_cmp key_cmp q p ≡ false
-flipped p q apart = elim (eq_by_cmp key_cmp q p) as (λ b. eq_by_cmp key_cmp q p ≡ b → eq_by_cmp key_cmp q p ≡ false) [
-  | true ↦ λ t. ap (λ k. eq_by_cmp key_cmp k p) (key_exact q p (is_equal _ t)) ∙ (sym (ap (eq_by_cmp key_cmp p) (key_exact q p (is_equal _ t))) ∙ apart)
+-- other keys are not equal
+keys_differ : (p q : Key) → (p ≡ q → ⊥) → eq_by_cmp key_cmp p q ≡ false
+keys_differ p q differ = elim (eq_by_cmp key_cmp p q) as (λ b. eq_by_cmp key_cmp p q ≡ b → eq_by_cmp key_cmp p q ≡ false) [
+  | true ↦ λ t. absurd (differ (key_exact p q (is_equal _ t)))
   | false ↦ λ t. t
 ] refl
 
@@ -58,12 +90,12 @@ flipped p q apart = elim (eq_by_cmp key_cmp q p) as (λ b. eq_by_cmp key_cmp q p
 pub key_of_address : (number a b : ℕ) → eq_by_cmp key_cmp (number, a) (number, b) ≡ (b == a)
 key_of_address number a b = elim (b == a) as (λ t. (b == a) ≡ t → eq_by_cmp key_cmp (number, a) (number, b) ≡ t) [
   | true ↦ λ t. ap (λ x. eq_by_cmp key_cmp (number, a) (number, x)) (eqb-true _ _ t) ∙ (eq_by_cmp_equiv key_total).refl (number, a)
-  | false ↦ λ t. address_apart number a b (λ same. eqb-false _ _ t (sym same))
+  | false ↦ λ t. keys_differ (number, a) (number, b) (λ same. eqb-false _ _ t (sym (ap (λ k. k.1) same)))
 ] refl
 
 pub entries_apart : (q : Key) (number : ℕ) (es : List Entry) → (q.0 ≡ number → ⊥) → AllByRecursion (λ e. e.0.0 ≡ number) es → AllByRecursion (λ e. eq_by_cmp key_cmp q e.0 ≡ false) es
 entries_apart q number [] differ own = tt
-entries_apart q number (e ∷ es) differ own = (keys_apart q e.0 (λ same. differ (same ∙ own.0)), entries_apart q number es differ own.1)
+entries_apart q number (e ∷ es) differ own = (keys_differ q e.0 (λ same. differ (ap (λ k. k.0) same ∙ own.0)), entries_apart q number es differ own.1)
 
 -- ---- the section of each function
 
@@ -102,14 +134,10 @@ find_passes p (x ∷ xs) y e = elim (p x) as (λ b. p x ≡ b → cond b (Some x
   | false ↦ λ t f. find_passes p xs y f
 ] refl e
 
-second_true : (a b : Bool) → (a && b) ≡ true → b ≡ true
-second_true true b e = e
-second_true false b e = cc
-
 module _ (infos : FuncAndLineInfo) (s : SectionValue) (ys : List SymbolValue) where
   symbol_address : (o : ℕ) (y : SymbolValue) → symbol_at_offset s ys o ≡ Some y → y.address ≡ address_at s o
   unfolding symbol_at_offset
-  symbol_address o y e = eqb-true _ _ (second_true (is_defined_text y) (y.address == address_at s o) (find_passes (is_text_at (address_at s o)) ys y e))
+  symbol_address o y e = eqb-true _ _ (and_parts (is_defined_text y) (y.address == address_at s o) (find_passes (is_text_at (address_at s o)) ys y e)).1
 
 -- ---- the offsets in a Text section rise
 
@@ -184,7 +212,7 @@ module _ (infos : FuncAndLineInfo) (s : SectionValue) (ys : List SymbolValue) (s
       → AllByRecursion (λ e. eq_by_cmp key_cmp (s.index.0, address_at s o) e.0 ≡ false) (map with_key (text_function_of infos s p z ++ fs))
   unfolding text_function
   apart_one o p None fs below inside at h = h
-  apart_one o p (Some y) fs below inside at h = (address_apart s.index.0 (address_at s o) y.address (λ same. addresses_differ (2 ^ 64) o p below (under (2 ^ 64) p inside short) (same ∙ at y refl)), h)
+  apart_one o p (Some y) fs below inside at h = (keys_differ (s.index.0, address_at s o) (s.index.0, y.address) (λ same. addresses_differ (2 ^ 64) o p below (under (2 ^ 64) p inside short) (ap (λ k. k.1) same ∙ at y refl)), h)
 
   -- an address is none of those from an offset behind it on
   apart_from : (n o p : ℕ) → o < p → AllByRecursion (λ e. eq_by_cmp key_cmp (s.index.0, address_at s o) e.0 ≡ false) (map with_key (flat_map (function_at infos s ys) (offsets_from n s ys p)))

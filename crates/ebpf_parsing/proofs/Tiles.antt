@@ -1,22 +1,61 @@
--- The functions of a Text section tile it.
-use Rattle.std.proofs.Common.{◌≡◌, ℕ, suc, zero, ◌+◌, ◌-◌, ◌*◌, ◌/◌, ◌%◌, ◌<◌, ◌≤◌, true, false, List, [], ◌∷◌, ◌++◌, map, length, take, drop, Option, Some, None, refl, sym, ap, ◌∙◌, arith, nat_lt, get_or}
-use Rattle.std.specs.Prelude.{if◌then◌else◌, slice_range, slice_index}
+-- The walk over the functions of a Text section, which tile it.
+use Rattle.std.proofs.Common.{◌≡◌, ℕ, suc, zero, ◌+◌, ◌-◌, ◌<◌, ◌≤◌, true, false, List, [], ◌∷◌, ◌++◌, length, None, refl, sym, ap, ◌∙◌, arith, nat_lt, ◌*◌, ◌/◌, ◌%◌, map, take, drop, Option, Some, get_or, append_assoc, append-nil}
+use Rattle.std.proofs.lemmas.Bool.Decides.{nat_tests}
+use Rattle.std.proofs.lemmas.List.{get_or-take, get_or-drop, length-take, length-drop}
 use Rattle.std.specs.Int.{w16, w32, cast_signed}
 use Rattle.std.specs.List.{flat_map, range_with_len}
-use Rattle.byteorder.specs.Endian.{little_from}
-use Rattle.ebpf_base.specs.Numbers.{number_at}
-use Rattle.std.proofs.lemmas.List.{get_or-take, get_or-drop, length-take, length-drop}
-use Rattle.std.proofs.lemmas.Bool.Decides.{nat_tests}
+use Rattle.std.specs.Prelude.{if◌then◌else◌, slice_range, slice_index}
+use Rattle.ebpf_base.proofs.Faults.{both_None}
 use Rattle.ebpf_base.specs.Faults.{or_else, first_some}
-use Rattle.ebpf_parts.specs.declared.insn.bpf_insn.{bpf_insn}
+use Rattle.ebpf_base.specs.Numbers.{number_at}
+use Rattle.byteorder.specs.Endian.{little_from}
 use Rattle.ebpf_model.specs.declared.function.Function.{Function}
 use Rattle.ebpf_parts.specs.Sections.{SectionValue}
 use Rattle.ebpf_parts.specs.Slots.{slot_at, slots_of, code_faults}
+use Rattle.ebpf_parts.specs.declared.error.ParseError.{ParseError}
+use Rattle.ebpf_parts.specs.declared.insn.bpf_insn.{bpf_insn}
+use Rattle.ebpf_parsing.specs.Laws.{FunctionsTile}
+use Rattle.ebpf_parsing.specs.Programs.{with_key}
 use Rattle.ebpf_parsing.specs.Records.{FuncAndLineInfo}
 use Rattle.ebpf_parsing.specs.Symbols.{SymbolValue}
-use Rattle.ebpf_parsing.specs.Texts.{offsets_from, function_at, text_fault_at, size_at, symbol_at_offset, text_function_of, text_fault_of, symbol_size_of, text_function, conflict_fault, text_fault}
-use Rattle.ebpf_parsing.specs.Tiling.{FunctionsTile}
-use Rattle.ebpf_parsing.proofs.Offsets.{none_left}
+use Rattle.ebpf_parsing.specs.Texts.{offsets_from, function_at, text_fault_at, size_at, symbol_at_offset, text_function_of, text_fault_of, symbol_size_of, text_function, conflict_fault, text_fault, text_functions, walk_fault}
+
+-- ---- one step of the walk over the functions of a Text section
+
+-- an offset inside the data is the first, and the walk goes on behind its function
+goes_on : (s : SectionValue) (ys : List SymbolValue) (n offset : ℕ) → offset < length s.bytes → offsets_from (suc n) s ys offset ≡ offset ∷ offsets_from n s ys (offset + size_at s ys offset)
+unfolding offsets_from
+goes_on s ys n offset inside =
+    let test : nat_lt offset (length s.bytes) ≡ true = grind (arith, nat_tests) in
+    ap (λ b. if b then offset ∷ offsets_from n s ys (offset + size_at s ys offset) else []) test
+
+offsets_more : (s : SectionValue) (ys : List SymbolValue) (n k offset : ℕ) → k < n → offset < length s.bytes
+    → offsets_from (n - k) s ys offset ≡ offset ∷ offsets_from (n - (k + 1)) s ys (offset + size_at s ys offset)
+offsets_more s ys n k offset left inside =
+    let e : n - k ≡ suc (n - (k + 1)) = omega arith in
+    ap (λ m. offsets_from m s ys offset) e ∙ goes_on s ys (n - (k + 1)) offset inside
+
+-- at the end there is none
+pub no_offsets : (s : SectionValue) (ys : List SymbolValue) (n offset : ℕ) → length s.bytes ≤ offset → offsets_from n s ys offset ≡ []
+unfolding offsets_from
+no_offsets s ys zero offset past = refl
+no_offsets s ys (suc n) offset past =
+    let test : nat_lt offset (length s.bytes) ≡ false = grind (arith, nat_tests) in
+    ap (λ b. if b then offset ∷ offsets_from n s ys (offset + size_at s ys offset) else []) test
+
+pub fault_more : (s : SectionValue) (ys : List SymbolValue) (n k offset : ℕ) → k < n → offset < length s.bytes
+    → first_some (text_fault_at s ys) (offsets_from (n - k) s ys offset) ≡ or_else (text_fault_at s ys offset) (first_some (text_fault_at s ys) (offsets_from (n - (k + 1)) s ys (offset + size_at s ys offset)))
+fault_more s ys n k offset left inside = ap (first_some (text_fault_at s ys)) (offsets_more s ys n k offset left inside)
+
+pub fault_step : (s : SectionValue) (ys : List SymbolValue) (k m : ℕ) (o e : ℕ)
+    → k < length s.bytes → o < length s.bytes → text_fault_at s ys o ≡ None → e ≡ o + size_at s ys o → m ≡ k + 1
+    → first_some (text_fault_at s ys) (offsets_from (length s.bytes - m) s ys e) ≡ first_some (text_fault_at s ys) (offsets_from (length s.bytes - k) s ys o)
+fault_step s ys k m o e few inside none next more =
+    ap (λ n. first_some (text_fault_at s ys) (offsets_from (length s.bytes - n) s ys e)) more
+    ∙ ap (λ p. first_some (text_fault_at s ys) (offsets_from (length s.bytes - (k + 1)) s ys p)) next
+    ∙ sym (fault_more s ys (length s.bytes) k o few inside ∙ ap (λ x. or_else x (first_some (text_fault_at s ys) (offsets_from (length s.bytes - (k + 1)) s ys (o + size_at s ys o)))) none)
+
+-- ---- the functions of a Text section tile it
 
 -- m slots from the slot w on
 slots_in : List ℕ → ℕ → ℕ → List bpf_insn
@@ -97,25 +136,15 @@ stands s o (Some y) e =
     let long : length (slice_range s.bytes o (o + y.size)) ≡ y.size = simp (length-take, length-drop) (omega (arith, known.1)) in
     record { y = y; found = refl; some = known.0; inside = known.1; whole = ap (λ n. n % 8) (sym long) ∙ whole_known s o y e }
 
-or_none : {E : Type 0} (a b : Option E) → or_else a b ≡ None → (a ≡ None) × (b ≡ None)
-or_none None b e = (refl, e)
-or_none (Some x) b e = absurd (let wrong : ⊥ = cc in wrong)
-
 instructions_of : List Function → List bpf_insn
 instructions_of fs = flat_map (λ f. f.instructions) fs
 
 module _ (infos : FuncAndLineInfo) (s : SectionValue) (ys : List SymbolValue) where
-  here : (n o : ℕ) → o < length s.bytes → offsets_from (suc n) s ys o ≡ o ∷ offsets_from n s ys (o + size_at s ys o)
-  unfolding offsets_from
-  here n o inside =
-      let test : nat_lt o (length s.bytes) ≡ true = grind (arith, nat_tests) in
-      ap (λ b. if b then o ∷ offsets_from n s ys (o + size_at s ys o) else []) test
-
   at_end : (n w : ℕ) → 8 * w ≡ length s.bytes → instructions_of (flat_map (function_at infos s ys) (offsets_from n s ys (8 * w))) ≡ slots_in s.bytes w ((length s.bytes - 8 * w) / 8)
   unfolding instructions_of slots_in
   at_end n w e =
       let none : (length s.bytes - 8 * w) / 8 ≡ 0 = omega arith in
-      ap (λ os. instructions_of (flat_map (function_at infos s ys) os)) (none_left s ys n (8 * w) (omega arith)) ∙ ap (slots_in s.bytes w) (sym none)
+      ap (λ os. instructions_of (flat_map (function_at infos s ys) os)) (no_offsets s ys n (8 * w) (omega arith)) ∙ ap (slots_in s.bytes w) (sym none)
 
   lt_of : (w : ℕ) → nat_lt (8 * w) (length s.bytes) ≡ true → 8 * w < length s.bytes
   lt_of w e = grind (arith, nat_tests)
@@ -131,9 +160,9 @@ module _ (infos : FuncAndLineInfo) (s : SectionValue) (ys : List SymbolValue) wh
   one_more : (n w : ℕ) → ((v : ℕ) → TilesFrom n v) → 8 * w < length s.bytes → TilesFrom (suc n) w
   unfolding instructions_of function_at text_fault_at size_at text_function
   one_more n w again inside below few clear =
-      let step : offsets_from (suc n) s ys (8 * w) ≡ 8 * w ∷ offsets_from n s ys (8 * w + size_at s ys (8 * w)) = here n (8 * w) inside in
+      let step : offsets_from (suc n) s ys (8 * w) ≡ 8 * w ∷ offsets_from n s ys (8 * w + size_at s ys (8 * w)) = goes_on s ys n (8 * w) inside in
       let both : (text_fault_at s ys (8 * w) ≡ None) × (first_some (text_fault_at s ys) (offsets_from n s ys (8 * w + size_at s ys (8 * w))) ≡ None)
-      = or_none _ _ (sym (ap (first_some (text_fault_at s ys)) step) ∙ clear) in
+      = both_None _ _ (sym (ap (first_some (text_fault_at s ys)) step) ∙ clear) in
       let known : Stands s (8 * w) (symbol_at_offset s ys (8 * w)) = stands s (8 * w) (symbol_at_offset s ys (8 * w)) both.0 in
       let m : ℕ = known.y.size / 8 in
       let size : known.y.size ≡ 8 * m = omega (arith, known.whole) in
@@ -164,6 +193,75 @@ module _ (infos : FuncAndLineInfo) (s : SectionValue) (ys : List SymbolValue) wh
 pub functions_tile : FunctionsTile
 unfolding instructions_of slots_of slots_in text_fault
 functions_tile infos s ys e =
-    let clear : first_some (text_fault_at s ys) (offsets_from (length s.bytes) s ys (8 * 0)) ≡ None = (or_none (conflict_fault s.index.0 ys) _ e).1 in
+    let clear : first_some (text_fault_at s ys) (offsets_from (length s.bytes) s ys (8 * 0)) ≡ None = (both_None (conflict_fault s.index.0 ys) _ e).1 in
     let all : length s.bytes - 0 ≡ length s.bytes = omega arith in
     tile infos s ys (length s.bytes) 0 (omega arith) (omega arith) clear ∙ ap (λ n. slots_in s.bytes 0 (n / 8)) all
+
+-- ---- the walk over the functions of a Text section, each of which goes to the end of a list where it is met
+
+-- the functions from an offset on, of which so many were begun before
+abbrev pub from_here : FuncAndLineInfo → SectionValue → List SymbolValue → ℕ → ℕ → List Function
+from_here infos s ys begun o = flat_map (function_at infos s ys) (offsets_from (length s.bytes - begun) s ys o)
+
+abbrev pub fault_from : SectionValue → List SymbolValue → ℕ → ℕ → Option ParseError
+fault_from s ys begun o = first_some (text_fault_at s ys) (offsets_from (length s.bytes - begun) s ys o)
+
+-- a function with its section and address
+abbrev pub Placed : Type 0
+Placed = (ℕ × ℕ) × Function
+
+-- what is kept, then what is left from an offset on, is all that there was from the start
+pub record IsWalked (infos : FuncAndLineInfo) (s : SectionValue) (ys : List SymbolValue) (kept : List Placed) (o : ℕ) : Type 0 where
+  pub begun : ℕ
+  pub few : begun ≤ o
+  pub inside : o ≤ length s.bytes
+  pub all : kept ++ map with_key (from_here infos s ys begun o) ≡ map with_key (text_functions infos s ys)
+  pub fault : fault_from s ys begun o ≡ walk_fault s ys
+
+pub start : (infos : FuncAndLineInfo) (s : SectionValue) (ys : List SymbolValue) → IsWalked infos s ys [] 0
+start infos s ys =
+    let same : length s.bytes - 0 ≡ length s.bytes = omega arith in
+    record {
+      begun = 0;
+      few = omega arith;
+      inside = omega arith;
+      all = ap (λ n. map with_key (flat_map (function_at infos s ys) (offsets_from n s ys 0))) same;
+      fault = ap (λ n. first_some (text_fault_at s ys) (offsets_from n s ys 0)) same;
+    }
+
+pub more : (infos : FuncAndLineInfo) (s : SectionValue) (ys : List SymbolValue) (t u : List Placed) (o e : ℕ) (f : Function)
+    → u ≡ t ++ ((f.section_index.0, f.address), f) ∷ [] → o < length s.bytes → function_at infos s ys o ≡ f ∷ [] → e ≡ o + size_at s ys o → text_fault_at s ys o ≡ None → o < e → e ≤ length s.bytes
+    → IsWalked infos s ys t o → IsWalked infos s ys u e
+more infos s ys t u o e f pushed within here next sound further ends w =
+    let few : w.begun < length s.bytes = omega (arith, w.few, within) in
+    let rest : from_here infos s ys w.begun o ≡ f ∷ from_here infos s ys (w.begun + 1) e
+    = ap (flat_map (function_at infos s ys)) (offsets_more s ys (length s.bytes) w.begun o few within)
+    ∙ ap (λ xs. xs ++ flat_map (function_at infos s ys) (offsets_from (length s.bytes - (w.begun + 1)) s ys (o + size_at s ys o))) here
+    ∙ ap (λ p. f ∷ flat_map (function_at infos s ys) (offsets_from (length s.bytes - (w.begun + 1)) s ys p)) (sym next) in
+    record {
+      begun = w.begun + 1;
+      few = omega (arith, w.few, further);
+      inside = ends;
+      all = ap (λ l. l ++ map with_key (from_here infos s ys (w.begun + 1) e)) pushed
+          ∙ append_assoc t (with_key f ∷ []) (map with_key (from_here infos s ys (w.begun + 1) e))
+          ∙ sym (ap (λ fs. t ++ map with_key fs) rest) ∙ w.all;
+      fault = fault_step s ys w.begun (w.begun + 1) o e few within sound next refl ∙ w.fault;
+    }
+
+-- the fault at an offset comes before those that are left
+pub fault_here : (infos : FuncAndLineInfo) (s : SectionValue) (ys : List SymbolValue) (t : List Placed) (o : ℕ)
+    → o < length s.bytes → IsWalked infos s ys t o → (rest : Option ParseError) × (or_else (text_fault_at s ys o) rest ≡ walk_fault s ys)
+fault_here infos s ys t o within w =
+    let few : w.begun < length s.bytes = omega (arith, w.few, within) in (
+      first_some (text_fault_at s ys) (offsets_from (length s.bytes - (w.begun + 1)) s ys (o + size_at s ys o)),
+      sym (fault_more s ys (length s.bytes) w.begun o few within) ∙ w.fault,
+    )
+
+pub none_left : (infos : FuncAndLineInfo) (s : SectionValue) (ys : List SymbolValue) (t : List Placed) (o : ℕ)
+    → length s.bytes ≤ o → IsWalked infos s ys t o → walk_fault s ys ≡ None
+none_left infos s ys t o past w = sym w.fault ∙ ap (first_some (text_fault_at s ys)) (no_offsets s ys (length s.bytes - w.begun) o past)
+
+pub all_kept : (infos : FuncAndLineInfo) (s : SectionValue) (ys : List SymbolValue) (t : List Placed) (o : ℕ)
+    → length s.bytes ≤ o → IsWalked infos s ys t o → t ≡ map with_key (text_functions infos s ys)
+all_kept infos s ys t o past w =
+    sym (append-nil t) ∙ sym (ap (λ os. t ++ map with_key (flat_map (function_at infos s ys) os)) (no_offsets s ys (length s.bytes - w.begun) o past)) ∙ w.all

@@ -1,50 +1,38 @@
 -- What a file has: its tables, each put together from the sections in order, so that the later of two entries with one
 -- key stands, and its first fault.
-use Rattle.std.specs.Prelude.{ℕ, Bool, not, ◌||◌, List, map, filter, Option, option_map, codes}
 use Rattle.std.specs.FinMap.{FinMap, empty}
 use Rattle.std.specs.List.{flat_map}
 use Rattle.std.specs.Ordering.{nat_cmp}
+use Rattle.std.specs.Prelude.{ℕ, List, Option, option_map}
 use Rattle.ebpf_base.specs.Faults.{or_else, first_in, first_some}
 use Rattle.ebpf_base.specs.Keyed.{put_all}
 use Rattle.ebpf_base.specs.Keys.{text_cmp, key_cmp}
-use Rattle.ebpf_ext.specs.ExtReading.{ExtInfo}
 use Rattle.ebpf_btf.specs.TypeInfo.{TypeInfo}
 use Rattle.ebpf_elf.specs.Faults.{faults}
-use Rattle.ebpf_elf.specs.File.{ei_data}
-use Rattle.ebpf_elf.specs.Names.{is_name}
-use Rattle.ebpf_elf.specs.Sections.{SectionOf, sections, section_name}
-use Rattle.ebpf_elf.specs.declared.entries.ElfRelocation.{ElfRelocation}
-use Rattle.ebpf_elf.specs.declared.entries.SectionIndex.{SectionIndex}
-use Rattle.ebpf_parsing.specs.FileExterns.{types_of_file, externs_of, file_externs_fault}
-use Rattle.ebpf_parsing.specs.FileSymbols.{file_symbols, symbol_table, symbols_fault}
-use Rattle.ebpf_parsing.specs.FileTypes.{ext_of, type_info_names, file_types_fault}
-use Rattle.ebpf_parsing.specs.OfSection.{maps_in, programs_in, functions_in, relocations_in, section_info_entry, fault_in}
-use Rattle.ebpf_parsing.specs.Symbols.{SymbolValue, section_symbols}
-use Rattle.ebpf_parsing.specs.CodeOrder.{order_fault_as}
-use Rattle.ebpf_parsing.specs.LicenseAndVersion.{license_as, license_fault_as, kernel_version_of, version_fault}
-use Rattle.ebpf_parsing.specs.declared.file_contents.FileContents.{FileContents}
-use Rattle.ebpf_parsing.specs.declared.object_tables.ObjectTables.{ObjectTables}
-use Rattle.ebpf_model.specs.Keys.{FunctionKey}
+use Rattle.ebpf_elf.specs.Headers.{ei_data}
+use Rattle.ebpf_elf.specs.Sections.{SectionOf}
+use Rattle.ebpf_elf.specs.declared.relocation.ElfRelocation.{ElfRelocation}
+use Rattle.ebpf_elf.specs.declared.section.SectionIndex.{SectionIndex}
+use Rattle.ebpf_ext.specs.ExtReading.{ExtInfo}
+use Rattle.ebpf_model.specs.Symbols.{FunctionKey}
+use Rattle.ebpf_model.specs.declared.function.Function.{Function}
 use Rattle.ebpf_model.specs.declared.program.Program.{Program}
-use Rattle.ebpf_parsing.specs.declared.metadata.FileMetadata.{FileMetadata}
 use Rattle.ebpf_parts.specs.Sections.{SectionValue, section_of, section_fault}
 use Rattle.ebpf_parts.specs.declared.error.ParseError.{ParseError}
 use Rattle.ebpf_parts.specs.declared.error.ParseError.TheVariants.{ElfError}
 use Rattle.ebpf_parts.specs.declared.maps.either.Map.{Map}
-use Rattle.ebpf_model.specs.declared.function.Function.{Function}
 use Rattle.ebpf_parts.specs.declared.reading.Reading.{Reading}
 use Rattle.ebpf_parts.specs.declared.reading.Reading.TheVariants.{Stated}
+use Rattle.ebpf_parsing.specs.FileTypes.{types_of_file, externs_of, file_externs_fault, ext_of, type_info_names, file_types_fault}
+use Rattle.ebpf_parsing.specs.LicenseAndVersion.{license_as, license_fault_as, kernel_version_of, version_fault}
+use Rattle.ebpf_parsing.specs.OfSection.{maps_in, programs_in, functions_in, relocations_in, fault_in}
+use Rattle.ebpf_parsing.specs.Sections.{section_info_entry, order_fault_as, other_sections, object_sections}
+use Rattle.ebpf_parsing.specs.Symbols.{file_symbols, symbol_table, symbols_fault, SymbolValue, section_symbols}
+use Rattle.ebpf_parsing.specs.declared.file_contents.FileContents.{FileContents}
+use Rattle.ebpf_parsing.specs.declared.file_contents.FileMetadata.{FileMetadata}
+use Rattle.ebpf_parsing.specs.declared.object_tables.ObjectTables.{ObjectTables}
 
 -- ---- the sections of an object: all but those of type information
-
-abbrev pub is_type_information : SectionOf → Bool
-is_type_information s = is_name (codes ".BTF") (section_name s) || is_name (codes ".BTF.ext") (section_name s)
-
-abbrev pub other_sections : List ℕ → List SectionOf
-other_sections bytes = filter (λ s. not (is_type_information s)) (sections bytes)
-
-abbrev pub object_sections : List ℕ → List SectionValue
-object_sections bytes = map section_of (other_sections bytes)
 
 -- the symbols that a section has
 abbrev pub symbols_at : List SymbolValue → SectionValue → List SymbolValue

@@ -1,23 +1,29 @@
--- The type information of a file, and its records on instructions: its sections `.BTF` and `.BTF.ext` (libbpf's names).
-use Rattle.std.specs.Prelude.{ℕ, Bool, false, not, ◌==◌, length, List, [], Option, Some, None, Result, codes, option_map}
+-- The type information of a file, its records on instructions, and its externs: its sections `.BTF` and `.BTF.ext`
+-- (libbpf's names).
 use Rattle.std.specs.FinMap.{FinMap, empty}
+use Rattle.std.specs.Prelude.{ℕ, Bool, false, not, ◌==◌, length, List, [], Option, Some, None, Result, codes, option_map}
 use Rattle.std.specs.Result.{result_ok}
 use Rattle.ebpf_base.specs.Faults.{or_else, fault_of}
 use Rattle.ebpf_base.specs.Keyed.{put_all}
 use Rattle.ebpf_base.specs.Keys.{text_cmp}
-use Rattle.ebpf_ext.specs.ExtReading.{ExtInfo, read_ext}
+use Rattle.ebpf_base.specs.declared.endianness.Endianness.{Endianness}
 use Rattle.ebpf_btf.specs.Reading.{type_info_of}
 use Rattle.ebpf_btf.specs.TypeInfo.{TypeInfo}
-use Rattle.ebpf_base.specs.declared.endianness.Endianness.{Endianness}
 use Rattle.ebpf_btf.specs.declared.error.BtfError.{BtfError as TypeError}
-use Rattle.ebpf_elf.specs.File.{ei_data}
+use Rattle.ebpf_declarations.specs.Externs.{extern_types, externs, extern_declarations_fault}
+use Rattle.ebpf_elf.specs.Headers.{ei_data}
 use Rattle.ebpf_elf.specs.Sections.{SectionOf}
-use Rattle.ebpf_elf.specs.declared.entries.SectionIndex.{SectionIndex}
-use Rattle.ebpf_parsing.specs.OfSection.{section_info_entry}
-use Rattle.ebpf_parsing.specs.LicenseAndVersion.{first_section_named}
+use Rattle.ebpf_elf.specs.declared.section.SectionIndex.{SectionIndex}
+use Rattle.ebpf_ext.specs.ExtReading.{ExtInfo, read_ext}
+use Rattle.ebpf_model.specs.declared.extern_desc.ExternDesc.{ExternDesc}
 use Rattle.ebpf_parts.specs.Sections.{section_of, section_fault}
 use Rattle.ebpf_parts.specs.declared.error.ParseError.{ParseError}
 use Rattle.ebpf_parts.specs.declared.error.ParseError.TheVariants.{BtfError}
+use Rattle.ebpf_parsing.specs.Sections.{section_info_entry, first_section_named}
+use Rattle.ebpf_parsing.specs.Symbols.{file_symbols, SymbolValue, weak_named}
+
+-- ---- the type information of a file, and its records on instructions: its sections `.BTF` and `.BTF.ext` (libbpf's
+-- names)
 
 -- a section's index, by its name
 abbrev pub names_in : Option SectionOf → List (List ℕ × SectionIndex)
@@ -100,3 +106,24 @@ file_types_fault bytes = or_else (btf_fault bytes) (ext_fault bytes)
 abbrev pub has_relocations : Option ExtInfo → Bool
 has_relocations None = false
 has_relocations (Some x) = not (length x.relocations == 0)
+
+-- ---- the externs of a file, and its types with what they add
+
+-- beside types, where symbols say which names are weak
+abbrev pub externs_beside : List SymbolValue → Option TypeInfo → FinMap text_cmp ExternDesc
+externs_beside symbols None = empty
+externs_beside symbols (Some types) = externs types (weak_named symbols)
+
+abbrev pub externs_fault_beside : List SymbolValue → Option TypeInfo → Option ParseError
+externs_fault_beside symbols None = None
+externs_fault_beside symbols (Some types) = option_map BtfError (extern_declarations_fault types (weak_named symbols))
+
+-- of a file: its types, with those that externs add
+unfoldable pub types_of_file : List ℕ → Option TypeInfo
+types_of_file bytes = option_map extern_types (btf_of bytes)
+
+unfoldable pub externs_of : List ℕ → FinMap text_cmp ExternDesc
+externs_of bytes = externs_beside (file_symbols bytes) (btf_of bytes)
+
+unfoldable pub file_externs_fault : List ℕ → Option ParseError
+file_externs_fault bytes = externs_fault_beside (file_symbols bytes) (btf_of bytes)

@@ -1,21 +1,17 @@
 -- The license and the kernel version that a file states, in its sections `license` and `version` (libbpf's names).
+use Rattle.std.specs.List.{before_first, list_any}
 use Rattle.std.specs.Prelude.{ℕ, ◌-◌, Bool, not, ◌||◌, List, [], ◌∷◌, length, take, Option, Some, None, ◌==◌, nat_lt, if◌then◌else◌, codes}
-use Rattle.std.specs.List.{before_first, find, list_any}
 use Rattle.ebpf_base.specs.Faults.{or_else, first_of}
 use Rattle.ebpf_base.specs.Numbers.{number_at}
 use Rattle.ebpf_base.specs.declared.endianness.Endianness.{Endianness}
-use Rattle.ebpf_elf.specs.File.{ei_data}
-use Rattle.ebpf_elf.specs.Names.{is_name}
-use Rattle.ebpf_elf.specs.Sections.{SectionOf, sections, section_name}
+use Rattle.ebpf_elf.specs.Headers.{ei_data}
+use Rattle.ebpf_elf.specs.Sections.{SectionOf}
 use Rattle.ebpf_parts.specs.Sections.{section_of, section_fault}
 use Rattle.ebpf_parts.specs.declared.error.ParseError.{ParseError}
 use Rattle.ebpf_parts.specs.declared.error.ParseError.TheVariants.{InvalidLicense, MissingLicenseNullTerminator, InvalidKernelVersion}
 use Rattle.ebpf_parts.specs.declared.reading.Reading.{Reading}
 use Rattle.ebpf_parts.specs.declared.reading.Reading.TheVariants.{Stated, Broad}
-
--- the first section with a name; names that can't be read are passed over
-abbrev pub first_section_named : List ℕ → List ℕ → Option SectionOf
-first_section_named name bytes = find (λ s. is_name name (section_name s)) (sections bytes)
+use Rattle.ebpf_parsing.specs.Sections.{first_section_named}
 
 -- ---- the license: a text that ends with its only zero byte; in the broad reading what stands before the first zero,
 -- and nothing where the section has no bytes

@@ -1,16 +1,25 @@
--- The tables while the sections of a file are read, one after the other.
-use Rattle.std.specs.Prelude.{ℕ, List}
-use Rattle.std.specs.FinMap.{FinMap, empty}
+-- The tables while the sections of a file are read, one after the other, and the maps of data, of which the last of a name stands.
+use Rattle.std.specs.FinMap.{FinMap, empty, get}
 use Rattle.std.specs.List.{flat_map}
+use Rattle.std.specs.Prelude.{ℕ, List, [], Option, if◌then◌else◌}
 use Rattle.ebpf_base.specs.Keyed.{put_all}
 use Rattle.ebpf_base.specs.Keys.{text_cmp}
-use Rattle.ebpf_elf.specs.declared.entries.SectionIndex.{SectionIndex}
-use Rattle.ebpf_parsing.specs.FileContents.{symbols_at, map_entries, program_entries, function_entries, relocation_entries, name_entries}
-use Rattle.ebpf_parsing.specs.OfSection.{maps_in, programs_in, functions_in, relocations_in, section_info_entry}
-use Rattle.ebpf_parsing.specs.Symbols.{SymbolValue}
-use Rattle.ebpf_parsing.specs.declared.object_tables.ObjectTables.{ObjectTables}
-use Rattle.ebpf_parsing.specs.declared.metadata.FileMetadata.{FileMetadata}
+use Rattle.ebpf_btf.specs.TypeInfo.{TypeInfo}
+use Rattle.ebpf_elf.specs.declared.section.SectionIndex.{SectionIndex}
 use Rattle.ebpf_parts.specs.Sections.{SectionValue}
+use Rattle.ebpf_parts.specs.declared.maps.either.Map.{Map}
+use Rattle.ebpf_parts.specs.declared.reading.Reading.{Reading}
+use Rattle.ebpf_parts.specs.declared.section_kind.EbpfSectionKind.{EbpfSectionKind}
+use Rattle.ebpf_parts.specs.declared.section_kind.EbpfSectionKind.TheVariants.{Maps, BtfMaps, Data, Rodata, Bss}
+use Rattle.ebpf_parsing.specs.FileContents.{symbols_at, map_entries, program_entries, function_entries, relocation_entries, name_entries}
+use Rattle.ebpf_parsing.specs.Maps.{data_maps}
+use Rattle.ebpf_parsing.specs.OfSection.{maps_in, programs_in, functions_in, relocations_in, maps_by}
+use Rattle.ebpf_parsing.specs.Sections.{section_info_entry, is_index}
+use Rattle.ebpf_parsing.specs.Symbols.{SymbolValue}
+use Rattle.ebpf_parsing.specs.declared.file_contents.FileMetadata.{FileMetadata}
+use Rattle.ebpf_parsing.specs.declared.object_tables.ObjectTables.{ObjectTables}
+
+-- ---- the tables while the sections of a file are read, one after the other
 
 -- what one section adds
 unfoldable pub added : FileMetadata → ObjectTables → SectionValue → List SymbolValue → ObjectTables
@@ -45,3 +54,22 @@ object_tables_of metadata infos bytes = record {
   relocations = put_all empty (relocation_entries bytes);
   section_infos = put_all infos (name_entries bytes);
 }
+
+-- ---- sections of data with one name, of which the map of the last one stands
+
+-- the map of a section of data, where it is the last of its name
+abbrev pub last_maps : FinMap text_cmp ℕ → SectionValue → List (List ℕ × Map)
+last_maps last s = if is_index s.index.0 (get last s.name) then data_maps s else []
+
+-- the maps that a section gives, where it is no section of data before the last of its name
+abbrev pub put_by : EbpfSectionKind → FinMap text_cmp ℕ → Reading → Option TypeInfo → SectionValue → List SymbolValue → List (List ℕ × Map)
+put_by Data last reading types s symbols = last_maps last s
+put_by Rodata last reading types s symbols = last_maps last s
+put_by Bss last reading types s symbols = last_maps last s
+put_by Maps last reading types s symbols = maps_by Maps reading types s symbols
+put_by BtfMaps last reading types s symbols = maps_by BtfMaps reading types s symbols
+put_by _ last reading types s symbols = []
+
+-- what a section adds, but for maps that others of its name replace
+abbrev pub added_last : FinMap text_cmp ℕ → FileMetadata → ObjectTables → SectionValue → List SymbolValue → ObjectTables
+added_last last metadata p s symbols = record (added metadata p s symbols) { maps = put_all p.maps (put_by s.kind last metadata.reading metadata.btf s symbols) }

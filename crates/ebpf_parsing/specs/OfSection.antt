@@ -1,32 +1,29 @@
 -- What one section gives to an object.
-use Rattle.std.specs.Prelude.{ℕ, List, [], ◌∷◌, map, length, Option, None, ◌==◌}
 use Rattle.std.specs.FinMap.{FinMap}
 use Rattle.std.specs.Ordering.{nat_cmp}
+use Rattle.std.specs.Prelude.{ℕ, List, [], ◌∷◌, map, length, Option, None, ◌==◌}
 use Rattle.ebpf_base.specs.Faults.{or_else, first_of}
-use Rattle.ebpf_ext.specs.ExtReading.{ExtInfo}
 use Rattle.ebpf_btf.specs.TypeInfo.{TypeInfo}
 use Rattle.ebpf_declarations.specs.TypesInReading.{types_in_reading}
-use Rattle.ebpf_elf.specs.declared.entries.ElfRelocation.{ElfRelocation}
-use Rattle.ebpf_elf.specs.declared.entries.SectionIndex.{SectionIndex}
-use Rattle.ebpf_parsing.specs.BtfDefinedMaps.{btf_defined_maps, btf_defined_maps_fault}
-use Rattle.ebpf_parsing.specs.DataMaps.{data_maps, data_map_fault}
-use Rattle.ebpf_parsing.specs.LegacyMaps.{legacy_maps, legacy_maps_fault}
+use Rattle.ebpf_elf.specs.declared.relocation.ElfRelocation.{ElfRelocation}
+use Rattle.ebpf_ext.specs.ExtReading.{ExtInfo}
+use Rattle.ebpf_model.specs.Symbols.{FunctionKey}
+use Rattle.ebpf_model.specs.declared.function.Function.{Function}
+use Rattle.ebpf_model.specs.declared.program.Program.{Program}
+use Rattle.ebpf_parts.specs.ProgramTypes.{section_as, section_fault_as}
+use Rattle.ebpf_parts.specs.Sections.{SectionValue}
+use Rattle.ebpf_parts.specs.declared.error.ParseError.{ParseError}
+use Rattle.ebpf_parts.specs.declared.error.ParseError.TheVariants.{NoSymbolsForSection}
+use Rattle.ebpf_parts.specs.declared.maps.either.Map.{Map}
+use Rattle.ebpf_parts.specs.declared.reading.Reading.{Reading}
+use Rattle.ebpf_parts.specs.declared.section_kind.EbpfSectionKind.{EbpfSectionKind}
+use Rattle.ebpf_parts.specs.declared.section_kind.EbpfSectionKind.TheVariants.{Maps, BtfMaps, Data, Rodata, Bss, Text, Program as Programs}
+use Rattle.ebpf_parsing.specs.Maps.{btf_defined_maps, btf_defined_maps_fault, data_maps, data_map_fault, legacy_maps, legacy_maps_fault}
 use Rattle.ebpf_parsing.specs.Programs.{with_key, programs_of, program_functions, programs_fault}
 use Rattle.ebpf_parsing.specs.Records.{FuncAndLineInfo, func_and_line_info_of}
 use Rattle.ebpf_parsing.specs.Relocations.{relocation_table_at}
 use Rattle.ebpf_parsing.specs.Symbols.{SymbolValue}
 use Rattle.ebpf_parsing.specs.Texts.{text_functions, text_fault}
-use Rattle.ebpf_model.specs.Keys.{FunctionKey}
-use Rattle.ebpf_model.specs.declared.program.Program.{Program}
-use Rattle.ebpf_parts.specs.Readings.{section_as, section_fault_as}
-use Rattle.ebpf_parts.specs.Sections.{SectionValue}
-use Rattle.ebpf_parts.specs.declared.error.ParseError.{ParseError}
-use Rattle.ebpf_parts.specs.declared.error.ParseError.TheVariants.{NoSymbolsForSection}
-use Rattle.ebpf_parts.specs.declared.maps.either.Map.{Map}
-use Rattle.ebpf_parts.specs.declared.section_kind.EbpfSectionKind.{EbpfSectionKind}
-use Rattle.ebpf_parts.specs.declared.section_kind.EbpfSectionKind.TheVariants.{Maps, BtfMaps, Data, Rodata, Bss, Text, Program as Programs}
-use Rattle.ebpf_model.specs.declared.function.Function.{Function}
-use Rattle.ebpf_parts.specs.declared.reading.Reading.{Reading}
 
 -- the maps, by name
 abbrev pub maps_by : EbpfSectionKind → Reading → Option TypeInfo → SectionValue → List SymbolValue → List (List ℕ × Map)
@@ -65,10 +62,6 @@ relocations_by _ s = []
 
 unfoldable pub relocations_in : SectionValue → List (ℕ × FinMap nat_cmp ElfRelocation)
 relocations_in s = relocations_by s.kind s
-
--- the section's index, by its name
-abbrev pub section_info_entry : SectionValue → List (List ℕ × SectionIndex)
-section_info_entry s = (s.name, s.index) ∷ []
 
 -- the faults of a Program section: its name, no symbol, then the programs by symbol
 unfoldable pub program_section_faults : Reading → SectionValue → List SymbolValue → Option ParseError

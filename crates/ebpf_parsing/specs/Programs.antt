@@ -1,16 +1,23 @@
 -- The programs of a Program section, and their functions.
-use Rattle.std.specs.Prelude.{ℕ, ◌+◌, ◌-◌, Bool, not, ◌&&◌, ◌||◌, List, [], ◌∷◌, length, map, filter, Option, Some, None, ◌==◌, nat_lt, slice_range}
+use Rattle.std.specs.FinMap.{FinMap, empty}
+use Rattle.std.specs.List.{flat_map}
+use Rattle.std.specs.Ordering.{nat_cmp}
+use Rattle.std.specs.Prelude.{ℕ, ◌+◌, ◌-◌, Bool, not, ◌&&◌, ◌||◌, List, [], ◌∷◌, length, map, filter, Option, Some, None, ◌==◌, nat_lt, slice_range, if◌then◌else◌}
 use Rattle.ebpf_base.specs.Faults.{Row, first_in, first_some}
-use Rattle.ebpf_parsing.specs.Records.{FuncAndLineInfo, slot_of, funcs_at, lines_in}
-use Rattle.ebpf_parsing.specs.Symbols.{SymbolValue, is_text_symbol}
-use Rattle.ebpf_model.specs.Keys.{FunctionKey}
+use Rattle.ebpf_base.specs.Keyed.{put_all}
+use Rattle.ebpf_elf.specs.Symbols.{symbols}
+use Rattle.ebpf_model.specs.Symbols.{FunctionKey}
+use Rattle.ebpf_model.specs.declared.function.Function.{Function}
 use Rattle.ebpf_model.specs.declared.program.Program.{Program}
+use Rattle.ebpf_parts.specs.Sections.{SectionValue}
+use Rattle.ebpf_parts.specs.Slots.{slots_of, code_faults}
 use Rattle.ebpf_parts.specs.declared.error.ParseError.{ParseError}
 use Rattle.ebpf_parts.specs.declared.error.ParseError.TheVariants.{InvalidSymbol}
 use Rattle.ebpf_parts.specs.declared.program_section.ProgramSection.{ProgramSection}
-use Rattle.ebpf_parts.specs.Sections.{SectionValue}
-use Rattle.ebpf_parts.specs.Slots.{slots_of, code_faults}
-use Rattle.ebpf_model.specs.declared.function.Function.{Function}
+use Rattle.ebpf_parsing.specs.Records.{FuncAndLineInfo, slot_of, funcs_at, lines_in}
+use Rattle.ebpf_parsing.specs.Symbols.{SymbolValue, is_text_symbol}
+
+-- ---- the programs of a Program section, and their functions
 
 -- a symbol that names a program: Text, and with a name
 abbrev pub is_program_symbol : SymbolValue → Bool
@@ -65,3 +72,11 @@ program_of license version s kind y = (y.name, record { license = license; kerne
 abbrev pub programs_of : List ℕ → Option ℕ → SectionValue → List SymbolValue → Option ProgramSection → List (List ℕ × Program)
 programs_of license version s symbols None = []
 programs_of license version s symbols (Some kind) = map (program_of license version s kind) (filter is_program_symbol symbols)
+
+-- the index of a program's symbol, by its address
+abbrev pub program_symbol_row : SymbolValue → List (ℕ × ℕ)
+program_symbol_row y = if is_program_symbol y then (y.address, y.index) ∷ [] else []
+
+-- the index of the last program's symbol at each address
+abbrev pub last_programs : List SymbolValue → FinMap nat_cmp ℕ
+last_programs symbols = put_all empty (flat_map program_symbol_row symbols)

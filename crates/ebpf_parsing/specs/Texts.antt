@@ -1,14 +1,17 @@
 -- The functions of a Text section, by its symbols.
-use Rattle.std.specs.Prelude.{ℕ, suc, zero, ◌+◌, ◌%◌, ◌^◌, Bool, ◌&&◌, ◌||◌, List, [], ◌∷◌, length, take, slice_get, Option, Some, None, ◌==◌, nat_lt, if◌then◌else◌, slice_range, is_some}
 use Rattle.std.specs.List.{find, flat_map, range_with_len}
+use Rattle.std.specs.Prelude.{ℕ, suc, zero, ◌+◌, ◌%◌, ◌^◌, Bool, ◌&&◌, ◌||◌, List, [], ◌∷◌, length, take, slice_get, Option, Some, None, ◌==◌, nat_lt, if◌then◌else◌, slice_range, is_some}
 use Rattle.ebpf_base.specs.Faults.{or_else, first_in, first_some}
-use Rattle.ebpf_parsing.specs.Records.{FuncAndLineInfo, slot_of, funcs_at, lines_in}
-use Rattle.ebpf_parsing.specs.Symbols.{SymbolValue, is_text_symbol}
+use Rattle.ebpf_elf.specs.Symbols.{symbols}
+use Rattle.ebpf_model.specs.declared.function.Function.{Function}
 use Rattle.ebpf_parts.specs.Sections.{SectionValue}
 use Rattle.ebpf_parts.specs.Slots.{slots_of, code_faults}
 use Rattle.ebpf_parts.specs.declared.error.ParseError.{ParseError}
 use Rattle.ebpf_parts.specs.declared.error.ParseError.TheVariants.{SymbolTableConflict, UnknownSymbol, InvalidSymbol}
-use Rattle.ebpf_model.specs.declared.function.Function.{Function}
+use Rattle.ebpf_parsing.specs.Records.{FuncAndLineInfo, slot_of, funcs_at, lines_in}
+use Rattle.ebpf_parsing.specs.Symbols.{SymbolValue, is_text_symbol}
+
+-- ---- the functions of a Text section, by its symbols
 
 -- a symbol that names a function: Text, and defined
 abbrev pub is_defined_text : SymbolValue → Bool
@@ -110,3 +113,7 @@ walk_fault s symbols = first_some (text_fault_at s symbols) (offsets s symbols)
 
 unfoldable pub text_fault : SectionValue → List SymbolValue → Option ParseError
 text_fault s symbols = or_else (conflict_fault s.index.0 symbols) (walk_fault s symbols)
+
+-- a symbol at an address
+abbrev pub is_at : ℕ → SymbolValue → Bool
+is_at address y = y.address == address

@@ -3,34 +3,38 @@
 ghost use Rattle.std.specs.Prelude.{◌≡◌, ℕ, IfOk, None, OnOk};
 ghost use Rattle.ebpf_base.specs.Faults.{Refuses, or_else};
 ghost use Rattle.ebpf_base.specs.Keys.{lent_bytes};
-ghost use Rattle.ebpf_parsing.specs.FileContents.{contents_as, metadata_as, parse_fault_as, sections_fault};
-ghost use Rattle.ebpf_parsing.specs.FileExterns.{externs_of, file_externs_fault, types_of_file};
-ghost use Rattle.ebpf_parsing.specs.FileSymbols.{file_symbols, symbol_table, symbols_fault};
-ghost use Rattle.ebpf_parsing.specs.ObjectTables.{object_tables_of};
-ghost use Rattle.ebpf_parsing.specs.FileTypes.{file_types_fault, type_info_names};
-ghost use Rattle.ebpf_parsing.specs.Groups.{AreTablesOf, group_at};
-ghost use Rattle.ebpf_parsing.specs.LicenseAndVersion.{kernel_version_of, license_as, license_fault_as, version_fault};
-ghost use Rattle.ebpf_parsing.specs.PrivateContracts.{names_of};
-ghost use Rattle.ebpf_parsing.specs.Symbols.{section_symbols};
-ghost use Rattle.ebpf_parts.specs.declared.reading.Reading.{Reading};
 ghost use Rattle.ebpf_parts.specs.Memory.{is_parse_memory};
+ghost use Rattle.ebpf_parts.specs.declared.reading.Reading.{Reading};
+ghost use Rattle.ebpf_parsing.specs.FileContents.{contents_as, metadata_as, parse_fault_as, sections_fault};
+ghost use Rattle.ebpf_parsing.specs.FileTypes.{externs_of, file_externs_fault, types_of_file, file_types_fault, type_info_names};
+ghost use Rattle.ebpf_parsing.specs.LicenseAndVersion.{kernel_version_of, license_as, license_fault_as, version_fault};
+ghost use Rattle.ebpf_parsing.specs.ObjectTables.{object_tables_of};
+ghost use Rattle.ebpf_parsing.specs.Sections.{AreTablesOf, group_at};
+ghost use Rattle.ebpf_parsing.specs.Symbols.{file_symbols, symbol_table, symbols_fault, names_of, section_symbols};
 
-use crate::code_order::check_order;
-use crate::externs::FileExterns;
-use crate::file_types::FileTypes;
-use crate::groups::Groups;
-use crate::license::read_license;
-use crate::metadata::FileMetadata;
+use crate::file_types::{FileExterns, FileTypes};
+use crate::license::{read_license, read_version};
 use crate::object_tables::{ObjectTables, read_sections};
 use crate::relocations::{RelocationTable, read_relocation_sections};
+use crate::sections::{Groups, check_order};
 use crate::symbols::{FileSymbols, object_symbols, read_symbols};
-use crate::version::read_version;
 use ebpf_base::{ByIndex, ByName, Items};
-use ebpf_btf::Endianness;
+use ebpf_btf::{Btf, Endianness};
 use ebpf_elf::{ElfFile, SectionIndex};
+use ebpf_ext::BtfExt;
 use ebpf_model::{ExternDesc, Symbol};
 use ebpf_parts::{ParseError, Reading};
 use std::alloc::Global;
+
+/// What programs and functions carry of their object.
+#[derive(Drop)]
+pub struct FileMetadata {
+    pub reading: Reading,
+    pub license: Items<u8>,
+    pub kernel_version: Option<u32>,
+    pub btf: Option<Btf>,
+    pub btf_ext: Option<BtfExt>,
+}
 
 /// What an ELF file with eBPF programs holds.
 #[derive(Drop)]
@@ -57,7 +61,7 @@ struct FileHead {
 }
 
 /// The types and the externs of a file whose symbols have names, beside its license and its version.
-#[tactic(auto, unfolding(crate::specs::FileExterns::types_of_file, crate::specs::FileExterns::externs_of, crate::specs::FileExterns::file_externs_fault))]
+#[tactic(auto, unfolding(crate::specs::FileTypes::types_of_file, crate::specs::FileTypes::externs_of, crate::specs::FileTypes::file_externs_fault))]
 fn read_head(
     alloc: Global,
     file: &ElfFile<'_>,

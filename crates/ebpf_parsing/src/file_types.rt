@@ -1,27 +1,28 @@
-//! The type information of a file, and what it says of instructions.
+//! The type information of a file, what it says of instructions, and the externs.
 
-ghost use Rattle.std.specs.Prelude.{◌≡◌, IfOk, OnOk, IfErr, true, Some, option_map};
+ghost use Rattle.std.specs.Prelude.{◌≡◌, IfOk, OnOk, IfErr, true, Some, option_map, None};
 ghost use Rattle.std.specs.Result.{result_ok};
 ghost use Rattle.ebpf_base.specs.Faults.{Refuses, fault_of};
 ghost use Rattle.ebpf_base.specs.Keyed.{put_all};
-ghost use Rattle.ebpf_ext.specs.ExtReading.{read_ext};
 ghost use Rattle.ebpf_btf.specs.Reading.{type_info_of};
-ghost use Rattle.ebpf_elf.specs.File.{ei_data};
-ghost use Rattle.ebpf_parsing.specs.FileContents.{is_type_information};
-ghost use Rattle.ebpf_parsing.specs.FileTypes.{btf_of, btf_fault, ext_of, ext_fault, ext_beside, ext_fault_beside, ext_names_beside, ext_in, ext_fault_in, ext_section, names_in, type_names, type_info_names, file_types_fault};
-ghost use Rattle.ebpf_parsing.specs.Groups.{AreTablesOf};
-ghost use Rattle.ebpf_parsing.specs.OfSection.{section_info_entry};
+ghost use Rattle.ebpf_declarations.specs.Externs.{extern_types};
+ghost use Rattle.ebpf_elf.specs.Headers.{ei_data};
+ghost use Rattle.ebpf_ext.specs.ExtReading.{read_ext};
 ghost use Rattle.ebpf_parts.specs.Memory.{is_parse_memory};
 ghost use Rattle.ebpf_parts.specs.declared.error.ParseError.TheVariants.{BtfError as TypeFault};
+ghost use Rattle.ebpf_parsing.specs.FileTypes.{btf_of, btf_fault, ext_of, ext_fault, ext_beside, ext_fault_beside, ext_names_beside, ext_in, ext_fault_in, ext_section, names_in, type_names, type_info_names, file_types_fault, externs_beside, externs_fault_beside};
+ghost use Rattle.ebpf_parsing.specs.Sections.{AreTablesOf, section_info_entry};
+ghost use Rattle.ebpf_parsing.specs.Symbols.{file_symbols, symbols_fault};
 
-use crate::groups::Groups;
 use crate::relocations::RelocationTable;
-use crate::sections::read_section_of;
+use crate::sections::{Groups, read_section_of};
+use crate::symbols::weak_by_name;
 use ebpf_base::ByName;
 use ebpf_btf::{Btf, Endianness};
-use ebpf_declarations::parse_error;
-use ebpf_elf::{ElfFile, ElfSection, SectionIndex};
+use ebpf_declarations::{collect_externs, may_declare_externs, parse_error};
+use ebpf_elf::{ElfFile, SectionIndex};
 use ebpf_ext::BtfExt;
+use ebpf_model::ExternDesc;
 use ebpf_parts::{ParseError, Section};
 use std::alloc::Global;
 
@@ -49,13 +50,6 @@ fn ext_in(alloc: Global, order: Endianness, bytes: &[u8], types: &Btf) -> Result
     }
 }
 
-/// Whether a section holds type information, which is read by name and not with the others.
-pub fn is_type_information(section: &ElfSection<'_>) -> bool
-    ensures { result ≡ is_type_information section.now }
-{
-    section.has_name(".BTF") || section.has_name(".BTF.ext")
-}
-
 /// Remembers the index of a section by its name.
 pub fn remember(
     alloc: Global,
@@ -70,7 +64,7 @@ pub fn remember(
 }
 
 /// The types of a file, where it has a section `.BTF`, whose name is remembered.
-#[tactic(auto, using(crate::proofs::FromFile::found_from), unfolding(ebpf_parts::specs::Sections::section_of, ebpf_parts::specs::Sections::section_with, crate::specs::FileTypes::btf_of, crate::specs::FileTypes::btf_fault, crate::specs::FileTypes::type_names))]
+#[tactic(auto, using(crate::proofs::RelocationTables::found_from), unfolding(ebpf_parts::specs::Sections::section_of, ebpf_parts::specs::Sections::section_with, crate::specs::FileTypes::btf_of, crate::specs::FileTypes::btf_fault, crate::specs::FileTypes::type_names))]
 fn read_types(
     alloc: Global,
     file: &ElfFile<'_>,
@@ -92,7 +86,7 @@ fn read_types(
 }
 
 /// What a file says of instructions, where it has a section `.BTF.ext`, whose name is remembered.
-#[tactic(auto, using(crate::proofs::FromFile::found_from), unfolding(ebpf_parts::specs::Sections::section_of, ebpf_parts::specs::Sections::section_with))]
+#[tactic(auto, using(crate::proofs::RelocationTables::found_from), unfolding(ebpf_parts::specs::Sections::section_of, ebpf_parts::specs::Sections::section_with))]
 fn read_ext_section(
     alloc: Global,
     file: &ElfFile<'_>,
@@ -163,5 +157,48 @@ impl FileTypes {
             btf_ext,
             section_infos,
         })
+    }
+}
+
+/// Types with those that externs add, and the externs by name.
+#[derive(Drop)]
+pub struct FileExterns {
+    pub btf: Option<Btf>,
+    pub externs: ByName<ExternDesc>,
+}
+
+impl FileExterns {
+    /// The externs of a file, whose symbols have names, beside its types.
+    #[tactic(auto, using(crate::proofs::TypeErrors::infos), unfolding(ebpf_declarations::specs::Externs::types_with, ebpf_declarations::specs::Externs::types_fault))]
+    pub fn read(
+        alloc: Global,
+        file: &ElfFile<'_>,
+        types: Option<Btf>,
+    ) -> Result<FileExterns, ParseError>
+        requires names { symbols_fault file.now ≡ None }
+        ensures types { IfOk result (λ found. found.btf ≡ option_map extern_types types) }
+        ensures externs { IfOk result (λ found. found.externs ≡ externs_beside (file_symbols file.now) types) }
+        ensures fault { Refuses is_parse_memory result (externs_fault_beside (file_symbols file.now) types) }
+    {
+        let Some(mut btf) = types else {
+            return Ok(FileExterns {
+                btf: None,
+                externs: ByName::new(alloc),
+            });
+        };
+        if !may_declare_externs(&btf) {
+            return Ok(FileExterns {
+                btf: Some(btf),
+                externs: ByName::new(alloc),
+            });
+        }
+        let weak = weak_by_name(alloc, file)?;
+        match collect_externs(alloc, &mut btf, &weak) {
+            Ok(externs) => Ok(FileExterns {
+                btf: Some(btf),
+                externs,
+            }),
+            Err(error) => Err(parse_error(error)),
+        }
     }
 }

@@ -3,17 +3,14 @@
 ghost use Rattle.std.specs.Ordering.{nat_cmp};
 ghost use Rattle.ebpf_base.specs.Keyed.{LaterStands};
 ghost use Rattle.ebpf_base.specs.Keys.{text_cmp, key_cmp};
-ghost use Rattle.ebpf_elf.specs.declared.entries.ElfRelocation.{ElfRelocation};
-ghost use Rattle.ebpf_elf.specs.declared.entries.SectionIndex.{SectionIndex};
-ghost use Rattle.ebpf_parsing.specs.Readings.{BroadRefusesNoName, ReadingsAgree, StatedKindsAreNamed, StatedTakesBothOrders};
-ghost use Rattle.ebpf_parsing.specs.TableKeys.{FunctionsAtTheirKeys, SymbolsAtTheirIndices, RelocationsAtTheirOffsets, TablesOfCode, RelocationsNameSymbols, ProgramsHaveFunctions, MapsHaveTheirSymbols, OtherMapsAreOfData, ExternsAreUnresolved};
-ghost use Rattle.ebpf_parsing.specs.TiledSections.{AtEachAddress, InOrder, SectionsTile};
-ghost use Rattle.ebpf_parsing.specs.Tiling.{FunctionsTile};
-ghost use Rattle.ebpf_model.specs.declared.program.Program.{Program};
-ghost use Rattle.ebpf_parts.specs.declared.maps.either.Map.{Map};
+ghost use Rattle.ebpf_elf.specs.declared.relocation.ElfRelocation.{ElfRelocation};
+ghost use Rattle.ebpf_elf.specs.declared.section.SectionIndex.{SectionIndex};
 ghost use Rattle.ebpf_model.specs.declared.extern_desc.ExternDesc.{ExternDesc};
 ghost use Rattle.ebpf_model.specs.declared.function.Function.{Function};
+ghost use Rattle.ebpf_model.specs.declared.program.Program.{Program};
 ghost use Rattle.ebpf_model.specs.declared.symbol.Symbol.{Symbol};
+ghost use Rattle.ebpf_parts.specs.declared.maps.either.Map.{Map};
+ghost use Rattle.ebpf_parsing.specs.Laws.{BroadRefusesNoName, ReadingsAgree, StatedKindsAreNamed, StatedTakesBothOrders, FunctionsAtTheirKeys, SymbolsAtTheirIndices, RelocationsAtTheirOffsets, TablesOfCode, RelocationsNameSymbols, ProgramsHaveFunctions, MapsHaveTheirSymbols, OtherMapsAreOfData, ExternsAreUnresolved, AtEachAddress, InOrder, SectionsTile, FunctionsTile};
 
 /// In each table of an object the last of the entries with one key stands.
 pub fn later_entries_stand()

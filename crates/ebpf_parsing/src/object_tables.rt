@@ -1,49 +1,66 @@
 //! What the sections of a file give to an object.
 
-ghost use Rattle.std.specs.Prelude.{◌≡◌, ◌==◌, ◌∷◌, [], ℕ, filter, map, length, IfOk, OnOk, IfErr, Some, None, true};
 ghost use Rattle.std.specs.FinMap as finite;
 ghost use Rattle.std.specs.List.{flat_map};
+ghost use Rattle.std.specs.Prelude.{◌≡◌, ◌==◌, ◌∷◌, [], ℕ, filter, map, IfOk, OnOk, IfErr, Some, None, true};
 ghost use Rattle.ebpf_base.specs.Faults.{Refuses, or_else};
 ghost use Rattle.ebpf_base.specs.Keyed.{put_all};
+ghost use Rattle.ebpf_declarations.specs.TypesInReading.{types_in_reading};
 ghost use Rattle.ebpf_elf.specs.Relocations.{relocation_sections, relocated_section, relocations, table_entries};
-ghost use Rattle.ebpf_parsing.specs.DataMaps.{data_maps, data_map_fault};
-ghost use Rattle.ebpf_parsing.specs.FileSymbols.{file_symbols};
-ghost use Rattle.ebpf_parsing.specs.Groups.{group_at, AreTablesOf};
-ghost use Rattle.ebpf_parsing.specs.LastData.{added_last, last_data, last_maps};
-ghost use Rattle.ebpf_parsing.specs.LegacyMaps.{legacy_maps, legacy_maps_fault};
-ghost use Rattle.ebpf_parsing.specs.FileContents.{object_sections, read_fault, sections_fault};
+ghost use Rattle.ebpf_parts.specs.Memory.{is_parse_memory};
+ghost use Rattle.ebpf_parts.specs.ProgramTypes.{section_as};
+ghost use Rattle.ebpf_parts.specs.Sections.{section_of, section_fault};
+ghost use Rattle.ebpf_parsing.specs.FileContents.{sections_fault};
+ghost use Rattle.ebpf_parsing.specs.Maps.{legacy_maps};
+ghost use Rattle.ebpf_parsing.specs.ObjectTables.{added_last, added, object_tables_of, object_tables_from};
 ghost use Rattle.ebpf_parsing.specs.OfSection.{fault_in, program_section_faults, relocations_in};
-ghost use Rattle.ebpf_parsing.specs.ObjectTables.{added, object_tables_of, object_tables_from};
 ghost use Rattle.ebpf_parsing.specs.Programs.{programs_of, with_key, program_functions, programs_fault};
 ghost use Rattle.ebpf_parsing.specs.Records.{func_and_line_info_of};
-ghost use Rattle.ebpf_parsing.specs.PrivateContracts.{AreOfOneFile, with_relocations};
-ghost use Rattle.ebpf_parsing.specs.Relocations.{relocation_table_at};
-ghost use Rattle.ebpf_parsing.specs.Symbols.{section_symbols};
+ghost use Rattle.ebpf_parsing.specs.Relocations.{AreOfOneFile, relocation_table_at};
+ghost use Rattle.ebpf_parsing.specs.Sections.{group_at, AreTablesOf, last_data, object_sections, with_relocations};
+ghost use Rattle.ebpf_parsing.specs.Symbols.{file_symbols, section_symbols};
 ghost use Rattle.ebpf_parsing.specs.Texts.{text_functions, text_fault};
-ghost use Rattle.ebpf_parts.specs.Memory.{is_parse_memory};
-ghost use Rattle.ebpf_parts.specs.Readings.{section_as};
-ghost use Rattle.ebpf_parts.specs.Sections.{section_of, section_fault};
 
-use crate::btf_defined_maps::{find_btf_defined_maps, put_btf_defined_maps};
-use crate::data_maps::put_data_map;
-use crate::file_types::{is_type_information, remember};
-use crate::groups::Groups;
-use crate::last_data::last_data_sections;
-use crate::legacy_maps::put_legacy_maps;
-use crate::metadata::FileMetadata;
-use crate::program_functions::{put_functions, put_programs};
-use crate::records_by_name::{RecordsByName, SectionInputs};
+use crate::file_contents::FileMetadata;
+use crate::file_types::remember;
+use crate::maps::{find_btf_defined_maps, put_btf_defined_maps, put_data_map, put_legacy_maps};
+use crate::programs::{put_functions, put_programs};
 use crate::relocations::{RelocationTable, by_offset};
-use crate::section_names::{NamedSection, named_sections, names_of_kinds};
-use crate::sections::read_section;
+use crate::section_records::{RecordsByName, SectionRecords};
+use crate::sections::{Groups, SectionNames, is_type_information, read_section};
 use crate::symbols::NamedSymbol;
 use crate::text::put_text_functions;
 use ebpf_base::{ByKey, ByName, ByOffset, BySection, Text};
+use ebpf_declarations::BtfDefinedMaps;
 use ebpf_elf::{ElfFile, ElfSection, SectionIndex};
+use ebpf_ext::BtfExt;
 use ebpf_model::{Function, Program};
 use ebpf_parts::maps::Map;
 use ebpf_parts::{EbpfSectionKind, ParseError, ProgramSection, Relocation, Section};
 use std::alloc::Global;
+use std::marker::Model;
+
+/// What the sections of a file are read with: what they share, the func info and line info of each, and the BTF-defined maps.
+#[derive(Drop)]
+pub struct SectionInputs<'s> {
+    pub metadata: &'s FileMetadata,
+    pub records: RecordsByName<'s>,
+    pub declared: Option<BtfDefinedMaps<'s>>,
+    ghost infos: { records ≡ metadata.now.btf_ext },
+    ghost declared_are: { declared ≡ types_in_reading metadata.now.reading metadata.now.btf },
+}
+
+impl<'s> Model for SectionInputs<'s> {
+    ghost use Rattle.ebpf_parsing.specs.contracts.file_contents.FileMetadata as metadata_rows;
+    ghost use Rattle.ebpf_parsing.specs.declared.file_contents.FileMetadata.{FileMetadata};
+    ghost use Rattle.std.specs.Coded.{codes};
+
+    ghost Value = { FileMetadata };
+
+    ghost coded = { Prim.hlevel (codes, metadata_rows.the_row.coded) };
+
+    ghost view = { λ c. c.metadata.now };
+}
 
 /// What the sections of a file give to an object.
 #[derive(Drop)]
@@ -56,7 +73,7 @@ pub struct ObjectTables {
 }
 
 /// Puts the relocations of a section that has some.
-#[tactic(auto, using(crate::proofs::KeptRelocations::none_kept, crate::proofs::KeptRelocations::some_kept))]
+#[tactic(auto, using(crate::proofs::RelocationTables::none_kept, crate::proofs::RelocationTables::some_kept))]
 fn put_table(
     alloc: Global,
     relocations: &mut BySection<ByOffset<Relocation>>,
@@ -203,7 +220,7 @@ impl ObjectTables {
     }
 
     /// Adds a section of a file.
-    #[tactic(auto, using(crate::proofs::Bare::same_added, crate::proofs::Bare::same_fault, crate::proofs::Bare::section_patched, crate::proofs::FromFile::of_one_file))]
+    #[tactic(auto, using(crate::proofs::Added::same_added, crate::proofs::Added::same_fault, crate::proofs::Added::section_patched, crate::proofs::RelocationTables::of_one_file))]
     fn add_section(
         &mut self,
         alloc: Global,
@@ -228,25 +245,14 @@ impl ObjectTables {
 fn section_inputs<'s>(
     alloc: Global,
     metadata: &'s FileMetadata,
-    sections: &[NamedSection<'_>],
+    names: &SectionNames<'_>,
     symbols: &Groups<NamedSymbol<'_>>,
 ) -> Result<SectionInputs<'s>, ParseError>
     ensures inputs { IfOk result (λ inputs. inputs ≡ metadata.now) }
     ensures memory { IfErr result (λ e. is_parse_memory e ≡ true) }
 {
-    let code = names_of_kinds(
-        alloc,
-        sections,
-        &[EbpfSectionKind::Program, EbpfSectionKind::Text],
-    )?;
-    let records = RecordsByName::gather(alloc, &metadata.btf_ext, code.as_slice())?;
-    let declared = find_btf_defined_maps(
-        alloc,
-        &metadata.btf,
-        metadata.reading,
-        sections,
-        symbols,
-    )?;
+    let records = RecordsByName::gather(alloc, &metadata.btf_ext, names.code.as_slice())?;
+    let declared = find_btf_defined_maps(alloc, &metadata.btf, metadata.reading, names, symbols)?;
     Ok(SectionInputs {
         metadata,
         records,
@@ -290,7 +296,6 @@ fn read_by_last(
 }
 
 /// What the sections of a file give, each with its relocations and its symbols.
-#[tactic(auto, using(crate::proofs::SectionNames::last_of_named))]
 pub fn read_sections(
     alloc: Global,
     metadata: &FileMetadata,
@@ -304,8 +309,15 @@ pub fn read_sections(
     ensures object_tables { IfOk result (λ p. p ≡ object_tables_of metadata.now section_infos file.now) }
     ensures fault { Refuses is_parse_memory result (sections_fault metadata.now.reading metadata.now.btf file.now) }
 {
-    let named = named_sections(alloc, file)?;
-    let last = last_data_sections(alloc, named.as_slice())?;
-    let inputs = section_inputs(alloc, metadata, named.as_slice(), symbols)?;
-    read_by_last(alloc, &inputs, section_infos, file, tables, symbols, &last)
+    let names = SectionNames::read(alloc, file)?;
+    let inputs = section_inputs(alloc, metadata, &names, symbols)?;
+    read_by_last(
+        alloc,
+        &inputs,
+        section_infos,
+        file,
+        tables,
+        symbols,
+        &names.last_data,
+    )
 }

@@ -1,25 +1,79 @@
 //! The relocations of a file's sections.
 
-ghost use Rattle.std.specs.Prelude.{◌≡◌, ◌++◌, map, IfOk, IfErr, OnOk, true};
 ghost use Rattle.std.specs.FinMap.{empty};
+ghost use Rattle.std.specs.FinMap as map;
 ghost use Rattle.std.specs.List.{flat_map};
+ghost use Rattle.std.specs.Option.{option_copied};
+ghost use Rattle.std.specs.Prelude.{◌≡◌, OnOk, OnErr, ◌++◌, map, IfOk, IfErr, true};
 ghost use Rattle.ebpf_base.specs.Faults.{Refuses};
 ghost use Rattle.ebpf_base.specs.Keyed.{put_all};
 ghost use Rattle.ebpf_elf.specs.Relocations.{table_entries};
-ghost use Rattle.ebpf_parsing.specs.PrivateContracts.{EntryRangesAreCached, AreOfOneFile, lacks_symbol, last_tables};
-ghost use Rattle.ebpf_parsing.specs.Groups.{AreTablesOf};
-ghost use Rattle.ebpf_parsing.specs.Relocations.{relocations_by_offset, offset_of};
 ghost use Rattle.ebpf_parts.specs.Memory.{is_parse_memory};
 ghost use Rattle.ebpf_parts.specs.Sections.{target_fault};
+ghost use Rattle.ebpf_parsing.specs.Relocations.{entry_range_of, EntryRangesAreCached, AreOfOneFile, lacks_symbol, last_tables, relocations_by_offset, offset_of};
+ghost use Rattle.ebpf_parsing.specs.Sections.{AreTablesOf};
 
-use crate::by_entry_range::ByEntryRange;
-use crate::groups::Groups;
-use crate::last_data::is_index;
+use crate::sections::{Groups, is_index};
 use ebpf_base::ByOffset;
 use ebpf_elf::{ElfFile, ElfRelocationSection};
 use ebpf_parts::{ParseError, Relocation};
 use std::alloc::{AllocError, Global};
+use std::collections::BTreeMap;
 use std::marker::Model;
+
+/// Values by the place of the first entry, the size of an entry and the number of entries.
+#[derive(Drop)]
+pub struct ByEntryRange<V> {
+    entries: BTreeMap<((usize, usize), usize), V>,
+}
+
+impl<V> Model for ByEntryRange<V> {
+    ghost use Rattle.std.specs.FinMap as map;
+    ghost use Rattle.ebpf_parsing.specs.Relocations.{entry_range_cmp, coded_entry_range};
+
+    ghost Value = { map.FinMap entry_range_cmp V };
+
+    ghost coded = { map.code coded_entry_range V.code };
+
+    ghost view = { λ a. map.from_entries a.entries.entries };
+}
+
+/// Where the entries of a section of relocations stand.
+fn entry_range_of(table: &ElfRelocationSection<'_>) -> ((usize, usize), usize)
+    ensures { result ≡ entry_range_of table.now }
+{
+    let places = table.extent();
+    ((places.offset, places.entry_size), places.count)
+}
+
+impl<V> ByEntryRange<V> {
+    /// The empty map, without memory.
+    pub fn new(alloc: Global) -> Self
+        ensures { result ≡ map.empty }
+    {
+        ByEntryRange {
+            entries: BTreeMap::new(alloc),
+        }
+    }
+
+    /// The value where the entries of a section stand.
+    pub fn get(&self, table: &ElfRelocationSection<'_>) -> Option<&V>
+        ensures { option_copied result ≡ map.get self.now (entry_range_of table.now) }
+    {
+        self.entries.get(&entry_range_of(table))
+    }
+}
+
+impl<V: Drop> ByEntryRange<V> {
+    /// Puts a value where the entries of a section stand. Where no memory is found the map stays.
+    pub fn insert(&mut self, table: &ElfRelocationSection<'_>, value: V) -> Result<(), AllocError>
+        ensures ok { OnOk result (self.new ≡ map.insert self.old (entry_range_of table.now) value) }
+        ensures err { OnErr result (self.new ≡ self.old) }
+    {
+        self.entries.insert(entry_range_of(table), value)?;
+        Ok(())
+    }
+}
 
 /// A section of relocations, and whether one of its entries names no symbol. Contracts see the section.
 #[derive(Drop)]
@@ -59,7 +113,7 @@ fn lacks_symbol(section: &ElfRelocationSection<'_>) -> bool
 }
 
 /// A section of relocations, whose entries are read where none at their places were read before.
-#[tactic(auto, using(crate::proofs::TableRanges::cached_is, crate::proofs::TableRanges::cached_more))]
+#[tactic(auto, using(crate::proofs::RelocationTables::cached_is, crate::proofs::RelocationTables::cached_more))]
 fn read_table<'a>(
     cached: &mut ByEntryRange<bool>,
     section: ElfRelocationSection<'a>,
@@ -97,7 +151,7 @@ pub fn read_relocation_sections<'a>(
 }
 
 /// Refuses relocations of which one names no symbol.
-#[tactic(auto, using(crate::proofs::TableRanges::targets_more, crate::proofs::TableRanges::targets_none))]
+#[tactic(auto, using(crate::proofs::RelocationTables::targets_more, crate::proofs::RelocationTables::targets_none))]
 pub fn check_targets(tables: &[RelocationTable<'_>]) -> Result<(), ParseError>
     ensures { Refuses is_parse_memory result (target_fault (flat_map table_entries tables.now)) }
 {
@@ -110,7 +164,7 @@ pub fn check_targets(tables: &[RelocationTable<'_>]) -> Result<(), ParseError>
 }
 
 /// The index of the last section of relocations whose entries stand at the same offsets.
-#[tactic(auto, using(crate::proofs::TableRanges::row_more, ebpf_base::proofs::Walks::rest_none))]
+#[tactic(auto, using(crate::proofs::RelocationTables::row_more, ebpf_base::proofs::Walks::rest_none))]
 fn last_tables(
     alloc: Global,
     tables: &[RelocationTable<'_>],

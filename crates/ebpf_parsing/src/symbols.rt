@@ -1,18 +1,17 @@
-//! The symbols of a file.
+//! The symbols of a file, and symbols by their names.
 
-ghost use Rattle.std.specs.Prelude.{◌≡◌, ◌∷◌, ◌++◌, [], ℕ, true, IfOk, OnOk, IfErr, Some, None, unwrap_or};
+ghost use Rattle.std.specs.FinMap.{contains_key, get, insert};
 ghost use Rattle.std.specs.FinMap as map;
+ghost use Rattle.std.specs.Prelude.{◌≡◌, ◌∷◌, ◌++◌, [], ℕ, true, IfOk, OnOk, IfErr, Some, None, unwrap_or, if◌then◌else◌};
 ghost use Rattle.ebpf_base.specs.Faults.{Refuses, fault_of};
 ghost use Rattle.ebpf_base.specs.Keys.{lent_bytes};
 ghost use Rattle.ebpf_elf.specs.Symbols.{symbol_name};
-ghost use Rattle.ebpf_parsing.specs.FileSymbols.{symbol_of, symbol_fault, symbols_fault, file_symbols, symbol_table, symbol_entry};
-ghost use Rattle.ebpf_parsing.specs.PrivateContracts.{names_of};
-ghost use Rattle.ebpf_parsing.specs.Groups.{group_at};
-ghost use Rattle.ebpf_parsing.specs.Symbols.{SymbolValue, section_symbols};
 ghost use Rattle.ebpf_parts.specs.Memory.{is_parse_memory};
+ghost use Rattle.ebpf_parsing.specs.Sections.{group_at};
+ghost use Rattle.ebpf_parsing.specs.Symbols.{symbol_of, symbol_fault, symbols_fault, file_symbols, symbol_table, symbol_entry, names_of, SymbolValue, section_symbols, symbol_indices_by_name, weak_named};
 
-use crate::groups::Groups;
-use ebpf_base::{ByIndex, Text};
+use crate::sections::Groups;
+use ebpf_base::{ByIndex, ByName, Text};
 use ebpf_btf::BtfError;
 use ebpf_elf::constants::SHT_SYMTAB;
 use ebpf_elf::{ElfFile, ElfSymbol, SymbolKind};
@@ -44,20 +43,9 @@ impl<'a> Model for NamedSymbol<'a> {
     ghost view = { λ y. record { index = y.index; section_index = y.section_index; name = y.name.now; address = y.address; size = y.size; kind = y.kind; is_definition = y.is_definition; is_weak = y.is_weak } };
 }
 
-/// The name of a symbol.
-fn symbol_name_of<'a>(symbol: &ElfSymbol<'a>) -> Result<&'a str, ParseError>
-    ensures name { IfOk result (λ name. symbol_name symbol.now ≡ Some name.now) }
-    ensures fault { fault_of result ≡ symbol_fault symbol.now }
-{
-    match symbol.name() {
-        Ok(name) => Ok(name),
-        Err(_) => Err(ParseError::BtfError(BtfError::InvalidSymbolName)),
-    }
-}
-
 impl<'a> NamedSymbol<'a> {
     /// A symbol of a file whose name is known.
-    #[tactic(auto, unfolding(crate::specs::FileSymbols::symbol_of))]
+    #[tactic(auto, unfolding(crate::specs::Symbols::symbol_of))]
     fn named(symbol: &ElfSymbol<'_>, name: &'a str) -> NamedSymbol<'a>
         ensures { name.now ≡ unwrap_or (symbol_name symbol.now) [] → result ≡ symbol_of symbol.now }
     {
@@ -78,8 +66,10 @@ impl<'a> NamedSymbol<'a> {
         ensures symbol { IfOk result (λ y. y ≡ symbol_of symbol.now) }
         ensures fault { fault_of result ≡ symbol_fault symbol.now }
     {
-        let name = symbol_name_of(symbol)?;
-        Ok(NamedSymbol::named(symbol, name))
+        match symbol.name() {
+            Ok(name) => Ok(NamedSymbol::named(symbol, name)),
+            Err(_) => Err(ParseError::BtfError(BtfError::InvalidSymbolName)),
+        }
     }
 
     /// What an object keeps of it.
@@ -134,7 +124,7 @@ fn count_of(file: &ElfFile<'_>) -> usize {
 }
 
 /// The symbols of a file.
-#[tactic(auto, using(crate::proofs::Grouped::group_more, crate::proofs::Grouped::group_all, crate::proofs::Grouped::names_more, crate::proofs::Grouped::names_all))]
+#[tactic(auto, using(crate::proofs::NamedSymbols::group_more, crate::proofs::NamedSymbols::group_all, crate::proofs::NamedSymbols::names_more, crate::proofs::NamedSymbols::names_all))]
 pub fn read_symbols<'a>(alloc: Global, file: &ElfFile<'a>) -> Result<FileSymbols<'a>, ParseError>
     ensures names { IfOk result (λ s. lent_bytes s.names.items ≡ names_of (file_symbols file.now)) }
     ensures groups { IfOk result (λ s. (q : ℕ) → group_at s.groups.groups q ≡ section_symbols (file_symbols file.now) q) }
@@ -152,7 +142,7 @@ pub fn read_symbols<'a>(alloc: Global, file: &ElfFile<'a>) -> Result<FileSymbols
 }
 
 /// The symbols of a file as an object keeps them. Their names are given, so that they are read once.
-#[tactic(auto, unfolding(crate::specs::FileSymbols::symbol_of))]
+#[tactic(auto, unfolding(crate::specs::Symbols::symbol_of))]
 pub fn object_symbols(
     alloc: Global,
     file: &ElfFile<'_>,
@@ -168,4 +158,45 @@ pub fn object_symbols(
         table.insert(symbol.index, symbol.owned(alloc)?)?;
     }
     Ok(table)
+}
+
+/// The indices of symbols by name; of equal names the last.
+pub fn symbol_indices_by_name(
+    alloc: Global,
+    symbols: &[NamedSymbol<'_>],
+) -> Result<ByName<usize>, ParseError>
+    ensures numbers { IfOk result (λ numbers. numbers ≡ symbol_indices_by_name symbols.now) }
+    ensures memory { IfErr result (λ e. is_parse_memory e ≡ true) }
+{
+    let mut numbers = ByName::new(alloc);
+    for symbol in symbols {
+        numbers.insert(String::from_str(alloc, symbol.name)?, symbol.index)?;
+    }
+    Ok(numbers)
+}
+
+/// Whether the symbols of a file are weak, by name; of equal names the first.
+#[tactic(auto, using(crate::proofs::NamedSymbols::before_all, crate::proofs::NamedSymbols::one_more, crate::proofs::NamedSymbols::all_named))]
+pub fn weak_by_name(alloc: Global, file: &ElfFile<'_>) -> Result<ByName<bool>, ParseError>
+    ensures weak { IfOk result (λ weak. get weak ≡ weak_named (file_symbols file.now)) }
+    ensures fault { Refuses is_parse_memory result (symbols_fault file.now) }
+{
+    let mut weak = ByName::new(alloc);
+    for symbol in file.symbols() {
+        let symbol = NamedSymbol::from_elf(&symbol)?;
+        keep(alloc, &mut weak, &symbol)?;
+    }
+    Ok(weak)
+}
+
+/// Keeps a symbol where none of its name was met.
+fn keep(alloc: Global, weak: &mut ByName<bool>, symbol: &NamedSymbol<'_>) -> Result<(), ParseError>
+    ensures kept { OnOk result (weak.new ≡ (if contains_key weak.old symbol.now.name then weak.old else insert weak.old symbol.now.name symbol.now.is_weak)) }
+    ensures memory { IfErr result (λ e. is_parse_memory e ≡ true) }
+{
+    if weak.contains_key(symbol.name) {
+        return Ok(());
+    }
+    weak.insert(String::from_str(alloc, symbol.name)?, symbol.is_weak)?;
+    Ok(())
 }

@@ -1,7 +1,3 @@
-pub mod SlotLists
-pub mod Tables
-pub mod SlotWords
-pub mod KindRows
-pub mod KindTypes
-pub mod TypeNumbers
+pub mod Slots
+pub mod ProgramKinds
 pub mod NamesRead

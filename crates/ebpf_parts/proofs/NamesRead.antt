@@ -7,10 +7,8 @@ use Rattle.std.specs.Option.{option_flatten}
 use Rattle.std.specs.Str.{bytes_eq}
 use Rattle.std.proofs.lemmas.Bool.{cases_Bool, eqb-true}
 use Rattle.ebpf_base.specs.Faults.{or_else}
-use Rattle.ebpf_parts.proofs.KindTypes.{marked_says_none}
-use Rattle.ebpf_parts.specs.ProgramKinds.{is_marked, unmarked}
-use Rattle.ebpf_parts.specs.ProgramSections.{program_section, first_piece, second_piece, lookup_piece, one_piece, two_pieces, cgroup_section, probe_sections, trace_sections, packet_sections, kernel_sections, pair_sections, xdp_sections, sk_skb_sections, sk_reuseport_sections, cgroup_skb_sections, cgroup_sections, socket_events, address_calls}
-use Rattle.ebpf_parts.specs.Readings.{section_as, NoNameIsOther, BroadKeepsKinds, BroadTakesNames}
+use Rattle.ebpf_parts.proofs.ProgramKinds.{marked_says_none}
+use Rattle.ebpf_parts.specs.ProgramTypes.{is_marked, unmarked, program_section, first_piece, second_piece, lookup_piece, one_piece, cgroup_section, probe_sections, trace_sections, packet_sections, kernel_sections, pair_sections, xdp_sections, sk_skb_sections, sk_reuseport_sections, cgroup_skb_sections, cgroup_sections, socket_events, address_calls, section_as, NoNameIsOther, BroadKeepsKinds, BroadTakesNames}
 use Rattle.ebpf_parts.specs.declared.program_section.ProgramSection.{ProgramSection}
 use Rattle.ebpf_parts.specs.declared.program_section.ProgramSection.TheVariants.{CgroupSock, CgroupSockAddr, Other}
 use Rattle.ebpf_parts.specs.declared.programs.cgroup_sock.CgroupSockAttachType.{CgroupSockAttachType}

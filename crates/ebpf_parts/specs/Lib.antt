@@ -1,15 +1,6 @@
-pub mod AttachTypes
+pub mod ProgramTypes
 pub mod Maps
-pub mod MapTypes
 pub mod Memory
 pub mod Numbers
-pub mod Opcodes
-pub mod Pinning
-pub mod ProgramKinds
-pub mod ProgramSections
-pub mod ProgramTypes
-pub mod Readings
-pub mod SectionKinds
-pub mod Sections
 pub mod Slots
-pub mod SlotBytes
+pub mod Sections

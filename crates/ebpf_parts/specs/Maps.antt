@@ -1,16 +1,20 @@
 -- Maps, and what may be read and set of them.
-use Rattle.std.specs.Prelude.{ℕ, List, [], Option, Some, None, ◌==◌, option_map, if◌then◌else◌}
-use Rattle.ebpf_parts.specs.declared.section_kind.EbpfSectionKind.{EbpfSectionKind}
-use Rattle.ebpf_parts.specs.declared.section_kind.EbpfSectionKind.TheVariants.{Undefined, BtfMaps}
-use Rattle.ebpf_parts.specs.declared.maps.definition.bpf_map_def.{bpf_map_def}
-use Rattle.ebpf_parts.specs.declared.maps.definition.BtfMapDef.{BtfMapDef}
-use Rattle.ebpf_parts.specs.declared.maps.legacy.LegacyMap.{LegacyMap}
+use Rattle.std.specs.Prelude.{ℕ, List, [], Option, Some, None, ◌==◌, option_map, if◌then◌else◌, ◌∷◌, Result, Ok, Err}
 use Rattle.ebpf_parts.specs.declared.maps.btf.BtfMap.{BtfMap}
+use Rattle.ebpf_parts.specs.declared.maps.definition.BtfMapDef.{BtfMapDef}
+use Rattle.ebpf_parts.specs.declared.maps.definition.bpf_map_def.{bpf_map_def}
 use Rattle.ebpf_parts.specs.declared.maps.either.Map.{Map}
 use Rattle.ebpf_parts.specs.declared.maps.either.Map.TheVariants.{Legacy, Btf}
 use Rattle.ebpf_parts.specs.declared.maps.info.bpf_map_info.{bpf_map_info}
+use Rattle.ebpf_parts.specs.declared.maps.legacy.LegacyMap.{LegacyMap}
+use Rattle.ebpf_parts.specs.declared.maps.map_type.bpf_map_type.{bpf_map_type}
+use Rattle.ebpf_parts.specs.declared.maps.map_type.bpf_map_type.TheVariants as types
+use Rattle.ebpf_parts.specs.declared.maps.pinning.PinningError.{PinningError}
+use Rattle.ebpf_parts.specs.declared.maps.pinning.PinningError.TheVariants.{Unsupported}
 use Rattle.ebpf_parts.specs.declared.maps.pinning.PinningType.{PinningType}
 use Rattle.ebpf_parts.specs.declared.maps.pinning.PinningType.TheVariants as pinned
+use Rattle.ebpf_parts.specs.declared.section_kind.EbpfSectionKind.{EbpfSectionKind}
+use Rattle.ebpf_parts.specs.declared.section_kind.EbpfSectionKind.TheVariants.{Undefined, BtfMaps}
 
 abbrev pub map_type_of : Map → ℕ
 map_type_of (Legacy m) = m.def.map_type
@@ -134,3 +138,53 @@ map_from_params map_type key_size value_size max_entries flags = Legacy (undecla
   id = 0;
   pinning = pinned.None;
 }))
+
+-- ---- the types of maps in the order of their numbers, from 0 on (the kernel's include/uapi/linux/bpf.h,
+-- enum bpf_map_type)
+
+unfoldable pub map_types : List bpf_map_type
+map_types =
+    types.BPF_MAP_TYPE_UNSPEC
+    ∷ types.BPF_MAP_TYPE_HASH
+    ∷ types.BPF_MAP_TYPE_ARRAY
+    ∷ types.BPF_MAP_TYPE_PROG_ARRAY
+    ∷ types.BPF_MAP_TYPE_PERF_EVENT_ARRAY
+    ∷ types.BPF_MAP_TYPE_PERCPU_HASH
+    ∷ types.BPF_MAP_TYPE_PERCPU_ARRAY
+    ∷ types.BPF_MAP_TYPE_STACK_TRACE
+    ∷ types.BPF_MAP_TYPE_CGROUP_ARRAY
+    ∷ types.BPF_MAP_TYPE_LRU_HASH
+    ∷ types.BPF_MAP_TYPE_LRU_PERCPU_HASH
+    ∷ types.BPF_MAP_TYPE_LPM_TRIE
+    ∷ types.BPF_MAP_TYPE_ARRAY_OF_MAPS
+    ∷ types.BPF_MAP_TYPE_HASH_OF_MAPS
+    ∷ types.BPF_MAP_TYPE_DEVMAP
+    ∷ types.BPF_MAP_TYPE_SOCKMAP
+    ∷ types.BPF_MAP_TYPE_CPUMAP
+    ∷ types.BPF_MAP_TYPE_XSKMAP
+    ∷ types.BPF_MAP_TYPE_SOCKHASH
+    ∷ types.BPF_MAP_TYPE_CGROUP_STORAGE_DEPRECATED
+    ∷ types.BPF_MAP_TYPE_REUSEPORT_SOCKARRAY
+    ∷ types.BPF_MAP_TYPE_PERCPU_CGROUP_STORAGE_DEPRECATED
+    ∷ types.BPF_MAP_TYPE_QUEUE
+    ∷ types.BPF_MAP_TYPE_STACK
+    ∷ types.BPF_MAP_TYPE_SK_STORAGE
+    ∷ types.BPF_MAP_TYPE_DEVMAP_HASH
+    ∷ types.BPF_MAP_TYPE_STRUCT_OPS
+    ∷ types.BPF_MAP_TYPE_RINGBUF
+    ∷ types.BPF_MAP_TYPE_INODE_STORAGE
+    ∷ types.BPF_MAP_TYPE_TASK_STORAGE
+    ∷ types.BPF_MAP_TYPE_BLOOM_FILTER
+    ∷ types.BPF_MAP_TYPE_USER_RINGBUF
+    ∷ types.BPF_MAP_TYPE_CGRP_STORAGE
+    ∷ types.BPF_MAP_TYPE_ARENA
+    ∷ types.BPF_MAP_TYPE_INSN_ARRAY
+    ∷ []
+
+-- ---- pinning by its number (libbpf's enum libbpf_pin_type)
+
+abbrev pub pinning_type : ℕ → Result PinningType PinningError
+pinning_type number =
+    if number == 0 then Ok pinned.None else
+    if number == 1 then Ok pinned.ByName else
+    Err (Unsupported number)

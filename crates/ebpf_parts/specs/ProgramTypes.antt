@@ -1,8 +1,214 @@
--- The types of programs in the order of their numbers, from 0 on (the kernel's include/uapi/linux/bpf.h,
--- enum bpf_prog_type).
-use Rattle.std.specs.Prelude.{ℕ, List, [], ◌∷◌}
+-- What the names of program sections say (libbpf's section names, as the public crate takes them). A name is split
+-- at each slash. Its first piece says the kind, in some rows with its second; further pieces say nothing.
+use Rattle.std.specs.Prelude.{ℕ, Bool, true, false, List, [], ◌∷◌, Option, Some, None, ◌==◌, option_map, codes, ◌≡◌, ◌&&◌, ◌||◌, nat_eq, nat_le, length, take, drop, filter, slice_index, if◌then◌else◌, ◌≢◌, unwrap_or}
+use Rattle.std.specs.List.{before_first, after_first, position, fold, starts_with}
+use Rattle.std.specs.Map.{lookup}
+use Rattle.std.specs.Option.{option_flatten}
+use Rattle.std.specs.Str.{bytes_eq}
+use Rattle.ebpf_base.specs.Faults.{or_else}
+use Rattle.ebpf_parts.specs.declared.error.ParseError.{ParseError}
+use Rattle.ebpf_parts.specs.declared.error.ParseError.TheVariants.{InvalidProgramSection}
+use Rattle.ebpf_parts.specs.declared.program_section.ProgramSection.{ProgramSection}
+use Rattle.ebpf_parts.specs.declared.program_section.ProgramSection.TheVariants.{KRetProbe, KProbe, UProbe, URetProbe, TracePoint, SocketFilter, Xdp, SkMsg, SkSkbStream, SockOps, SchedClassifier, CgroupSkb, CgroupSockAddr, CgroupSysctl, CgroupSockopt, LircMode2, PerfEvent, RawTracePoint, Lsm, LsmCgroup, BtfTracePoint, FEntry, FExit, FlowDissector, Extension, SkLookup, SkReuseport, CgroupSock, CgroupDevice, Iter, Other}
+use Rattle.ebpf_parts.specs.declared.programs.attach_type.bpf_attach_type.{bpf_attach_type}
+use Rattle.ebpf_parts.specs.declared.programs.attach_type.bpf_attach_type.TheVariants.{BPF_CGROUP_INET_INGRESS, BPF_CGROUP_INET_EGRESS, BPF_CGROUP_INET_SOCK_CREATE, BPF_SK_SKB_STREAM_PARSER, BPF_SK_SKB_STREAM_VERDICT, BPF_CGROUP_INET4_BIND, BPF_CGROUP_INET6_BIND, BPF_CGROUP_INET4_CONNECT, BPF_CGROUP_INET6_CONNECT, BPF_CGROUP_INET4_POST_BIND, BPF_CGROUP_INET6_POST_BIND, BPF_CGROUP_UDP4_SENDMSG, BPF_CGROUP_UDP6_SENDMSG, BPF_CGROUP_UDP4_RECVMSG, BPF_CGROUP_UDP6_RECVMSG, BPF_CGROUP_GETSOCKOPT, BPF_CGROUP_SETSOCKOPT, BPF_CGROUP_INET4_GETPEERNAME, BPF_CGROUP_INET6_GETPEERNAME, BPF_CGROUP_INET4_GETSOCKNAME, BPF_CGROUP_INET6_GETSOCKNAME, BPF_XDP_DEVMAP, BPF_CGROUP_INET_SOCK_RELEASE, BPF_XDP_CPUMAP, BPF_XDP, BPF_SK_REUSEPORT_SELECT, BPF_SK_REUSEPORT_SELECT_OR_MIGRATE}
+use Rattle.ebpf_parts.specs.declared.programs.cgroup_skb.CgroupSkbAttachType.{CgroupSkbAttachType}
+use Rattle.ebpf_parts.specs.declared.programs.cgroup_skb.CgroupSkbAttachType.TheVariants.{Ingress, Egress}
+use Rattle.ebpf_parts.specs.declared.programs.cgroup_sock.CgroupSockAttachType.{CgroupSockAttachType}
+use Rattle.ebpf_parts.specs.declared.programs.cgroup_sock.CgroupSockAttachType.TheVariants.{PostBind4, PostBind6, SockCreate, SockRelease}
+use Rattle.ebpf_parts.specs.declared.programs.cgroup_sock_addr.CgroupSockAddrAttachType.{CgroupSockAddrAttachType}
+use Rattle.ebpf_parts.specs.declared.programs.cgroup_sock_addr.CgroupSockAddrAttachType.TheVariants.{Bind4, Bind6, Connect4, Connect6, GetPeerName4, GetPeerName6, GetSockName4, GetSockName6, UDPSendMsg4, UDPSendMsg6, UDPRecvMsg4, UDPRecvMsg6}
+use Rattle.ebpf_parts.specs.declared.programs.cgroup_sockopt.CgroupSockoptAttachType.{CgroupSockoptAttachType}
+use Rattle.ebpf_parts.specs.declared.programs.cgroup_sockopt.CgroupSockoptAttachType.TheVariants.{Get, Set}
+use Rattle.ebpf_parts.specs.declared.programs.kind.NamedKind.{NamedKind}
+use Rattle.ebpf_parts.specs.declared.programs.kind.ProgramKind.{ProgramKind}
+use Rattle.ebpf_parts.specs.declared.programs.named_kinds.TheConstants.{NAMED_KINDS}
 use Rattle.ebpf_parts.specs.declared.programs.program_type.bpf_prog_type.{bpf_prog_type}
 use Rattle.ebpf_parts.specs.declared.programs.program_type.bpf_prog_type.TheVariants as types
+use Rattle.ebpf_parts.specs.declared.programs.sk_reuseport.SkReuseportAttachType.{SkReuseportAttachType}
+use Rattle.ebpf_parts.specs.declared.programs.sk_reuseport.SkReuseportAttachType.TheVariants.{Select, SelectOrMigrate}
+use Rattle.ebpf_parts.specs.declared.programs.sk_skb.SkSkbKind.{SkSkbKind}
+use Rattle.ebpf_parts.specs.declared.programs.sk_skb.SkSkbKind.TheVariants.{StreamParser, StreamVerdict}
+use Rattle.ebpf_parts.specs.declared.programs.xdp.XdpAttachType.{XdpAttachType}
+use Rattle.ebpf_parts.specs.declared.programs.xdp.XdpAttachType.TheVariants.{Interface, CpuMap, DevMap}
+use Rattle.ebpf_parts.specs.declared.reading.Reading.{Reading}
+use Rattle.ebpf_parts.specs.declared.reading.Reading.TheVariants.{Stated, Broad}
+
+-- the text before the first slash
+abbrev pub first_piece : List ℕ → List ℕ
+first_piece name = before_first (λ b. b == 47) name
+
+-- the text between the first slash and the next, where there is a slash
+abbrev pub second_piece : List ℕ → Option (List ℕ)
+second_piece name = option_map (λ _. first_piece (after_first (λ b. b == 47) name)) (position (λ b. b == 47) name)
+
+-- the row of a table for a piece
+abbrev pub lookup_piece : {X : Type 0} → List (List ℕ × X) → List ℕ → Option X
+lookup_piece table piece = lookup (bytes_eq piece) table
+
+-- probes of the kernel and of processes
+unfoldable pub probe_sections : List (List ℕ × ProgramSection)
+probe_sections =
+    (codes "kprobe", KProbe)
+    ∷ (codes "kretprobe", KRetProbe)
+    ∷ (codes "uprobe", UProbe false false)
+    ∷ (codes "uprobe.s", UProbe true false)
+    ∷ (codes "uprobe.multi", UProbe false true)
+    ∷ (codes "uprobe.multi.s", UProbe true true)
+    ∷ (codes "uretprobe", URetProbe false false)
+    ∷ (codes "uretprobe.s", URetProbe true false)
+    ∷ (codes "uretprobe.multi", URetProbe false true)
+    ∷ (codes "uretprobe.multi.s", URetProbe true true)
+    ∷ []
+
+-- points that are traced
+unfoldable pub trace_sections : List (List ℕ × ProgramSection)
+trace_sections =
+    (codes "tp_btf", BtfTracePoint)
+    ∷ (codes "tracepoint", TracePoint)
+    ∷ (codes "tp", TracePoint)
+    ∷ (codes "raw_tp", RawTracePoint)
+    ∷ (codes "raw_tracepoint", RawTracePoint)
+    ∷ (codes "perf_event", PerfEvent)
+    ∷ (codes "fentry", FEntry false)
+    ∷ (codes "fentry.s", FEntry true)
+    ∷ (codes "fexit", FExit false)
+    ∷ (codes "fexit.s", FExit true)
+    ∷ []
+
+-- sockets, packets and signals
+unfoldable pub packet_sections : List (List ℕ × ProgramSection)
+packet_sections =
+    (codes "socket", SocketFilter)
+    ∷ (codes "sk_msg", SkMsg)
+    ∷ (codes "sockops", SockOps)
+    ∷ (codes "classifier", SchedClassifier)
+    ∷ (codes "sk_lookup", SkLookup)
+    ∷ (codes "flow_dissector", FlowDissector)
+    ∷ (codes "lirc_mode2", LircMode2)
+    ∷ []
+
+-- what extends the kernel
+unfoldable pub kernel_sections : List (List ℕ × ProgramSection)
+kernel_sections =
+    (codes "lsm", Lsm false)
+    ∷ (codes "lsm.s", Lsm true)
+    ∷ (codes "iter", Iter false)
+    ∷ (codes "iter.s", Iter true)
+    ∷ (codes "lsm_cgroup", LsmCgroup)
+    ∷ (codes "freplace", Extension)
+    ∷ []
+
+-- the kinds that the first piece says alone
+abbrev pub one_piece : List ℕ → Option ProgramSection
+one_piece piece =
+    or_else (lookup_piece probe_sections piece)
+    (or_else (lookup_piece trace_sections piece)
+    (or_else (lookup_piece packet_sections piece) (lookup_piece kernel_sections piece)))
+
+-- after `xdp` and `xdp.frags`
+unfoldable pub xdp_sections : Bool → List (List ℕ × ProgramSection)
+xdp_sections frags =
+    (codes "cpumap", Xdp frags CpuMap)
+    ∷ (codes "devmap", Xdp frags DevMap)
+    ∷ []
+
+-- after `sk_skb`
+unfoldable pub sk_skb_sections : List (List ℕ × ProgramSection)
+sk_skb_sections =
+    (codes "stream_parser", SkSkbStream StreamParser)
+    ∷ (codes "stream_verdict", SkSkbStream StreamVerdict)
+    ∷ []
+
+-- after `sk_reuseport`
+unfoldable pub sk_reuseport_sections : List (List ℕ × ProgramSection)
+sk_reuseport_sections =
+    (codes "migrate", SkReuseport SelectOrMigrate)
+    ∷ []
+
+-- after `cgroup_skb`
+unfoldable pub cgroup_skb_sections : List (List ℕ × ProgramSection)
+cgroup_skb_sections =
+    (codes "ingress", CgroupSkb (Some Ingress))
+    ∷ (codes "egress", CgroupSkb (Some Egress))
+    ∷ []
+
+-- after `cgroup`
+unfoldable pub cgroup_sections : List (List ℕ × ProgramSection)
+cgroup_sections =
+    (codes "skb", CgroupSkb None)
+    ∷ (codes "sysctl", CgroupSysctl)
+    ∷ (codes "dev", CgroupDevice)
+    ∷ (codes "getsockopt", CgroupSockopt Get)
+    ∷ (codes "setsockopt", CgroupSockopt Set)
+    ∷ []
+
+-- after `cgroup`, for events of sockets
+unfoldable pub socket_events : List (List ℕ × CgroupSockAttachType)
+socket_events =
+    (codes "sock", SockCreate)
+    ∷ (codes "sock_create", SockCreate)
+    ∷ (codes "sock_release", SockRelease)
+    ∷ (codes "post_bind4", PostBind4)
+    ∷ (codes "post_bind6", PostBind6)
+    ∷ []
+
+-- after `cgroup`, for calls with a socket address
+unfoldable pub address_calls : List (List ℕ × CgroupSockAddrAttachType)
+address_calls =
+    (codes "bind4", Bind4)
+    ∷ (codes "bind6", Bind6)
+    ∷ (codes "connect4", Connect4)
+    ∷ (codes "connect6", Connect6)
+    ∷ (codes "getpeername4", GetPeerName4)
+    ∷ (codes "getpeername6", GetPeerName6)
+    ∷ (codes "getsockname4", GetSockName4)
+    ∷ (codes "getsockname6", GetSockName6)
+    ∷ (codes "sendmsg4", UDPSendMsg4)
+    ∷ (codes "sendmsg6", UDPSendMsg6)
+    ∷ (codes "recvmsg4", UDPRecvMsg4)
+    ∷ (codes "recvmsg6", UDPRecvMsg6)
+    ∷ []
+
+abbrev pub cgroup_section : List ℕ → Option ProgramSection
+cgroup_section piece =
+    or_else (lookup_piece cgroup_sections piece)
+    (or_else (option_map CgroupSock (lookup_piece socket_events piece)) (option_map CgroupSockAddr (lookup_piece address_calls piece)))
+
+-- what the second piece says, or what its absence says
+abbrev pub by_second_piece : Option ProgramSection → (List ℕ → Option ProgramSection) → Option (List ℕ) → Option ProgramSection
+by_second_piece absent section None = absent
+by_second_piece absent section (Some piece) = section piece
+
+-- the first pieces that want a second one, with what the two say
+unfoldable pub pair_sections : Option (List ℕ) → List (List ℕ × Option ProgramSection)
+pair_sections second =
+    (codes "xdp", by_second_piece (Some (Xdp false Interface)) (lookup_piece (xdp_sections false)) second)
+    ∷ (codes "xdp.frags", by_second_piece (Some (Xdp true Interface)) (lookup_piece (xdp_sections true)) second)
+    ∷ (codes "sk_reuseport", by_second_piece (Some (SkReuseport Select)) (lookup_piece sk_reuseport_sections) second)
+    ∷ (codes "sk_skb", by_second_piece None (lookup_piece sk_skb_sections) second)
+    ∷ (codes "cgroup_skb", by_second_piece None (lookup_piece cgroup_skb_sections) second)
+    ∷ (codes "cgroup", by_second_piece None cgroup_section second)
+    ∷ []
+
+abbrev pub two_pieces : List ℕ → Option (List ℕ) → Option ProgramSection
+two_pieces piece second = option_flatten (lookup_piece (pair_sections second) piece)
+
+-- the kind that a name says
+abbrev pub program_section : List ℕ → Option ProgramSection
+program_section name =
+    or_else (one_piece (first_piece name)) (two_pieces (first_piece name) (second_piece name))
+
+abbrev pub no_section : List ℕ → Option ProgramSection → Option ParseError
+no_section name None = Some (InvalidProgramSection name)
+no_section name (Some section) = None
+
+-- a name that says no kind
+abbrev pub program_section_fault : List ℕ → Option ParseError
+program_section_fault name = no_section name (program_section name)
+
+-- ---- the types of programs in the order of their numbers, from 0 on (the kernel's include/uapi/linux/bpf.h,
+-- enum bpf_prog_type)
 
 unfoldable pub program_types : List bpf_prog_type
 program_types =
@@ -76,3 +282,187 @@ program_type_number types.BPF_PROG_TYPE_LSM = 29
 program_type_number types.BPF_PROG_TYPE_SK_LOOKUP = 30
 program_type_number types.BPF_PROG_TYPE_SYSCALL = 31
 program_type_number types.BPF_PROG_TYPE_NETFILTER = 32
+
+-- ---- how programs are attached (the kernel's include/uapi/linux/bpf.h, enum bpf_attach_type)
+
+-- the kernel's numbers
+unfoldable pub attach_type_number : bpf_attach_type → ℕ
+attach_type_number BPF_CGROUP_INET_INGRESS = 0
+attach_type_number BPF_CGROUP_INET_EGRESS = 1
+attach_type_number BPF_CGROUP_INET_SOCK_CREATE = 2
+attach_type_number BPF_SK_SKB_STREAM_PARSER = 4
+attach_type_number BPF_SK_SKB_STREAM_VERDICT = 5
+attach_type_number BPF_CGROUP_INET4_BIND = 8
+attach_type_number BPF_CGROUP_INET6_BIND = 9
+attach_type_number BPF_CGROUP_INET4_CONNECT = 10
+attach_type_number BPF_CGROUP_INET6_CONNECT = 11
+attach_type_number BPF_CGROUP_INET4_POST_BIND = 12
+attach_type_number BPF_CGROUP_INET6_POST_BIND = 13
+attach_type_number BPF_CGROUP_UDP4_SENDMSG = 14
+attach_type_number BPF_CGROUP_UDP6_SENDMSG = 15
+attach_type_number BPF_CGROUP_UDP4_RECVMSG = 19
+attach_type_number BPF_CGROUP_UDP6_RECVMSG = 20
+attach_type_number BPF_CGROUP_GETSOCKOPT = 21
+attach_type_number BPF_CGROUP_SETSOCKOPT = 22
+attach_type_number BPF_CGROUP_INET4_GETPEERNAME = 29
+attach_type_number BPF_CGROUP_INET6_GETPEERNAME = 30
+attach_type_number BPF_CGROUP_INET4_GETSOCKNAME = 31
+attach_type_number BPF_CGROUP_INET6_GETSOCKNAME = 32
+attach_type_number BPF_XDP_DEVMAP = 33
+attach_type_number BPF_CGROUP_INET_SOCK_RELEASE = 34
+attach_type_number BPF_XDP_CPUMAP = 35
+attach_type_number BPF_XDP = 37
+attach_type_number BPF_SK_REUSEPORT_SELECT = 39
+attach_type_number BPF_SK_REUSEPORT_SELECT_OR_MIGRATE = 40
+
+abbrev pub cgroup_skb_attach_type : CgroupSkbAttachType → bpf_attach_type
+cgroup_skb_attach_type Ingress = BPF_CGROUP_INET_INGRESS
+cgroup_skb_attach_type Egress = BPF_CGROUP_INET_EGRESS
+
+abbrev pub cgroup_sock_attach_type : CgroupSockAttachType → bpf_attach_type
+cgroup_sock_attach_type PostBind4 = BPF_CGROUP_INET4_POST_BIND
+cgroup_sock_attach_type PostBind6 = BPF_CGROUP_INET6_POST_BIND
+cgroup_sock_attach_type SockCreate = BPF_CGROUP_INET_SOCK_CREATE
+cgroup_sock_attach_type SockRelease = BPF_CGROUP_INET_SOCK_RELEASE
+
+abbrev pub cgroup_sock_addr_attach_type : CgroupSockAddrAttachType → bpf_attach_type
+cgroup_sock_addr_attach_type Bind4 = BPF_CGROUP_INET4_BIND
+cgroup_sock_addr_attach_type Bind6 = BPF_CGROUP_INET6_BIND
+cgroup_sock_addr_attach_type Connect4 = BPF_CGROUP_INET4_CONNECT
+cgroup_sock_addr_attach_type Connect6 = BPF_CGROUP_INET6_CONNECT
+cgroup_sock_addr_attach_type GetPeerName4 = BPF_CGROUP_INET4_GETPEERNAME
+cgroup_sock_addr_attach_type GetPeerName6 = BPF_CGROUP_INET6_GETPEERNAME
+cgroup_sock_addr_attach_type GetSockName4 = BPF_CGROUP_INET4_GETSOCKNAME
+cgroup_sock_addr_attach_type GetSockName6 = BPF_CGROUP_INET6_GETSOCKNAME
+cgroup_sock_addr_attach_type UDPSendMsg4 = BPF_CGROUP_UDP4_SENDMSG
+cgroup_sock_addr_attach_type UDPSendMsg6 = BPF_CGROUP_UDP6_SENDMSG
+cgroup_sock_addr_attach_type UDPRecvMsg4 = BPF_CGROUP_UDP4_RECVMSG
+cgroup_sock_addr_attach_type UDPRecvMsg6 = BPF_CGROUP_UDP6_RECVMSG
+
+abbrev pub cgroup_sockopt_attach_type : CgroupSockoptAttachType → bpf_attach_type
+cgroup_sockopt_attach_type Get = BPF_CGROUP_GETSOCKOPT
+cgroup_sockopt_attach_type Set = BPF_CGROUP_SETSOCKOPT
+
+abbrev pub sk_reuseport_attach_type : SkReuseportAttachType → bpf_attach_type
+sk_reuseport_attach_type Select = BPF_SK_REUSEPORT_SELECT
+sk_reuseport_attach_type SelectOrMigrate = BPF_SK_REUSEPORT_SELECT_OR_MIGRATE
+
+abbrev pub sk_skb_attach_type : SkSkbKind → bpf_attach_type
+sk_skb_attach_type StreamParser = BPF_SK_SKB_STREAM_PARSER
+sk_skb_attach_type StreamVerdict = BPF_SK_SKB_STREAM_VERDICT
+
+abbrev pub xdp_attach_type : XdpAttachType → bpf_attach_type
+xdp_attach_type Interface = BPF_XDP
+xdp_attach_type CpuMap = BPF_XDP_CPUMAP
+xdp_attach_type DevMap = BPF_XDP_DEVMAP
+
+-- ---- what a loader does with a program, by the name of its section (libbpf's Program Types and ELF Sections). The table is
+-- that of the code, a row for each name
+
+-- what stands before an index, where there is one
+abbrev pub before : Option ℕ → List ℕ → List ℕ
+before None bytes = bytes
+before (Some index) bytes = take index bytes
+
+-- the name of a row: what stands before the first space
+abbrev pub row_name : NamedKind → List ℕ
+row_name row = before (position (λ b. b == 32) row.padded_name) row.padded_name
+
+-- a name that begins with a row's own and goes on with a slash
+abbrev pub has_target : List ℕ → List ℕ → Bool
+has_target name own = starts_with nat_eq name own && slice_index name (length own) == 47
+
+-- a row fits its own name, and where it takes a target its own name with one
+abbrev pub name_fits : List ℕ → NamedKind → Bool
+name_fits name row = bytes_eq name (row_name row) || (row.takes_target && has_target name (row_name row))
+
+-- the row with the longer name, the earlier one of two as long
+abbrev pub longer : Option NamedKind → NamedKind → Option NamedKind
+longer None row = Some row
+longer (Some other) row = if nat_le (length (row_name row)) (length (row_name other)) then Some other else Some row
+
+-- of the rows that a name fits the one with the longest name
+unfoldable pub longest_fit : List ℕ → List NamedKind → Option NamedKind
+longest_fit name rows = fold longer None (filter (name_fits name) rows)
+
+-- a name with `?` before it
+abbrev pub is_marked : List ℕ → Bool
+is_marked name = slice_index name 0 == 63
+
+-- the name behind it
+abbrev pub unmarked : List ℕ → List ℕ
+unmarked name = if is_marked name then drop 1 name else name
+
+-- what the rows say of a name; a program of a marked one is optional
+abbrev pub kind_in : List NamedKind → List ℕ → Option ProgramKind
+kind_in rows name =
+    option_map (λ row. record row.kind { is_optional = is_marked name }) (longest_fit (unmarked name) rows)
+
+-- what a loader does with the programs of a section of this name
+unfoldable pub program_kind : List ℕ → Option ProgramKind
+program_kind name = kind_in NAMED_KINDS name
+
+-- the type that the programs of a kind are loaded as
+abbrev pub section_type : ProgramSection → Option bpf_prog_type
+section_type KRetProbe = Some types.BPF_PROG_TYPE_KPROBE
+section_type KProbe = Some types.BPF_PROG_TYPE_KPROBE
+section_type (UProbe _ _) = Some types.BPF_PROG_TYPE_KPROBE
+section_type (URetProbe _ _) = Some types.BPF_PROG_TYPE_KPROBE
+section_type TracePoint = Some types.BPF_PROG_TYPE_TRACEPOINT
+section_type SocketFilter = Some types.BPF_PROG_TYPE_SOCKET_FILTER
+section_type (Xdp _ _) = Some types.BPF_PROG_TYPE_XDP
+section_type SkMsg = Some types.BPF_PROG_TYPE_SK_MSG
+section_type (SkSkbStream _) = Some types.BPF_PROG_TYPE_SK_SKB
+section_type SockOps = Some types.BPF_PROG_TYPE_SOCK_OPS
+section_type SchedClassifier = Some types.BPF_PROG_TYPE_SCHED_CLS
+section_type (CgroupSkb _) = Some types.BPF_PROG_TYPE_CGROUP_SKB
+section_type (CgroupSockAddr _) = Some types.BPF_PROG_TYPE_CGROUP_SOCK_ADDR
+section_type CgroupSysctl = Some types.BPF_PROG_TYPE_CGROUP_SYSCTL
+section_type (CgroupSockopt _) = Some types.BPF_PROG_TYPE_CGROUP_SOCKOPT
+section_type LircMode2 = Some types.BPF_PROG_TYPE_LIRC_MODE2
+section_type PerfEvent = Some types.BPF_PROG_TYPE_PERF_EVENT
+section_type RawTracePoint = Some types.BPF_PROG_TYPE_RAW_TRACEPOINT
+section_type (Lsm _) = Some types.BPF_PROG_TYPE_LSM
+section_type LsmCgroup = Some types.BPF_PROG_TYPE_LSM
+section_type BtfTracePoint = Some types.BPF_PROG_TYPE_TRACING
+section_type (FEntry _) = Some types.BPF_PROG_TYPE_TRACING
+section_type (FExit _) = Some types.BPF_PROG_TYPE_TRACING
+section_type FlowDissector = Some types.BPF_PROG_TYPE_FLOW_DISSECTOR
+section_type Extension = Some types.BPF_PROG_TYPE_EXT
+section_type SkLookup = Some types.BPF_PROG_TYPE_SK_LOOKUP
+section_type (SkReuseport _) = Some types.BPF_PROG_TYPE_SK_REUSEPORT
+section_type (CgroupSock _) = Some types.BPF_PROG_TYPE_CGROUP_SOCK
+section_type CgroupDevice = Some types.BPF_PROG_TYPE_CGROUP_DEVICE
+section_type (Iter _) = Some types.BPF_PROG_TYPE_TRACING
+section_type Other = None
+
+-- a name that is in both tables has one type
+abbrev pub TypesAgree : Type 0
+TypesAgree =
+    (name : List ℕ) (section : ProgramSection) (kind : ProgramKind) → program_section name ≡ Some section
+    → program_kind name ≡ Some kind → section_type section ≡ Some kind.program_type
+
+-- ---- what the name of a program's section says, by how its object is read
+
+-- the kind that the table has for a name; in the broad reading that of the name behind a `?`, and for every other name `Other`
+unfoldable pub section_as : Reading → List ℕ → Option ProgramSection
+section_as Stated name = program_section name
+section_as Broad name = Some (unwrap_or (program_section (unmarked name)) Other)
+
+-- a name that says no kind
+abbrev pub section_fault_as : Reading → List ℕ → Option ParseError
+section_fault_as reading name = no_section name (section_as reading name)
+
+-- ---- laws
+
+-- no name of the table is of another kind
+abbrev pub NoNameIsOther : Type 0
+NoNameIsOther = (name : List ℕ) → program_section name ≢ Some Other
+
+-- what has a kind in the stated reading has it in the broad one
+abbrev pub BroadKeepsKinds : Type 0
+BroadKeepsKinds = (name : List ℕ) (kind : ProgramSection) → section_as Stated name ≡ Some kind → section_as Broad name ≡ Some kind
+
+-- in the broad reading no name is refused
+abbrev pub BroadTakesNames : Type 0
+BroadTakesNames = (name : List ℕ) → section_fault_as Broad name ≡ None

@@ -1,6 +1,6 @@
 //! Types of the kernel by their numbers.
 
-ghost use Rattle.std.specs.Prelude.{◌≡◌, slice_get};
+ghost use Rattle.std.specs.Prelude.{◌≡◌};
 ghost use Rattle.ebpf_parts.specs.Numbers.{at_number};
 
 /// A number that the kernel gives to no type.

@@ -109,7 +109,7 @@ fn read_slot(bytes: &[u8], offset: usize) -> bpf_insn
 /// # Errors
 ///
 /// `InvalidProgramCode` where the number of bytes is no multiple of 8.
-#[tactic(auto, using(crate::proofs::SlotLists::slots_end), unfolding(crate::specs::Slots::slots_of, crate::specs::Slots::code_faults))]
+#[tactic(auto, using(crate::proofs::Slots::slots_end), unfolding(crate::specs::Slots::slots_of, crate::specs::Slots::code_faults))]
 pub fn copy_instructions(alloc: Global, bytes: &[u8]) -> Result<Vec<bpf_insn>, ParseError>
     ensures slots { IfOk result (λ slots. slots.items ≡ slots_of bytes.now) }
     ensures fault { Refuses is_parse_memory result (first_of (code_faults bytes.now)) }

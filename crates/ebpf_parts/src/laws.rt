@@ -1,8 +1,7 @@
 //! What holds of slots, and of the names of program sections.
 
-ghost use Rattle.ebpf_parts.specs.ProgramKinds.{TypesAgree};
-ghost use Rattle.ebpf_parts.specs.Readings.{NoNameIsOther, BroadKeepsKinds, BroadTakesNames};
-ghost use Rattle.ebpf_parts.specs.SlotBytes.{SlotIsBytes, SlotsAreBytes};
+ghost use Rattle.ebpf_parts.specs.ProgramTypes.{TypesAgree, NoNameIsOther, BroadKeepsKinds, BroadTakesNames};
+ghost use Rattle.ebpf_parts.specs.Slots.{SlotIsBytes, SlotsAreBytes};
 
 /// The bytes of a slot are the eight that it was read of, and the bytes of all slots, one after the other, are those that they were
 /// read of: the whole slots among them.

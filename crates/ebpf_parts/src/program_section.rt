@@ -3,9 +3,7 @@
 ghost use Rattle.std.specs.Prelude.{◌≡◌, IfOk, Some};
 ghost use Rattle.ebpf_base.specs.Faults.{Refuses};
 ghost use Rattle.ebpf_parts.specs.Memory.{is_parse_memory};
-ghost use Rattle.ebpf_parts.specs.ProgramKinds.{unmarked};
-ghost use Rattle.ebpf_parts.specs.ProgramSections.{program_section, program_section_fault};
-ghost use Rattle.ebpf_parts.specs.Readings.{section_as, section_fault_as};
+ghost use Rattle.ebpf_parts.specs.ProgramTypes.{unmarked, program_section, program_section_fault, section_as, section_fault_as};
 
 use crate::error::ParseError;
 use crate::programs::{
@@ -118,7 +116,7 @@ impl ProgramSection {
     /// # Errors
     ///
     /// `InvalidProgramSection` where the name says no kind, and the reading is `Stated`.
-    #[tactic(auto, unfolding(crate::specs::Readings::section_as))]
+    #[tactic(auto, unfolding(crate::specs::ProgramTypes::section_as))]
     pub fn read(alloc: Global, name: &str, reading: Reading) -> Result<ProgramSection, ParseError>
         ensures section { IfOk result (λ section. section_as reading name.now ≡ Some section) }
         ensures fault { Refuses is_parse_memory result (section_fault_as reading name.now) }

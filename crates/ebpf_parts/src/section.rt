@@ -1,7 +1,7 @@
 //! A section, as it is parsed.
 
 ghost use Rattle.std.specs.Prelude.{◌≡◌, [], IfOk, Some};
-ghost use Rattle.ebpf_base.specs.Faults.{Refuses, or_else, fault_of};
+ghost use Rattle.ebpf_base.specs.Faults.{Refuses, fault_of};
 ghost use Rattle.ebpf_elf.specs.Relocations.{relocations};
 ghost use Rattle.ebpf_elf.specs.Sections.{header, data_of, section_name};
 ghost use Rattle.ebpf_parts.specs.Memory.{is_parse_memory};

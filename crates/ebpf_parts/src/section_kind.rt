@@ -3,7 +3,7 @@
 ghost use Rattle.std.specs.Prelude.{◌≡◌};
 ghost use Rattle.ebpf_elf.specs.Sections.{header};
 ghost use Rattle.ebpf_base.specs.Faults.{first_of};
-ghost use Rattle.ebpf_parts.specs.SectionKinds.{kind_of_section, named_kinds, is_code};
+ghost use Rattle.ebpf_parts.specs.Sections.{kind_of_section, named_kinds, is_code};
 
 use ebpf_elf::ElfSection;
 use ebpf_elf::constants::{SHF_ALLOC, SHF_EXECINSTR, SHT_PROGBITS};
@@ -49,7 +49,7 @@ fn is_code(section: &ElfSection<'_>) -> bool
 }
 
 /// The kind that a name says, whatever the section.
-#[tactic(auto, unfolding(crate::specs::SectionKinds::named_kinds))]
+#[tactic(auto, unfolding(crate::specs::Sections::named_kinds))]
 fn named_kind(name: &str) -> Option<EbpfSectionKind>
     ensures { result ≡ first_of (named_kinds name.now) }
 {

@@ -2,7 +2,7 @@
 
 ghost use Rattle.std.specs.Prelude.{◌≡◌};
 ghost use Rattle.std.specs.Option.{option_copied};
-ghost use Rattle.ebpf_parts.specs.ProgramSections.{address_calls, cgroup_section, cgroup_sections, cgroup_skb_sections, first_piece, kernel_sections, one_piece, packet_sections, probe_sections, program_section, lookup_piece, second_piece, sk_reuseport_sections, sk_skb_sections, socket_events, trace_sections, two_pieces, xdp_sections};
+ghost use Rattle.ebpf_parts.specs.ProgramTypes.{address_calls, cgroup_section, cgroup_sections, cgroup_skb_sections, first_piece, kernel_sections, one_piece, packet_sections, probe_sections, program_section, lookup_piece, second_piece, sk_reuseport_sections, sk_skb_sections, socket_events, trace_sections, two_pieces, xdp_sections};
 
 use crate::program_section::ProgramSection;
 use crate::programs::{
@@ -31,7 +31,7 @@ fn second_piece(name: &str) -> Option<&str>
 }
 
 /// Probes of the kernel and of processes.
-#[tactic(auto, unfolding(crate::specs::ProgramSections::probe_sections))]
+#[tactic(auto, unfolding(crate::specs::ProgramTypes::probe_sections))]
 fn probe(piece: &str) -> Option<ProgramSection>
     ensures { result ≡ lookup_piece probe_sections piece.now }
 {
@@ -75,7 +75,7 @@ fn probe(piece: &str) -> Option<ProgramSection>
 }
 
 /// Points that are traced.
-#[tactic(auto, unfolding(crate::specs::ProgramSections::trace_sections))]
+#[tactic(auto, unfolding(crate::specs::ProgramTypes::trace_sections))]
 fn trace(piece: &str) -> Option<ProgramSection>
     ensures { result ≡ lookup_piece trace_sections piece.now }
 {
@@ -95,7 +95,7 @@ fn trace(piece: &str) -> Option<ProgramSection>
 }
 
 /// Sockets, packets and signals.
-#[tactic(auto, unfolding(crate::specs::ProgramSections::packet_sections))]
+#[tactic(auto, unfolding(crate::specs::ProgramTypes::packet_sections))]
 fn packet(piece: &str) -> Option<ProgramSection>
     ensures { result ≡ lookup_piece packet_sections piece.now }
 {
@@ -112,7 +112,7 @@ fn packet(piece: &str) -> Option<ProgramSection>
 }
 
 /// What extends the kernel.
-#[tactic(auto, unfolding(crate::specs::ProgramSections::kernel_sections))]
+#[tactic(auto, unfolding(crate::specs::ProgramTypes::kernel_sections))]
 fn kernel(piece: &str) -> Option<ProgramSection>
     ensures { result ≡ lookup_piece kernel_sections piece.now }
 {
@@ -144,7 +144,7 @@ fn one_piece(piece: &str) -> Option<ProgramSection>
 }
 
 /// After `xdp` and `xdp.frags`.
-#[tactic(auto, unfolding(crate::specs::ProgramSections::xdp_sections))]
+#[tactic(auto, unfolding(crate::specs::ProgramTypes::xdp_sections))]
 fn xdp(frags: bool, piece: &str) -> Option<ProgramSection>
     ensures { result ≡ lookup_piece (xdp_sections frags) piece.now }
 {
@@ -157,7 +157,7 @@ fn xdp(frags: bool, piece: &str) -> Option<ProgramSection>
 }
 
 /// After `sk_skb`.
-#[tactic(auto, unfolding(crate::specs::ProgramSections::sk_skb_sections))]
+#[tactic(auto, unfolding(crate::specs::ProgramTypes::sk_skb_sections))]
 fn sk_skb(piece: &str) -> Option<ProgramSection>
     ensures { result ≡ lookup_piece sk_skb_sections piece.now }
 {
@@ -173,7 +173,7 @@ fn sk_skb(piece: &str) -> Option<ProgramSection>
 }
 
 /// After `sk_reuseport`.
-#[tactic(auto, unfolding(crate::specs::ProgramSections::sk_reuseport_sections))]
+#[tactic(auto, unfolding(crate::specs::ProgramTypes::sk_reuseport_sections))]
 fn sk_reuseport(piece: &str) -> Option<ProgramSection>
     ensures { result ≡ lookup_piece sk_reuseport_sections piece.now }
 {
@@ -186,7 +186,7 @@ fn sk_reuseport(piece: &str) -> Option<ProgramSection>
 }
 
 /// After `cgroup_skb`.
-#[tactic(auto, unfolding(crate::specs::ProgramSections::cgroup_skb_sections))]
+#[tactic(auto, unfolding(crate::specs::ProgramTypes::cgroup_skb_sections))]
 fn cgroup_skb(piece: &str) -> Option<ProgramSection>
     ensures { result ≡ lookup_piece cgroup_skb_sections piece.now }
 {
@@ -202,7 +202,7 @@ fn cgroup_skb(piece: &str) -> Option<ProgramSection>
 }
 
 /// After `cgroup`.
-#[tactic(auto, unfolding(crate::specs::ProgramSections::cgroup_sections))]
+#[tactic(auto, unfolding(crate::specs::ProgramTypes::cgroup_sections))]
 fn cgroup_alone(piece: &str) -> Option<ProgramSection>
     ensures { result ≡ lookup_piece cgroup_sections piece.now }
 {
@@ -221,7 +221,7 @@ fn cgroup_alone(piece: &str) -> Option<ProgramSection>
 }
 
 /// After `cgroup`, for events of sockets.
-#[tactic(auto, unfolding(crate::specs::ProgramSections::socket_events))]
+#[tactic(auto, unfolding(crate::specs::ProgramTypes::socket_events))]
 fn socket_event(piece: &str) -> Option<CgroupSockAttachType>
     ensures { result ≡ lookup_piece socket_events piece.now }
 {
@@ -235,7 +235,7 @@ fn socket_event(piece: &str) -> Option<CgroupSockAttachType>
 }
 
 /// After `cgroup`, for calls with a socket address.
-#[tactic(auto, unfolding(crate::specs::ProgramSections::address_calls))]
+#[tactic(auto, unfolding(crate::specs::ProgramTypes::address_calls))]
 fn address_call(piece: &str) -> Option<CgroupSockAddrAttachType>
     ensures { result ≡ lookup_piece address_calls piece.now }
 {
@@ -273,7 +273,7 @@ fn cgroup(piece: &str) -> Option<ProgramSection>
 }
 
 /// The kinds that the first two pieces say.
-#[tactic(auto, unfolding(crate::specs::ProgramSections::pair_sections))]
+#[tactic(auto, unfolding(crate::specs::ProgramTypes::pair_sections))]
 fn two_pieces(first: &str, second: Option<&str>) -> Option<ProgramSection>
     ensures { result ≡ two_pieces first.now (option_copied second.entry) }
 {

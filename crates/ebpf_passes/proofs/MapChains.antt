@@ -1,27 +1,32 @@
--- Places in maps' data add up along slots in a row.
-use Rattle.std.proofs.Common.{◌≡◌, ℕ, zero, suc, ◌+◌, ◌-◌, ◌*◌, ◌/◌, ◌%◌, ◌<◌, Bool, true, false, cond, List, [], ◌∷◌, length, map, Some, None, IsSome, Option, Result, Ok, Err, refl, sym, ap, subst, ◌∙◌, arith, nat_lt}
+-- The tables of maps that are handed in, and the places in their data along slots in a row.
+use Rattle.std.proofs.Common.{◌≡◌, ℕ, zero, suc, ◌+◌, ◌-◌, ◌*◌, ◌/◌, ◌%◌, ◌<◌, Bool, true, false, cond, List, [], ◌∷◌, length, map, Some, None, IsSome, Option, Result, Ok, Err, refl, sym, ap, subst, ◌∙◌, arith, nat_lt, ◌++◌}
 use Rattle.std.proofs.lemmas.Bool.Decides.{nat_tests}
 use Rattle.std.proofs.lemmas.Int.{ints}
 use Rattle.std.proofs.lemmas.List.FromFn.{sum_by-map-range_with_len_more}
 use Rattle.std.specs.Prelude.{ℤ, pos, ◌+ℤ◌, ◌==◌, ◌||◌, sum, unwrap_or}
-use Rattle.std.specs.FinMap.{get, get-entries, find, entries, nat_cmp-IsAntisymmetric}
-use Rattle.std.specs.List.{range_with_len}
+use Rattle.std.specs.FinMap.{get, get-entries, find, entries, nat_cmp-IsAntisymmetric, FinMap, insert, empty}
+use Rattle.std.specs.List.{range_with_len, flat_map}
 use Rattle.std.specs.Ordering.{nat_cmp, eq_by_cmp}
-use Rattle.ebpf_base.specs.Faults.{first_some, or_else}
+use Rattle.std.proofs.lemmas.List.{map-append}
+use Rattle.ebpf_base.proofs.Keyed.{put_all-append}
 use Rattle.ebpf_base.proofs.Orderings.{is_equal}
-use Rattle.ebpf_elf.specs.declared.entries.ElfRelocation.{ElfRelocation}
-use Rattle.ebpf_parts.specs.Slots.{is_pseudo_call}
-use Rattle.ebpf_parts.specs.declared.insn.bpf_insn.{bpf_insn}
+use Rattle.ebpf_base.specs.Faults.{first_some, or_else}
+use Rattle.ebpf_base.specs.Keyed.{put_all}
+use Rattle.ebpf_elf.specs.declared.relocation.ElfRelocation.{ElfRelocation}
 use Rattle.ebpf_model.specs.declared.function.Function.{Function}
 use Rattle.ebpf_model.specs.declared.symbol.Symbol.{Symbol}
+use Rattle.ebpf_parts.specs.Maps.{section_index_of, symbol_index_of}
+use Rattle.ebpf_parts.specs.Slots.{is_pseudo_call}
+use Rattle.ebpf_parts.specs.declared.insn.bpf_insn.{bpf_insn}
+use Rattle.ebpf_passes.specs.Maps.{address_in, data_address_in_section, data_address_of_symbol, data_address_by, data_address, IsChain, data_addresses, OffsetsAddUp, MapInputs, fits_imm, value_edit, target_edit, found_edit, map_target_at, edit_in_section, map_edit_of_symbol, map_edit, GivenMap, LentMap, given_map, map_target, at_symbol, tables_of, with_symbol, with_map_target}
+use Rattle.ebpf_passes.specs.Relocated.{slot_or_zeros, edited_next, found_slot, SectionRelocations, edit_of, edit_by, edit_at, is_in_slots, refused, refusal_at, first_refusal}
 use Rattle.ebpf_passes.specs.declared.edit.Edit.{Edit}
 use Rattle.ebpf_passes.specs.declared.edit.Edit.TheVariants.{Stay, Slot, Pair}
+use Rattle.ebpf_passes.specs.declared.map_tables.MapTables.{MapTables}
 use Rattle.ebpf_passes.specs.declared.map_tables.MapTarget.{MapTarget}
 use Rattle.ebpf_passes.specs.declared.refusal.SlotFault.{SlotFault}
-use Rattle.ebpf_passes.specs.Edits.{slot_or_zeros, edited_next, found_slot}
-use Rattle.ebpf_passes.specs.MapChains.{address_in, data_address_in_section, data_address_of_symbol, data_address_by, data_address, IsChain, data_addresses, OffsetsAddUp}
-use Rattle.ebpf_passes.specs.Maps.{MapInputs, fits_imm, value_edit, value_offset, target_edit, found_edit, map_target_at, section_edit, edit_in_section, map_edit_of_symbol, map_edit}
-use Rattle.ebpf_passes.specs.Relocated.{SectionRelocations, edit_of, edit_by, edit_at, is_in_slots, refused, refusal_at, first_refusal}
+
+-- ---- places in maps' data add up along slots in a row
 
 -- ---- no relocation is refused: the one at an offset isn't
 
@@ -102,9 +107,9 @@ module _ (slot next : bpf_insn) (has_next : Bool) where
       by true = stays
       by false = at_target (map_target_at inputs.tables r.symbol_index section) section symbol.address
 
-  at_symbol : (inputs : MapInputs) (o : Option Symbol) (r : ElfRelocation) → Follows (data_address_of_symbol inputs o r slot) (map_edit_of_symbol inputs o r slot has_next)
-  at_symbol inputs None r = refuses None _
-  at_symbol inputs (Some symbol) r = in_place inputs symbol.section_index r symbol
+  follows_symbol : (inputs : MapInputs) (o : Option Symbol) (r : ElfRelocation) → Follows (data_address_of_symbol inputs o r slot) (map_edit_of_symbol inputs o r slot has_next)
+  follows_symbol inputs None r = refuses None _
+  follows_symbol inputs (Some symbol) r = in_place inputs symbol.section_index r symbol
 
 module _ (inputs : MapInputs) (section_relocations : SectionRelocations) (f : Function) (clear : first_refusal (map_edit inputs) section_relocations f ≡ None) where
   abbrev edit : ℕ → bpf_insn → Edit
@@ -138,7 +143,7 @@ module _ (inputs : MapInputs) (section_relocations : SectionRelocations) (f : Fu
       by (Some r) there at =
           let ok = is_ok _ (map_edit inputs r (here k) (more_at k)) (accepted k r inside there) in
           let own : data_address_of_symbol inputs (get inputs.symbols r.symbol_index) r (here k) ≡ Some address = ap (λ s. data_address_by inputs (Some r) s) (found_own edit f.instructions k) ∙ address_own inputs (Some r) (slot_or_zeros f.instructions k) (here k).imm ∙ at in
-          let follows = (at_symbol (here k) (slot_or_zeros f.instructions (suc k)) (more_at k) inputs (get inputs.symbols r.symbol_index) r).0 ok.0 ok.1 in
+          let follows = (follows_symbol (here k) (slot_or_zeros f.instructions (suc k)) (more_at k) inputs (get inputs.symbols r.symbol_index) r).0 ok.0 ok.1 in
           ap (λ o. (edited_next (edit_by (map_edit inputs) o (here k) (more_at k)) (slot_or_zeros f.instructions (suc k))).imm) there
           ∙ ap (λ s. s.imm) (subst (λ a. After a (here k) (slot_or_zeros f.instructions (suc k)) (edited_next (edit_of (map_edit inputs r (here k) (more_at k))) (slot_or_zeros f.instructions (suc k)))) own follows)
 
@@ -151,7 +156,7 @@ module _ (inputs : MapInputs) (section_relocations : SectionRelocations) (f : Fu
       by (Some r) there at =
           let own : data_address_of_symbol inputs (get inputs.symbols r.symbol_index) r (here k) ≡ None = ap (λ s. data_address_by inputs (Some r) s) (found_own edit f.instructions k) ∙ address_own inputs (Some r) (slot_or_zeros f.instructions k) (here k).imm ∙ at in
           ap (λ o. edited_next (edit_by (map_edit inputs) o (here k) (more_at k)) (slot_or_zeros f.instructions (suc k))) there
-          ∙ (at_symbol (here k) (slot_or_zeros f.instructions (suc k)) (more_at k) inputs (get inputs.symbols r.symbol_index) r).1 own
+          ∙ (follows_symbol (here k) (slot_or_zeros f.instructions (suc k)) (more_at k) inputs (get inputs.symbols r.symbol_index) r).1 own
 
   begins : (i : ℕ) → ((h : ℕ) → h + 1 ≡ i → data_address inputs section_relocations f h ≡ None) → (here i).imm ≡ (slot_or_zeros f.instructions i).imm
   begins zero least = refl
@@ -186,3 +191,40 @@ module _ (inputs : MapInputs) (section_relocations : SectionRelocations) (f : Fu
 
 pub offsets_add_up : OffsetsAddUp
 offsets_add_up inputs section_relocations f i n clear inside chain = adds inputs section_relocations f clear i n inside chain
+
+-- ---- the maps that are handed in, with one more at the end
+
+abbrev Table : Type 0
+Table = FinMap nat_cmp MapTarget
+
+put_symbol : (table : Table) (symbol : Option ℕ) (target : MapTarget) → put_all table (at_symbol symbol target) ≡ with_symbol table symbol target
+put_symbol table None target = refl
+put_symbol table (Some symbol) target = refl
+
+symbols_push : (table : Table) (given : List GivenMap) (m : GivenMap)
+    → put_all table (flat_map (λ m. at_symbol (symbol_index_of m.1) (map_target m)) (given ++ m ∷ [])) ≡ with_symbol (put_all table (flat_map (λ m. at_symbol (symbol_index_of m.1) (map_target m)) given)) (symbol_index_of m.1) (map_target m)
+symbols_push table [] m = put_all-append table (at_symbol (symbol_index_of m.1) (map_target m)) [] ∙ put_symbol table (symbol_index_of m.1) (map_target m)
+symbols_push table (n ∷ given) m =
+    let first = at_symbol (symbol_index_of n.1) (map_target n) in
+    put_all-append table first (flat_map (λ m. at_symbol (symbol_index_of m.1) (map_target m)) (given ++ m ∷ []))
+    ∙ symbols_push (put_all table first) given m
+    ∙ ap (λ t. with_symbol t (symbol_index_of m.1) (map_target m)) (sym (put_all-append table first (flat_map (λ m. at_symbol (symbol_index_of m.1) (map_target m)) given)))
+
+sections_push : (table : Table) (given : List GivenMap) (m : GivenMap)
+    → put_all table (map (λ m. (section_index_of m.1, map_target m)) (given ++ m ∷ [])) ≡ insert (put_all table (map (λ m. (section_index_of m.1, map_target m)) given)) (section_index_of m.1) (map_target m)
+sections_push table [] m = refl
+sections_push table (n ∷ given) m = sections_push (insert table (section_index_of n.1) (map_target n)) given m
+
+tables_push : (given : List GivenMap) (m : GivenMap) → tables_of (given ++ m ∷ []) ≡ with_map_target (tables_of given) m.0 m.1
+unfolding tables_of
+tables_push given m = λ i. record { by_symbol = symbols_push empty given m i; by_section = sections_push empty given m i }
+
+pub tables_none : tables_of [] ≡ record { by_symbol = empty; by_section = empty }
+unfolding tables_of
+tables_none = refl
+
+-- one more of the maps that were read
+pub tables_next : (tables next : MapTables) (lent : List LentMap) (m : LentMap)
+    → tables ≡ tables_of (map given_map lent) → next ≡ with_map_target tables m.1 m.2.now → next ≡ tables_of (map given_map (lent ++ m ∷ []))
+tables_next tables next lent m before is =
+    is ∙ ap (λ t. with_map_target t m.1 m.2.now) before ∙ sym (tables_push (map given_map lent) (given_map m)) ∙ ap tables_of (sym (map-append given_map lent (m ∷ [])))

@@ -3,20 +3,21 @@ use Rattle.std.proofs.Common.{◌≡◌, ℕ, zero, suc, ◌+◌, ◌-◌, ◌*�
 use Rattle.std.proofs.lemmas.Bool.{cases_eq}
 use Rattle.std.proofs.lemmas.Bool.Decides.{nat_tests}
 use Rattle.std.specs.Ordering.{nat_cmp}
-use Rattle.std.specs.FinMap.{get, get-entries, find, entries, entries_sorted}
-use Rattle.ebpf_base.specs.Faults.{first_some, or_else}
+use Rattle.std.specs.FinMap.{get, get-entries, find, entries, entries_sorted, FinMap, empty}
+use Rattle.std.specs.Prelude.{unwrap_or}
+use Rattle.ebpf_base.proofs.Maps.{entries-empty}
 use Rattle.ebpf_base.specs.EntriesFrom.{entries_from}
-use Rattle.ebpf_elf.specs.declared.entries.ElfRelocation.{ElfRelocation}
+use Rattle.ebpf_base.specs.Faults.{first_some, or_else}
+use Rattle.ebpf_elf.specs.declared.relocation.ElfRelocation.{ElfRelocation}
+use Rattle.ebpf_model.specs.Walks.{entries_or_none}
 use Rattle.ebpf_parts.specs.declared.insn.bpf_insn.{bpf_insn}
+use Rattle.ebpf_passes.proofs.Runs.{Tail, tail_on, at_least_start, Rising, AllFrom, rising_from, find_other, find_head, find_none, rising_kept, all_kept, find_kept, first_kept, all_none}
+use Rattle.ebpf_passes.specs.Relocated.{slot_or_zeros, edited_next, found_slot, EditRule, SectionRelocations, edit_of, edit_by, edit_at, is_in_slots, refused, refusal_at, Pending, pending_slot, pending_of, pending_after, scan_on, scan, tried}
 use Rattle.ebpf_passes.specs.declared.edit.Edit.{Edit}
 use Rattle.ebpf_passes.specs.declared.edit.Edit.TheVariants.{Stay, Slot, Pair}
 use Rattle.ebpf_passes.specs.declared.refusal.SlotFault.{SlotFault}
 use Rattle.ebpf_passes.specs.declared.refusal.SlotFault.TheVariants.{InvalidOffset}
 use Rattle.ebpf_passes.specs.declared.refusal.SlotRefusal.{SlotRefusal}
-use Rattle.ebpf_passes.specs.Edits.{slot_or_zeros, edited_next, found_slot}
-use Rattle.ebpf_passes.specs.Relocated.{EditRule, SectionRelocations, edit_of, edit_by, edit_at, is_in_slots, refused, refusal_at}
-use Rattle.ebpf_passes.specs.InPlaceEdits.{Pending, pending_slot, pending_of, pending_after, scan_on, scan}
-use Rattle.ebpf_passes.proofs.InOrder.{Above, Rising, AllFrom, AtLeastHead, rising_from, find_other, find_head, find_none, above_head, rising_kept, all_kept, find_kept, first_kept, all_none}
 
 -- what an edit leaves is found by the next slot
 left_next : (edit : Edit) (j : ℕ) (s : bpf_insn) → edited_next edit s ≡ pending_slot (pending_of j edit) (suc j) s
@@ -41,10 +42,6 @@ module _ (rule_edit : EditRule) (section_relocations : SectionRelocations) (star
   abbrev fault : ℕ × ElfRelocation → Option SlotRefusal
   fault = refusal_at rule_edit section_relocations start slots
 
-  -- what stands from the first of some relocations on is among them
-  abbrev Tail : List (ℕ × ElfRelocation) → Type 0
-  Tail es = (q : ℕ) → AtLeastHead q es → get section_relocations q ≡ find nat_cmp q es
-
   -- the slot of the first of them is found with what is pending
   abbrev HeadFound : List (ℕ × ElfRelocation) → Pending → Type 0
   HeadFound [] p = Unit {0}
@@ -53,14 +50,8 @@ module _ (rule_edit : EditRule) (section_relocations : SectionRelocations) (star
   no_edit : (q : ℕ) (s : bpf_insn) (has_next : Bool) → get section_relocations q ≡ None → edit_by rule_edit (get section_relocations q) s has_next ≡ Stay
   no_edit q s has_next none = ap (λ o. edit_by rule_edit o s has_next) none
 
-  tail_on : (e : ℕ × ElfRelocation) (es : List (ℕ × ElfRelocation)) → Above e.0 es → Tail (e ∷ es) → Tail es
-  tail_on e es above tail q at_least =
-      let up : e.0 < q = above_head e.0 q es above at_least in
-      let ne : q ≢ e.0 = λ same. absurd (omega arith) in
-      tail q (omega arith) ∙ find_other q e es ne
-
   -- what the edit of slot j leaves is pending at the slot of the next relocation
-  head_on : (e : ℕ × ElfRelocation) (es : List (ℕ × ElfRelocation)) (j : ℕ) (made : Edit) → Rising (e ∷ es) → Tail (e ∷ es) → e.0 ≡ start + 8 * j
+  head_on : (e : ℕ × ElfRelocation) (es : List (ℕ × ElfRelocation)) (j : ℕ) (made : Edit) → Rising (e ∷ es) → Tail section_relocations (e ∷ es) → e.0 ≡ start + 8 * j
       → edit j (found_slot edit slots j) ≡ made → HeadFound es (pending_of j made)
   head_on e [] j made rising tail here is = tt
   head_on e (f ∷ fs) j made rising tail here is = at
@@ -88,9 +79,9 @@ module _ (rule_edit : EditRule) (section_relocations : SectionRelocations) (star
   abbrev Later : List (ℕ × ElfRelocation) → Type 0
   Later es = (next : Pending) → HeadFound es next → scan rule_edit start slots next es ≡ first_some fault es
 
-  scanned : (es : List (ℕ × ElfRelocation)) (p : Pending) → Rising es → AllFrom start es → Tail es → HeadFound es p → scan rule_edit start slots p es ≡ first_some fault es
+  scanned : (es : List (ℕ × ElfRelocation)) (p : Pending) → Rising es → AllFrom start es → Tail section_relocations es → HeadFound es p → scan rule_edit start slots p es ≡ first_some fault es
   scanned [] p rising from tail head = refl
-  scanned (e ∷ es) p rising from tail head = by_cases _ _ _ refl refl refl (λ next found_slot. scanned es next rising.1 from.1 (tail_on e es rising.0 tail) found_slot)
+  scanned (e ∷ es) p rising from tail head = by_cases _ _ _ refl refl refl (λ next found_slot. scanned es next rising.1 from.1 (tail_on section_relocations e es rising.0 tail) found_slot)
     where
       by_result : Later es → (j : ℕ) (r : Result Edit SlotFault) → e.0 ≡ start + 8 * j → rule_edit e.1 (found_slot edit slots j) (nat_lt (j + 1) (length slots)) ≡ r
           → scan_on e (pending_after j r) (λ next. scan rule_edit start slots next es) ≡ or_else (refused e r) (first_some fault es)
@@ -126,10 +117,6 @@ module _ (rule_edit : EditRule) (section_relocations : SectionRelocations) (star
   outside_none : (e : ℕ × ElfRelocation) → nat_le start e.0 ≡ false → fault e ≡ None
   outside_none e out = rw out refl
 
-  at_least_start : (q : ℕ) (es : List (ℕ × ElfRelocation)) → AllFrom start es → AtLeastHead q es → start ≤ q
-  at_least_start q [] from g = absurd g
-  at_least_start q (e ∷ es) from g = omega (arith, from.0)
-
   -- the search over the relocations from the first slot on finds the first of all that can't be applied
   pub finds_first : scan rule_edit start slots None (entries_from start (entries section_relocations)) ≡ first_some fault (entries section_relocations)
   finds_first =
@@ -137,4 +124,21 @@ module _ (rule_edit : EditRule) (section_relocations : SectionRelocations) (star
       let rising : Rising es = rising_kept start (entries section_relocations) (rising_from (entries section_relocations) (entries_sorted section_relocations)) in
       let from : AllFrom start es = all_kept start (entries section_relocations) in
       let known = λ (q : ℕ) (le : start ≤ q). get-entries section_relocations q ∙ sym (find_kept start q (entries section_relocations) le) in
-      scanned es None rising from (λ q g. known q (at_least_start q es from g)) (none_pending es rising known) ∙ first_kept fault start (entries section_relocations) outside_none
+      scanned es None rising from (λ q g. known q (at_least_start start q es from g)) (none_pending es rising known) ∙ first_kept fault start (entries section_relocations) outside_none
+
+-- ---- what is tried along a walk
+
+-- a section without relocations is one with an empty table of them
+pub entries_kept : (section_relocations : Option (FinMap nat_cmp ElfRelocation)) → entries_or_none section_relocations ≡ entries (unwrap_or section_relocations empty)
+entries_kept None = sym (entries-empty nat_cmp ElfRelocation)
+entries_kept (Some section_relocations) = refl
+
+module _ (rule_edit : EditRule) (start : ℕ) (slots : List bpf_insn) (e : ℕ × ElfRelocation) (inside : nat_lt ((e.0 - start) / 8) (length slots) ≡ true) where
+  -- one that can be applied is passed over
+  pub tried_on : (pending next : Pending) (rest : List (ℕ × ElfRelocation)) → tried rule_edit slots pending (e.0 - start) e.1 ≡ Ok next
+      → scan rule_edit start slots pending (e ∷ rest) ≡ scan rule_edit start slots next rest
+  tried_on pending next rest is = rw (inside, is) refl
+
+  -- it stands before the end of the slots
+  pub before_end : e.0 < start + 8 * length slots
+  before_end = grind (arith, nat_tests)

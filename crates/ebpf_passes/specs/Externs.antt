@@ -4,10 +4,9 @@ use Rattle.std.specs.FinMap.{FinMap, get}
 use Rattle.std.specs.Int.{w32, cast_signed}
 use Rattle.std.specs.Ordering.{nat_cmp}
 use Rattle.ebpf_base.specs.Keys.{text_cmp}
-use Rattle.ebpf_elf.specs.declared.entries.ElfRelocation.{ElfRelocation}
+use Rattle.ebpf_elf.specs.declared.relocation.ElfRelocation.{ElfRelocation}
 use Rattle.ebpf_parts.specs.declared.insn.bpf_insn.{bpf_insn}
-use Rattle.ebpf_parts.specs.Opcodes.{call, ld_imm64, pseudo_btf_id, pseudo_kfunc_call}
-use Rattle.ebpf_parts.specs.Slots.{dst_of, registers}
+use Rattle.ebpf_parts.specs.Slots.{call, ld_imm64, pseudo_btf_id, pseudo_kfunc_call, dst_of, registers}
 use Rattle.ebpf_model.specs.Symbols.{is_extern}
 use Rattle.ebpf_model.specs.declared.extern_desc.ExternDesc.{ExternDesc}
 use Rattle.ebpf_model.specs.declared.symbol.Symbol.{Symbol}

@@ -1,25 +1,26 @@
--- File descriptors of maps in slots.
-use Rattle.std.specs.Prelude.{ℕ, ℤ, pos, negsuc, ◌^◌, ◌+ℤ◌, Bool, true, false, ◌||◌, if◌then◌else◌, nat_lt, List, [], ◌∷◌, map, Option, Some, None, Result, Ok, Err}
-use Rattle.std.specs.FinMap.{FinMap, get, empty}
-use Rattle.std.specs.List.{flat_map}
+-- File descriptors of maps in slots, and the offsets in maps' data that slots in a row add up.
+use Rattle.std.specs.Prelude.{ℕ, ℤ, pos, negsuc, ◌^◌, ◌+ℤ◌, Bool, true, false, ◌||◌, if◌then◌else◌, nat_lt, List, [], ◌∷◌, map, Option, Some, None, Result, Ok, Err, ◌≡◌, ◌≤◌, ◌<◌, ◌+◌, ◌*◌, length, sum, IsSome, unwrap_or}
+use Rattle.std.specs.FinMap.{FinMap, get, empty, insert}
+use Rattle.std.specs.List.{flat_map, range_with_len}
 use Rattle.std.specs.Ordering.{nat_cmp}
+use denote.Ref.{Bor}
 use Rattle.ebpf_base.specs.Faults.{or_else}
 use Rattle.ebpf_base.specs.Keyed.{put_all}
-use Rattle.ebpf_elf.specs.declared.entries.ElfRelocation.{ElfRelocation}
-use Rattle.ebpf_parts.specs.Opcodes.{pseudo_map_fd, pseudo_map_value}
-use Rattle.ebpf_parts.specs.Slots.{is_pseudo_call, dst_of, registers}
+use Rattle.ebpf_elf.specs.declared.relocation.ElfRelocation.{ElfRelocation}
+use Rattle.ebpf_model.specs.Symbols.{TextSections}
+use Rattle.ebpf_model.specs.declared.function.Function.{Function}
+use Rattle.ebpf_model.specs.declared.symbol.Symbol.{Symbol}
+use Rattle.ebpf_parts.specs.Maps.{bytes_of, section_index_of, symbol_index_of}
+use Rattle.ebpf_parts.specs.Slots.{pseudo_map_fd, pseudo_map_value, is_pseudo_call, dst_of, registers}
 use Rattle.ebpf_parts.specs.declared.insn.bpf_insn.{bpf_insn}
 use Rattle.ebpf_parts.specs.declared.maps.either.Map.{Map}
-use Rattle.ebpf_parts.specs.Maps.{bytes_of, section_index_of, symbol_index_of}
-use Rattle.ebpf_model.specs.TextSections.{TextSections}
-use Rattle.ebpf_model.specs.declared.symbol.Symbol.{Symbol}
+use Rattle.ebpf_passes.specs.Relocated.{slot_or_zeros, found_slot, SectionRelocations, edit_at, first_refusal}
 use Rattle.ebpf_passes.specs.declared.edit.Edit.{Edit}
 use Rattle.ebpf_passes.specs.declared.edit.Edit.TheVariants.{Stay, Slot, Pair}
 use Rattle.ebpf_passes.specs.declared.map_tables.MapTables.{MapTables}
 use Rattle.ebpf_passes.specs.declared.map_tables.MapTarget.{MapTarget}
 use Rattle.ebpf_passes.specs.declared.refusal.SlotFault.{SlotFault}
 use Rattle.ebpf_passes.specs.declared.refusal.SlotFault.TheVariants.{UnknownSymbol, InvalidOffset, SectionNotFound, MapAddressOverflow}
-use denote.Ref.{Bor}
 
 -- a map that is handed in: its descriptor, and the map
 abbrev pub GivenMap : Type 0
@@ -107,3 +108,60 @@ map_edit_of_symbol inputs (Some symbol) relocation slot has_next = edit_in_secti
 -- what becomes of a slot with a relocation
 abbrev pub map_edit : MapInputs → ElfRelocation → bpf_insn → Bool → Result Edit SlotFault
 map_edit inputs relocation slot has_next = map_edit_of_symbol inputs (get inputs.symbols relocation.symbol_index) relocation slot has_next
+
+-- ---- the offsets in maps' data that slots in a row add up
+
+abbrev pub address_in : Option MapTarget → ℕ → Option ℕ
+address_in None address = None
+address_in (Some target) address = if target.has_data then Some address else None
+
+abbrev pub data_address_in_section : MapInputs → Option ℕ → ElfRelocation → Symbol → bpf_insn → Option ℕ
+data_address_in_section inputs None relocation symbol slot = None
+data_address_in_section inputs (Some section) relocation symbol slot =
+    if is_pseudo_call slot || inputs.text_sections section
+    then None
+    else address_in (map_target_at inputs.tables relocation.symbol_index section) symbol.address
+
+abbrev pub data_address_of_symbol : MapInputs → Option Symbol → ElfRelocation → bpf_insn → Option ℕ
+data_address_of_symbol inputs None relocation slot = None
+data_address_of_symbol inputs (Some symbol) relocation slot = data_address_in_section inputs symbol.section_index relocation symbol slot
+
+abbrev pub data_address_by : MapInputs → Option ElfRelocation → bpf_insn → Option ℕ
+data_address_by inputs None slot = None
+data_address_by inputs (Some relocation) slot = data_address_of_symbol inputs (get inputs.symbols relocation.symbol_index) relocation slot
+
+-- the symbol's address at slot k, where its relocation is to a map with data
+abbrev pub data_address : MapInputs → SectionRelocations → Function → ℕ → Option ℕ
+data_address inputs section_relocations f k = data_address_by inputs (get section_relocations (f.section_offset + 8 * k)) (slot_or_zeros f.instructions k)
+
+-- slot i is the first of those before slot j that are all relocated to maps with data, none where it is j
+pub record IsChain (inputs : MapInputs) (section_relocations : SectionRelocations) (f : Function) (i n : ℕ) : Type 0 where
+  pub all : (k : ℕ) → i ≤ k → k < i + n → IsSome (data_address inputs section_relocations f k)
+  pub least : (h : ℕ) → h + 1 ≡ i → data_address inputs section_relocations f h ≡ None
+
+-- the addresses of n slots from slot i on, added up
+abbrev pub data_addresses : MapInputs → SectionRelocations → Function → ℕ → ℕ → ℕ
+data_addresses inputs section_relocations f i n = sum (map (λ k. unwrap_or (data_address inputs section_relocations f k) 0) (range_with_len i n))
+
+-- Where no relocation is refused, the slot after n slots in a row that are relocated to maps with data is found with
+-- the immediate of the first of them plus the addresses of all of them.
+abbrev pub OffsetsAddUp : Type 0
+OffsetsAddUp = (inputs : MapInputs) (section_relocations : SectionRelocations) (f : Function) (i n : ℕ)
+    → first_refusal (map_edit inputs) section_relocations f ≡ None → i + n < length f.instructions → IsChain inputs section_relocations f i n
+    → (found_slot (edit_at (map_edit inputs) section_relocations f.section_offset (length f.instructions)) f.instructions (i + n)).imm
+    ≡ (slot_or_zeros f.instructions i).imm +ℤ pos (data_addresses inputs section_relocations f i n)
+
+-- ---- what contracts of private functions name and no public one
+
+-- the tables with one map more
+abbrev pub with_symbol : FinMap nat_cmp MapTarget → Option ℕ → MapTarget → FinMap nat_cmp MapTarget
+with_symbol table None target = table
+with_symbol table (Some symbol) target = insert table symbol target
+
+abbrev pub with_map_target : MapTables → ℤ → Map → MapTables
+with_map_target tables descriptor m =
+    let target : MapTarget = record { descriptor = descriptor; has_data = has_data (bytes_of m) } in
+    record {
+      by_symbol = with_symbol tables.by_symbol (symbol_index_of m) target;
+      by_section = insert tables.by_section (section_index_of m) target;
+    }

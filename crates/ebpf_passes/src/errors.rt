@@ -1,6 +1,6 @@
 //! The errors of relocations that can't be applied.
 
-ghost use Rattle.std.specs.Prelude.{◌≡◌, true, ⊤, IfOk, MatchBool, unwrap_or, []};
+ghost use Rattle.std.specs.Prelude.{◌≡◌, IfOk, MatchBool, unwrap_or, []};
 ghost use Rattle.std.specs.FinMap as map;
 ghost use Rattle.ebpf_model.specs.Memory.{is_memory_at};
 ghost use Rattle.ebpf_passes.specs.Relocated.{number_of, symbol_name_of, error_of, out_of_memory};

@@ -2,7 +2,7 @@
 
 ghost use Rattle.std.specs.Prelude.{◌≡◌, ◌<◌, [], Some, unwrap_or};
 ghost use Rattle.ebpf_passes.specs.Externs.{kernel_call, absent_call, call_edit, load_of, edit_of_load, load_edit, declared_extern_edit, extern_edit};
-ghost use Rattle.ebpf_passes.specs.Rules.{extern_inputs};
+ghost use Rattle.ebpf_passes.specs.Passes.{extern_inputs};
 
 use crate::edit::Edit;
 use crate::map_rule::with_source;

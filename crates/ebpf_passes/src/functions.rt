@@ -1,12 +1,12 @@
 //! A pass over the functions of an object.
 
-ghost use Rattle.std.specs.Prelude.{◌≡◌, true, false, IfOk, OnOk, OnErr, IfErr, MatchBool};
+ghost use Rattle.std.specs.Prelude.{◌≡◌, true, false, IfOk, OnOk, OnErr, IfErr};
 ghost use Rattle.ebpf_base.specs.Faults.{Refuses};
 ghost use Rattle.ebpf_base.specs.Mapped.{map_values};
 ghost use Rattle.ebpf_model.specs.Memory.{is_memory_at};
 ghost use Rattle.ebpf_model.specs.Walks.{IsWithinFunction};
 ghost use Rattle.ebpf_passes.specs.Relocated.{relocated, function_fault, first_fault, out_of_memory};
-ghost use Rattle.ebpf_passes.specs.Rules.{rule_edit_of, rule_symbols};
+ghost use Rattle.ebpf_passes.specs.Passes.{rule_edit_of, rule_symbols};
 
 use crate::errors::refused;
 use crate::rule::Rule;
@@ -19,7 +19,7 @@ use std::alloc::Global;
 
 /// Refuses for the first relocation of a function that can't be applied; else tells whether one of them edits a slot. The
 /// walk goes on to the function, and to its end.
-#[tactic(auto, unfolding(crate::specs::Relocated::relocated))]
+#[tactic(auto, unfolding(crate::specs::Relocated::relocated), using(crate::proofs::Runs::stays, crate::proofs::Runs::no_fault))]
 fn check_function<'a>(
     alloc: Global,
     rule: &Rule<'_>,
@@ -51,7 +51,7 @@ fn check_function<'a>(
 
 /// Refuses for the first function, by its key, with a relocation that can't be applied; else tells whether a relocation
 /// of one of them edits a slot.
-#[tactic(auto, unfolding(crate::specs::Relocated::first_fault), using(crate::proofs::Idle::one_stays, crate::proofs::Idle::all_stay))]
+#[tactic(auto, unfolding(crate::specs::Relocated::first_fault), using(crate::proofs::Runs::one_stays, crate::proofs::Runs::all_stay))]
 fn check_functions(
     alloc: Global,
     rule: &Rule<'_>,
@@ -72,7 +72,7 @@ fn check_functions(
 }
 
 /// Writes the relocations of a function.
-#[tactic(auto, unfolding(crate::specs::Relocated::relocated))]
+#[tactic(auto, unfolding(crate::specs::Relocated::relocated), using(crate::proofs::Runs::stays))]
 fn write_function(
     rule: &Rule<'_>,
     relocations: &BySection<ByOffset<Relocation>>,

@@ -2,7 +2,7 @@
 
 ghost use Rattle.std.specs.Prelude.{◌≡◌, ◌<◌};
 ghost use Rattle.ebpf_passes.specs.Maps.{value_offset, with_source, map_target_at, target_edit, section_edit, map_edit};
-ghost use Rattle.ebpf_passes.specs.Rules.{map_inputs};
+ghost use Rattle.ebpf_passes.specs.Passes.{map_inputs};
 
 use crate::edit::Edit;
 use crate::map_tables::{MapTables, MapTarget};

@@ -2,8 +2,7 @@
 
 ghost use Rattle.std.specs.Prelude.{◌≡◌, List, map, OnOk, IfOk};
 ghost use Rattle.std.specs.Iterator.{IsFinite, Drains};
-ghost use Rattle.ebpf_passes.specs.Maps.{LentMap, given_map, tables_of, has_data};
-ghost use Rattle.ebpf_passes.specs.PrivateContracts.{with_map_target};
+ghost use Rattle.ebpf_passes.specs.Maps.{LentMap, given_map, tables_of, has_data, with_map_target};
 ghost use Rattle.ebpf_parts.specs.Maps.{bytes_of};
 
 use ebpf_base::ByIndex;

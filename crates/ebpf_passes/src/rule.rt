@@ -1,7 +1,7 @@
 //! What the passes make of relocations.
 
 ghost use Rattle.std.specs.Prelude.{◌≡◌};
-ghost use Rattle.ebpf_passes.specs.Rules.{rule_edit_of, rule_symbols};
+ghost use Rattle.ebpf_passes.specs.Passes.{rule_edit_of, rule_symbols};
 
 use crate::edit::Edit;
 use crate::extern_rule::{ExternRule, extern_edit};

@@ -4,10 +4,8 @@ ghost use Rattle.std.specs.Prelude.{◌≡◌, ◌+◌, ◌*◌, ◌/◌, ◌<�
 ghost use Rattle.std.specs.FinMap.{empty};
 ghost use Rattle.ebpf_base.specs.Faults.{fault_of};
 ghost use Rattle.ebpf_model.specs.Walks.{walked_relocations, IsBefore};
-ghost use Rattle.ebpf_passes.specs.Edits.{slots_after};
-ghost use Rattle.ebpf_passes.specs.Relocated.{first_refusal, edit_at};
-ghost use Rattle.ebpf_passes.specs.Rules.{rule_edit_of};
-ghost use Rattle.ebpf_passes.specs.InPlaceEdits.{pending_slot, pending_of, pending_after, tried, slots_after_relocation};
+ghost use Rattle.ebpf_passes.specs.Relocated.{slots_after, first_refusal, edit_at, pending_slot, pending_of, pending_after, tried, slots_after_relocation};
+ghost use Rattle.ebpf_passes.specs.Passes.{rule_edit_of};
 ghost use Rattle.ebpf_passes.specs.declared.edit.Edit.TheVariants.{Stay};
 
 use crate::edit::Edit;
@@ -63,7 +61,7 @@ fn edit_of(
 
 /// Whether a relocation of a function edits its slots; else the first one, by offset, that can't be applied. The walk,
 /// which has not passed the function, goes on to its end.
-#[tactic(auto, using(crate::proofs::Idle::stays_on, crate::proofs::Idle::stays_past, crate::proofs::Idle::stays_all))]
+#[tactic(auto, using(crate::proofs::Runs::stays_on, crate::proofs::Runs::stays_past, crate::proofs::Runs::stays_all))]
 pub fn edits_or_refusal(
     rule: &Rule<'_>,
     walk: &mut Walk<'_>,

@@ -1,10 +1,8 @@
 //! Relocations written into the slots of a function.
 
 ghost use Rattle.std.specs.Prelude.{◌≡◌, ◌/◌, ◌<◌, length, slice_set};
-ghost use Rattle.ebpf_passes.specs.Edits.{slot_or_zeros, slots_after};
-ghost use Rattle.ebpf_passes.specs.Relocated.{edit_of, edit_at};
-ghost use Rattle.ebpf_passes.specs.Rules.{rule_edit_of};
-ghost use Rattle.ebpf_passes.specs.InPlaceEdits.{slots_after_edit, slots_after_relocation};
+ghost use Rattle.ebpf_passes.specs.Relocated.{slot_or_zeros, slots_after, edit_of, edit_at, slots_after_edit, slots_after_relocation};
+ghost use Rattle.ebpf_passes.specs.Passes.{rule_edit_of};
 
 use crate::edit::Edit;
 use crate::rule::Rule;
@@ -60,6 +58,7 @@ fn write_one(rule: &Rule<'_>, distance: u64, relocation: Relocation, slots: &mut
 }
 
 /// Writes the relocations of a section into the slots of a function that begins at an offset.
+#[tactic(auto, using(crate::proofs::Runs::run_makes))]
 pub fn write_slots(
     rule: &Rule<'_>,
     start: u64,

@@ -5,17 +5,13 @@ ghost use Rattle.ebpf_kconfig.specs.KconfigExterns.{kconfig_externs};
 ghost use Rattle.ebpf_prepared.specs.Opened.{IsOpened};
 
 use crate::kernel::{Kernel, given_kernel};
+use crate::prepared::PrepareWords;
 use crate::settings::define_settings;
 use crate::settings_help::refuse_settings;
-use crate::words::PrepareWords;
-use ebpf_base::Text;
 use ebpf_object::Object;
-use ebpf_report::object_file::read_object;
-use ebpf_report::parsed::parsed_object;
-use ebpf_report::programs::{ObjectProgram, object_programs};
-use ebpf_report::refuse::check_names;
-use ebpf_report::stop::Stop;
-use std::alloc::{AllocError, Global};
+use ebpf_report::object_file::{parsed_object, read_object};
+use ebpf_report::programs::ObjectProgram;
+use ebpf_report::refuse::{Stop, chosen_programs};
 
 /// An object that was parsed, with what words choose of it and give of a kernel. No pass was made over it.
 #[derive(Drop)]
@@ -35,44 +31,6 @@ pub struct Opened {
 struct Chosen {
     programs: Vec<ObjectProgram>,
     kernel: Kernel,
-}
-
-/// Whether a text is among others.
-fn is_among(texts: &[Text], wanted: &str) -> bool {
-    texts.iter().any(|text| text.is(wanted))
-}
-
-/// The programs of these names; all without a name.
-fn of_names(
-    alloc: Global,
-    programs: Vec<ObjectProgram>,
-    names: &[Text],
-) -> Result<Vec<ObjectProgram>, AllocError> {
-    if names.is_empty() {
-        return Ok(programs);
-    }
-    let mut chosen = Vec::new(alloc);
-    for program in programs {
-        if !is_among(names, program.name.as_str()) {
-            continue;
-        }
-        chosen.push(program)?;
-    }
-    Ok(chosen)
-}
-
-/// The programs that words choose; a name that no program has is told.
-fn chosen_programs(
-    rt: &HostRuntime,
-    words: &PrepareWords,
-    file: &[u8],
-    object: &Object,
-) -> Result<Vec<ObjectProgram>, Stop> {
-    let alloc = rt.alloc();
-    let names = words.programs.as_slice();
-    let programs = object_programs(alloc, file, object)?;
-    check_names(rt, words.json, words.file.as_str(), &programs, names)?;
-    Ok(of_names(alloc, programs, names)?)
 }
 
 /// Defines the externs of an object that the kernel's configuration gives; where they can't be, it is told.
@@ -103,7 +61,8 @@ fn chosen_of(
 ) -> Result<Chosen, Stop>
     ensures same { OnOk result (kconfig_externs parsed.old.btf parsed.old.symbol_table ≡ [] → parsed.new ≡ parsed.old) }
 {
-    let programs = chosen_programs(rt, words, file, parsed)?;
+    let (path, names) = (words.file.as_str(), words.programs.as_slice());
+    let programs = chosen_programs(rt, words.json, path, file, parsed, names)?;
     let kernel = given_kernel(rt, words, parsed.endianness)?;
     define(rt, words, parsed, &kernel)?;
     Ok(Chosen { programs, kernel })

@@ -8,26 +8,23 @@ use ebpf_object::prepare::PrepareError;
 
 /// What one can do about a CO-RE record.
 fn types_help(error: &CoreError) -> Option<&'static str> {
-    match error {
+    Some(match error {
         CoreError::SectionNotFound
         | CoreError::FunctionNotFound
         | CoreError::InvalidAccessString { .. }
         | CoreError::InvalidInstructionIndex { .. }
-        | CoreError::InvalidAccessIndex { .. } => {
-            Some("`.BTF.ext` is damaged or of another file: compile the object again")
-        }
-        CoreError::ConflictingCandidates { .. } => {
-            Some("give types of a kernel that has one type of that name")
-        }
-        CoreError::MaximumNestingLevelReached { .. } => Some("access the field in steps"),
-        CoreError::InvalidInstruction { .. } => Some("read the field by `BPF_CORE_READ`"),
-        CoreError::InvalidRelocationKindForType { .. } => Some(
+        | CoreError::InvalidAccessIndex { .. } =>
+            "`.BTF.ext` is damaged or of another file: compile the object again",
+        CoreError::ConflictingCandidates { .. } =>
+            "give types of a kernel that has one type of that name",
+        CoreError::MaximumNestingLevelReached { .. } => "access the field in steps",
+        CoreError::InvalidInstruction { .. } => "read the field by `BPF_CORE_READ`",
+        CoreError::InvalidRelocationKindForType { .. } =>
             "the sign and the shifts are those of a member, a value is that of an enumeration",
-        ),
         CoreError::BtfError(_)
         | CoreError::MissingTargetDefinition { .. }
-        | CoreError::OutOfMemory => None,
-    }
+        | CoreError::OutOfMemory => return None,
+    })
 }
 
 /// What words give of a kernel.
@@ -63,66 +60,48 @@ fn variable_help(object: &Object, name: &str, given: Given) -> &'static str {
 
 /// What one can do about an extern that can't be resolved.
 fn resolving_help(object: &Object, error: &KsymsError, given: Given) -> Option<&'static str> {
-    match error {
-        KsymsError::TypedKsymRequiresKernelBtf => {
-            Some("give the kernel's types: `--btf /sys/kernel/btf/vmlinux`")
-        }
-        KsymsError::VariableNotFound { name, .. } => {
-            Some(variable_help(object, name.as_str(), given))
-        }
-        KsymsError::FunctionNotFound { .. } => Some(function_help(given)),
+    Some(match error {
+        KsymsError::TypedKsymRequiresKernelBtf =>
+            "give the kernel's types: `--btf /sys/kernel/btf/vmlinux`",
+        KsymsError::VariableNotFound { name, .. } => variable_help(object, name.as_str(), given),
+        KsymsError::FunctionNotFound { .. } => function_help(given),
         KsymsError::IncompatibleFunctionSignature { .. }
-        | KsymsError::IncompatibleVariableType { .. } => {
-            Some("declare it as this kernel has it, or `__weak`")
-        }
-        KsymsError::InvalidExternType { .. } => {
-            Some("declare it as a function or a variable with `__ksym`")
-        }
-        KsymsError::KallsymsAccessError(_) | KsymsError::KallsymsParseError(_) => {
-            Some("give the lines of /proc/kallsyms: address, letter, name")
-        }
-        KsymsError::AmbiguousResolution { .. } => {
-            Some("the kernel has two things of that name: take another")
-        }
-        KsymsError::BtfError(_) | KsymsError::OutOfMemory => None,
-    }
+        | KsymsError::IncompatibleVariableType { .. } =>
+            "declare it as this kernel has it, or `__weak`",
+        KsymsError::InvalidExternType { .. } =>
+            "declare it as a function or a variable with `__ksym`",
+        KsymsError::KallsymsAccessError(_) | KsymsError::KallsymsParseError(_) =>
+            "give the lines of /proc/kallsyms: address, letter, name",
+        KsymsError::AmbiguousResolution { .. } =>
+            "the kernel has two things of that name: take another",
+        KsymsError::BtfError(_) | KsymsError::OutOfMemory => return None,
+    })
 }
 
 /// What one can do about slots that can't be written or linked.
 fn slots_help(error: &RelocationError) -> Option<&'static str> {
-    match error {
+    Some(match error {
         RelocationError::UnknownSymbol { .. }
         | RelocationError::UnknownProgram { .. }
-        | RelocationError::InvalidLineInfo { .. } => {
-            Some("the object is damaged or was changed: compile it again")
-        }
-        RelocationError::SectionNotFound { .. } => Some(
+        | RelocationError::InvalidLineInfo { .. } =>
+            "the object is damaged or was changed: compile it again",
+        RelocationError::SectionNotFound { .. } =>
             "maps stand in \".maps\" or \"maps\", variables in \".data\", \".rodata\" or \".bss\"",
-        ),
-        RelocationError::InvalidRelocationOffset { .. } => Some(
+        RelocationError::InvalidRelocationOffset { .. } =>
             "`readelf -r` shows the relocation, `llvm-objdump -d` the instruction",
-        ),
-        RelocationError::ExternNotFound { .. } => {
-            Some("declare it with `__ksym` and compile with `-g`")
-        }
-        RelocationError::UnresolvableSymbol { .. } => {
-            Some("give the kernel's types: `--btf /sys/kernel/btf/vmlinux`; or declare it `__weak`")
-        }
-        RelocationError::MapAddressOverflow { .. } => {
-            Some("what is referred to lies 2 GiB or more into its section")
-        }
-        RelocationError::UnknownFunction { .. } => Some(
+        RelocationError::ExternNotFound { .. } => "declare it with `__ksym` and compile with `-g`",
+        RelocationError::UnresolvableSymbol { .. } =>
+            "give the kernel's types: `--btf /sys/kernel/btf/vmlinux`; or declare it `__weak`",
+        RelocationError::MapAddressOverflow { .. } =>
+            "what is referred to lies 2 GiB or more into its section",
+        RelocationError::UnknownFunction { .. } =>
             "the function isn't in this file: link the objects first, by `bpftool gen object`",
-        ),
-        RelocationError::UnsupportedTextSymbol { .. } => {
-            Some("`readelf -s` shows the symbol; take the address of a function")
-        }
-        RelocationError::FunctionInfoMismatch { .. } => {
-            Some("compile all functions with `-g`, or none")
-        }
-        RelocationError::ProgramTooLong { .. } => Some("split the program"),
-        RelocationError::OutOfMemory => None,
-    }
+        RelocationError::UnsupportedTextSymbol { .. } =>
+            "`readelf -s` shows the symbol; take the address of a function",
+        RelocationError::FunctionInfoMismatch { .. } => "compile all functions with `-g`, or none",
+        RelocationError::ProgramTooLong { .. } => "split the program",
+        RelocationError::OutOfMemory => return None,
+    })
 }
 
 /// What one can do about an object that a pass refuses.

@@ -1,25 +1,23 @@
 //! The passes over an object.
 
 use crate::kernel::Kernel;
-use crate::map_slots::MapSlots;
 use ebpf_base::Items;
 use ebpf_btf::Btf;
 use ebpf_object::Object;
 use ebpf_object::prepare::{PrepareError, Steps, SymbolText, prepare_copy};
 use ebpf_object::relocation::{LinkMap, ProgramMaps};
+use ebpf_report::map_uses::own_descriptors;
 use ebpf_report::programs::ObjectProgram;
 use std::alloc::{AllocError, Global};
 use std::collections::HashSet;
 
-/// Descriptors of an object's own maps: 1 and on, in byte order of their names.
-fn numbered(alloc: Global, object: &Object) -> Result<Vec<(&str, i32)>, AllocError> {
-    let mut descriptors = Vec::with_capacity(alloc, object.maps.len())?;
-    let mut descriptor: i32 = 0;
-    for (name, _) in object.maps.iter() {
-        descriptor = descriptor.saturating_add(1);
-        descriptors.push((name.as_str(), descriptor))?;
-    }
-    Ok(descriptors)
+/// What becomes of the slots that refer to maps.
+#[derive(Clone, Copy, PartialEq, Eq)]
+pub enum MapSlots {
+    /// They hold descriptors: 1 and on, in byte order of the maps' names.
+    Numbered,
+    /// They stay as they are in the file. Whether each refers to a map is looked at all the same.
+    Left,
 }
 
 /// Whether the passes up to that of the maps can be made, with descriptors of all maps.
@@ -70,7 +68,7 @@ fn write_all(
     kernel: &Kernel,
 ) -> Result<Object, PrepareError> {
     let types = kernel.types.as_ref();
-    let descriptors = numbered(alloc, object)?;
+    let descriptors = own_descriptors(alloc, object)?;
     match map_slots {
         MapSlots::Numbered => written(alloc, object, types, Some(&descriptors), &kernel.symbols),
         MapSlots::Left => {

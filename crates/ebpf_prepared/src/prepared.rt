@@ -1,17 +1,76 @@
 //! An object's file, read and prepared.
 
+ghost use Rattle.std.specs.Prelude.{ℕ, List, IfOk, IfErr};
+ghost use Rattle.ebpf_commands.specs.Linked.{default_passes};
+ghost use Rattle.ebpf_ksyms.specs.Sources.{Text as TextLines};
+ghost use Rattle.ebpf_object.specs.Headline.{Headline};
+ghost use Rattle.ebpf_object.specs.Prepared.{IsParsed, IsFirstPrepareFault, RefusesPreparing, Stages};
+ghost use Rattle.ebpf_parts.specs.declared.reading.Reading.{Reading};
+
 use crate::kernel::Kernel;
-use crate::map_slots::MapSlots;
 use crate::opened::{Opened, open_file};
-use crate::passes::{Passed, pass_all};
+use crate::passes::{MapSlots, Passed, pass_all};
 use crate::refusals::refuse_preparing;
-use crate::words::PrepareWords;
-use ebpf_base::Items;
+use ebpf_base::{Items, Text};
 use ebpf_btf::Btf;
+use ebpf_commands::{map_names, numbered_descriptors};
 use ebpf_object::Object;
+use ebpf_object::prepare::{PrepareError, Steps, SymbolText, prepare_copy};
 use ebpf_object::relocation::LinkMap;
 use ebpf_report::programs::ObjectProgram;
-use ebpf_report::stop::Stop;
+use ebpf_report::refuse::Stop;
+use std::alloc::Global;
+
+/// What is prepared: what a command line says of it.
+#[derive(Drop)]
+pub struct PrepareWords {
+    /// The object's file.
+    pub file: Text,
+    /// Which of the objects in the file, where it holds several.
+    pub object: Option<usize>,
+    /// The file with the kernel's types: raw ones, or an ELF file with a section `.BTF`.
+    pub btf: Option<Text>,
+    /// The file with the kernel's symbols, as /proc/kallsyms.
+    pub kallsyms: Option<Text>,
+    /// The file with the kernel's configuration, as /boot/config-RELEASE.
+    pub kconfig: Option<Text>,
+    /// The number of the kernel's version, as `version_number` gives it.
+    pub kernel: Option<u32>,
+    /// The programs that are chosen, where they are named.
+    pub programs: Items<Text>,
+    /// Whether a refusal is told as JSON too.
+    pub json: bool,
+}
+
+/// A copy of an object after all passes: types where the kernel's are known, descriptors of its maps, 1 and on in byte order
+/// of their names, externs, calls.
+///
+/// # Errors
+///
+/// Those of `prepare_copy`.
+pub fn finished_object(
+    alloc: Global,
+    object: &Object,
+    kernel: &Kernel,
+) -> Result<Object, PrepareError>
+    ensures stages { IfOk result (Stages (default_passes kernel.now.types object.now.maps) (TextLines kernel.now.symbols.items) object.now) }
+    ensures headline { (reading : Reading) (file : List ℕ) → IsParsed reading file object.now → IfOk result (Headline (default_passes kernel.now.types object.now.maps) (TextLines kernel.now.symbols.items) reading file) }
+    ensures refused { (reading : Reading) (file : List ℕ) → IsParsed reading file object.now → IfErr result (RefusesPreparing (IsFirstPrepareFault (default_passes kernel.now.types object.now.maps) (TextLines kernel.now.symbols.items) reading file)) }
+{
+    let Ok(names) = map_names(alloc, object) else {
+        return Err(PrepareError::OutOfMemory);
+    };
+    let Ok(descriptors) = numbered_descriptors(alloc, names.as_slice()) else {
+        return Err(PrepareError::OutOfMemory);
+    };
+    let types = kernel.types.as_ref();
+    prepare_copy(
+        alloc,
+        object,
+        &Steps::all_with(types, &descriptors),
+        SymbolText(&kernel.symbols),
+    )
+}
 
 /// An object, prepared, with what it was made of.
 #[derive(Drop)]

@@ -1,17 +1,18 @@
 //! Why an object can't be prepared, in words.
 
 use crate::pass_help::{Given, pass_help};
+use crate::prepared::PrepareWords;
 use crate::refused_slots::refused_slot;
-use crate::words::PrepareWords;
 use ebpf_core_relo::RelocationError as CoreError;
 use ebpf_ksyms::KsymsError;
 use ebpf_model::RelocationError;
 use ebpf_object::Object;
-use ebpf_object::prepare::PrepareError;
+use ebpf_object::prepare::PrepareError::{
+    self, Calls, Externs, Ksyms, Maps, OutOfMemory, Parse, Types,
+};
 use ebpf_parts::ParseError;
 use ebpf_report::refusal::{Refusal, help_of};
-use ebpf_report::refuse::refused;
-use ebpf_report::stop::Stop;
+use ebpf_report::refuse::{Stop, refused};
 use ebpf_variants::{
     variant_of_parsing, variant_of_relocation, variant_of_resolving, variant_of_type_relocation,
 };
@@ -20,47 +21,41 @@ use std::alloc::{AllocError, Global};
 /// Whether memory was refused.
 fn is_memory(error: &PrepareError) -> bool {
     match error {
-        PrepareError::Parse(error) => matches!(error, ParseError::OutOfMemory),
-        PrepareError::Types(refusal) => matches!(refusal.error, CoreError::OutOfMemory),
-        PrepareError::Ksyms(error) => matches!(error, KsymsError::OutOfMemory),
-        PrepareError::Maps(refusal)
-        | PrepareError::Externs(refusal)
-        | PrepareError::Calls(refusal) => matches!(refusal.error, RelocationError::OutOfMemory),
-        PrepareError::OutOfMemory => true,
+        Parse(error) => matches!(error, ParseError::OutOfMemory),
+        Types(refusal) => matches!(refusal.error, CoreError::OutOfMemory),
+        Ksyms(error) => matches!(error, KsymsError::OutOfMemory),
+        Maps(refusal) | Externs(refusal) | Calls(refusal) => {
+            matches!(refusal.error, RelocationError::OutOfMemory)
+        }
+        OutOfMemory => true,
     }
 }
 
 /// The stage that refused, as sentences of errors begin with it and as it is told, and the name of its error.
 fn stage_of(error: &PrepareError) -> (&'static str, &'static str, &'static str) {
     match error {
-        PrepareError::Parse(error) => ("parse: ", "parse", variant_of_parsing(error)),
-        PrepareError::Types(refusal) => {
-            (
-                "types: ",
-                "types",
-                variant_of_type_relocation(&refusal.error),
-            )
-        }
-        PrepareError::Maps(refusal) => ("maps: ", "maps", variant_of_relocation(&refusal.error)),
-        PrepareError::Ksyms(error) => ("ksyms: ", "externs", variant_of_resolving(error)),
-        PrepareError::Externs(refusal) => {
-            (
-                "externs: ",
-                "externs",
-                variant_of_relocation(&refusal.error),
-            )
-        }
-        PrepareError::Calls(refusal) => ("calls: ", "calls", variant_of_relocation(&refusal.error)),
-        PrepareError::OutOfMemory => ("", "memory", "OutOfMemory"),
+        Parse(error) => ("parse: ", "parse", variant_of_parsing(error)),
+        Types(refusal) => (
+            "types: ",
+            "types",
+            variant_of_type_relocation(&refusal.error),
+        ),
+        Maps(refusal) => ("maps: ", "maps", variant_of_relocation(&refusal.error)),
+        Ksyms(error) => ("ksyms: ", "externs", variant_of_resolving(error)),
+        Externs(refusal) => (
+            "externs: ",
+            "externs",
+            variant_of_relocation(&refusal.error),
+        ),
+        Calls(refusal) => ("calls: ", "calls", variant_of_relocation(&refusal.error)),
+        OutOfMemory => ("", "memory", "OutOfMemory"),
     }
 }
 
 /// The function that an error is about, and the slot of it, where they can be told.
 fn place_of<'a>(object: &Object, error: &'a PrepareError) -> Option<(&'a str, usize)> {
     match error {
-        PrepareError::Maps(refusal)
-        | PrepareError::Externs(refusal)
-        | PrepareError::Calls(refusal) => {
+        Maps(refusal) | Externs(refusal) | Calls(refusal) => {
             let slot = refused_slot(object, refusal)?;
             Some((refusal.function.as_str(), slot))
         }

@@ -1,11 +1,10 @@
 //! Why externs of the kernel's configuration can't be defined, in words.
 
+use crate::prepared::PrepareWords;
 use crate::settings::number_by_version;
-use crate::words::PrepareWords;
 use ebpf_kconfig::KconfigError;
 use ebpf_report::refusal::{Refusal, help_of};
-use ebpf_report::refuse::refused;
-use ebpf_report::stop::Stop;
+use ebpf_report::refuse::{Stop, refused};
 use std::alloc::{AllocError, Global};
 
 /// What one can do about an extern of a name that has no value; `has_config` where a configuration is given.
@@ -33,27 +32,21 @@ fn suiting_help(name: &str) -> &'static str {
 
 /// What one can do about externs that can't be defined.
 fn kconfig_help(error: &KconfigError, has_config: bool) -> Option<&'static str> {
-    match error {
-        KconfigError::NotAVariable { .. } => {
-            Some("declare it as a variable with `__kconfig`, not as a function")
-        }
-        KconfigError::UnreadableName { .. } => {
-            Some("the type information is damaged: look at it with `bpftool btf dump file FILE`")
-        }
-        KconfigError::UnknownName { .. } => {
-            Some("name it as the kernel's configuration does, or as a value that loaders know")
-        }
-        KconfigError::UnsupportedType { .. } => Some(
+    Some(match error {
+        KconfigError::NotAVariable { .. } =>
+            "declare it as a variable with `__kconfig`, not as a function",
+        KconfigError::UnreadableName { .. } =>
+            "the type information is damaged: look at it with `bpftool btf dump file FILE`",
+        KconfigError::UnknownName { .. } =>
+            "name it as the kernel's configuration does, or as a value that loaders know",
+        KconfigError::UnsupportedType { .. } =>
             "declare it as `bool`, `enum libbpf_tristate`, `char`, an integer or `char NAME[N]`",
-        ),
-        KconfigError::NoValue { name } => Some(value_help(name.as_str(), has_config)),
-        KconfigError::TooLarge => Some("declare shorter arrays of char"),
-        KconfigError::UnsuitedValue { name } => Some(suiting_help(name.as_str())),
-        KconfigError::ValueOutOfRange { .. } => {
-            Some("declare it with a larger integer, or a signed one")
-        }
-        KconfigError::WrongSize { .. } | KconfigError::OutOfMemory => None,
-    }
+        KconfigError::NoValue { name } => value_help(name.as_str(), has_config),
+        KconfigError::TooLarge => "declare shorter arrays of char",
+        KconfigError::UnsuitedValue { name } => suiting_help(name.as_str()),
+        KconfigError::ValueOutOfRange { .. } => "declare it with a larger integer, or a signed one",
+        KconfigError::WrongSize { .. } | KconfigError::OutOfMemory => return None,
+    })
 }
 
 /// The sentence of an error.

@@ -3,13 +3,13 @@ use Rattle.std.proofs.Common.{◌≡◌, ℕ, zero, suc, Bool, true, List, [], �
 use Rattle.std.specs.Prelude.{is_some, slice_get}
 use Rattle.ebpf_reach.specs.declared.registers.Registers.{Registers}
 use Rattle.ebpf_reach.specs.declared.steps.SlotState.{SlotState}
-use Rattle.ebpf_reach.specs.Registers.{IsBelow, unknown}
+use Rattle.ebpf_reach.specs.Effects.{IsBelow, unknown}
 use Rattle.ebpf_reach.specs.Steps.{steps}
 use Rattle.ebpf_reach.specs.Reached.{AreBelow, Assignment, Holds, IsStateBelow, reached, state_at}
 use Rattle.ebpf_reach.specs.Visits.{AnswerIsOne, AreNumbers, Begins, GoesOn, IsStep, MachinesAreReached, AnswersCoverMachines}
 use Rattle.ebpf_reach.proofs.Order.{below_through}
-use Rattle.ebpf_reach.proofs.Upward.{leads_held, steps_below}
-use Rattle.ebpf_reach.proofs.Searching.{nothing_there}
+use Rattle.ebpf_reach.proofs.Monotone.{leads_held, steps_below}
+use Rattle.ebpf_reach.proofs.Visiting.{nothing_there}
 
 same_flag : (x y : Option Registers) → IsStateBelow x y → IsStateBelow y x → is_some x ≡ is_some y
 same_flag None None p q = refl

@@ -1,10 +1,5 @@
-pub mod Meeting
+pub mod Monotone
 pub mod Order
 pub mod Flows
-pub mod Monotone
-pub mod Upward
-pub mod Intake
-pub mod Searching
-pub mod Sameness
-pub mod Lawful
 pub mod Visiting
+pub mod Lawful

@@ -1,11 +1,14 @@
 -- The order of what is known of registers.
-use Rattle.std.proofs.Common.{◌≡◌, ◌≢◌, ℕ, zero, suc, ◌<◌, ◌≤◌, ◌⊎◌, Bool, cond, List, [], ◌∷◌, length, Option, Some, None, refl, sym, ap, ◌∙◌, subst, inl, inr, arith, set, get_or, length-set, get_or-set_same, get_or-set_other}
+use Rattle.std.proofs.Common.{◌≡◌, ◌≢◌, ℕ, zero, suc, ◌<◌, ◌≤◌, ◌⊎◌, Bool, cond, List, [], ◌∷◌, length, Option, Some, None, refl, sym, ap, ◌∙◌, subst, inl, inr, arith, set, get_or, length-set, get_or-set_same, get_or-set_other, true, false, Result, Ok, Err, eqb}
 use Rattle.std.proofs.lemmas.List.{set_past}
 use Rattle.std.proofs.lemmas.Bool.Decides.{eqb_tells, leb_tells, nat_tests}
-use Rattle.ebpf_reach.specs.declared.registers.Registers.{Registers}
-use Rattle.ebpf_reach.specs.Registers.{IsBelow, known, learned, forgotten, called}
+use Rattle.std.specs.Prelude.{OnOk}
+use Rattle.std.specs.Option.{option_eq}
+use lib.Pointwise.{pointwise, pointwise_decides}
+use Rattle.ebpf_reach.specs.Effects.{IsBelow, known, learned, forgotten, called}
 use Rattle.ebpf_reach.specs.PrivateContracts.{common, commons, least_upper_bound}
-use Rattle.ebpf_reach.specs.Counted.{numbers_known}
+use Rattle.ebpf_reach.specs.Reached.{numbers_known}
+use Rattle.ebpf_reach.specs.declared.registers.Registers.{Registers}
 
 -- what y tells, x tells too
 abbrev pub Tells : {A : Type 0} → Option A → Option A → Type 0
@@ -130,3 +133,31 @@ fewer_known (Some m ∷ xs) (Some k ∷ ys) h =
       | inl same ↦ subst (λ (b : Bool). (cond b (Some m) None ∷ commons xs ys ≡ Some m ∷ xs) ⊎ (numbers_known (cond b (Some m) None ∷ commons xs ys) < numbers_known (Some m ∷ xs))) (sym same.0) (fewer_with (Some m) xs (commons xs ys) rest)
       | inr other ↦ subst (λ (b : Bool). (cond b (Some m) None ∷ commons xs ys ≡ Some m ∷ xs) ⊎ (numbers_known (cond b (Some m) None ∷ commons xs ys) < numbers_known (Some m ∷ xs))) (sym other.0) (inr (omega arith))
     ]
+
+-- ---- what a comparison of registers tells, and what an answer tells where it is no want of memory
+
+same_number : (m n : ℕ) → eqb m n ≡ true → m ≡ n
+same_number m n h = grind (arith, nat_tests)
+
+equal_number : (m n : ℕ) → m ≡ n → eqb m n ≡ true
+equal_number m n h = grind (arith, nat_tests)
+
+option_decides : (x y : Option ℕ) → (option_eq eqb x y ≡ true → x ≡ y) × (x ≡ y → option_eq eqb x y ≡ true)
+option_decides None None = (λ h. refl, λ h. refl)
+option_decides None (Some n) = (λ h. cc, λ h. cc)
+option_decides (Some m) None = (λ h. cc, λ h. cc)
+option_decides (Some m) (Some n) = (λ h. ap Some (same_number m n h), λ h. equal_number m n (let e : Some m ≡ Some n = h in cc))
+
+pub registers_same : (a b : Registers) → true ≡ pointwise (option_eq eqb) a.numbers b.numbers → a ≡ b
+registers_same a b h =
+    let make : List (Option ℕ) → Registers = λ numbers. record { numbers = numbers } in
+    ap make ((pointwise_decides option_decides a.numbers b.numbers).0 (sym h))
+
+pub registers_apart : (a b : Registers) → false ≡ pointwise (option_eq eqb) a.numbers b.numbers → a ≢ b
+registers_apart a b h e =
+    let t : pointwise (option_eq eqb) a.numbers b.numbers ≡ true = (pointwise_decides option_decides a.numbers b.numbers).1 (ap (λ (u : Registers). u.numbers) e) in
+    cc
+
+pub on_ok_both : {T E P Q R : Type 0} (r : Result T E) → OnOk r P → OnOk r Q → (P → Q → R) → OnOk r R
+on_ok_both (Ok x) p q f = f p q
+on_ok_both (Err e) p q f = tt

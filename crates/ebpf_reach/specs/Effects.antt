@@ -1,15 +1,38 @@
--- What a slot does to the registers (RFC 9669, sections 4 and 5).
-use Rattle.std.specs.Prelude.{ℕ, ◌+◌, ◌*◌, ◌/◌, ◌%◌, ◌^◌, pos, Bool, ◌&&◌, Option, Some, None, List, slice_get, if◌then◌else◌, ◌==◌}
+-- What is known of the registers where a slot is reached (RFC 9669, section 2.1: a program has r0 to r10).
+use Rattle.std.specs.Prelude.{◌≡◌, ℕ, Option, Some, None, length, replicate, slice_index_or, slice_set, ◌+◌, ◌*◌, ◌/◌, ◌%◌, ◌^◌, pos, Bool, ◌&&◌, List, slice_get, if◌then◌else◌, ◌==◌}
 use Rattle.std.specs.Option.{option_and_then, option_map}
 use Rattle.std.specs.Int.{w32, w64, cast_unsigned}
 use Rattle.std.specs.Ordering.{int_eq}
+use Rattle.ebpf_parts.specs.Slots.{call, class_alu, class_alu64, class_jmp32, class_ld, class_ldx, class_st, class_stx, dst_of, src_of}
 use Rattle.ebpf_parts.specs.declared.insn.bpf_insn.{bpf_insn}
-use Rattle.ebpf_parts.specs.Opcodes.{call, class_alu, class_alu64, class_jmp32, class_ld, class_ldx, class_st, class_stx}
-use Rattle.ebpf_parts.specs.Slots.{dst_of, src_of}
+use Rattle.ebpf_reach.specs.Arithmetic.{computed, negated, extended_32, extended_64, truncated, swapped, compared}
 use Rattle.ebpf_reach.specs.declared.registers.Registers.{Registers}
-use Rattle.ebpf_reach.specs.Registers.{known, unknown, learned, forgotten, called}
-use Rattle.ebpf_reach.specs.Arithmetic.{computed, negated, extended_32, extended_64, truncated, swapped}
-use Rattle.ebpf_reach.specs.Comparisons.{compared}
+
+-- the number that a register is known to hold; none is known of a register that there isn't
+abbrev pub known : Registers → ℕ → Option ℕ
+known a r = slice_index_or a.numbers r None
+
+-- nothing known of any
+abbrev pub unknown : Registers
+unknown = record { numbers = replicate 11 None }
+
+-- the same but for one register
+abbrev pub learned : Registers → ℕ → Option ℕ → Registers
+learned a r n = record { numbers = slice_set a.numbers r n }
+
+abbrev pub forgotten : Registers → ℕ → Registers
+forgotten a r = learned a r None
+
+-- The same behind a call: r0 has its answer, r1 to r5 are the caller's to save (RFC 9669, section 2.1).
+abbrev pub called : Registers → Registers
+called a = forgotten (forgotten (forgotten (forgotten (forgotten (forgotten a 0) 1) 2) 3) 4) 5
+
+-- The order: a is below b where a knows each number that b knows. So a known number is below nothing known.
+pub record IsBelow (a b : Registers) : Type 0 where
+  pub as_many : length a.numbers ≡ length b.numbers
+  pub numbers : (r n : ℕ) → known b r ≡ Some n → known a r ≡ Some n
+
+-- ---- what a slot does to the registers (RFC 9669, sections 4 and 5)
 
 -- A code is a class in the low three bits, whether the source is a register, and an operation in the high four.
 abbrev pub class : bpf_insn → ℕ

@@ -2,12 +2,11 @@
 use Rattle.std.specs.Prelude.{◌≡◌, ℕ, zero, suc, ◌<◌, ℤ, pos, negsuc, Bool, IsSome, Option, Some, None, List, [], ◌∷◌, length, ⊤, ◌⊎◌, true, slice_get}
 use Rattle.std.specs.Option.{option_and_then}
 use Rattle.ebpf_parts.specs.declared.insn.bpf_insn.{bpf_insn}
-use Rattle.ebpf_linker.specs.Slots.{Flow, Branch, flow, slot_at_integer}
+use Rattle.ebpf_linker.specs.Functions.{Flow, Branch, flow, slot_at_integer}
 use Rattle.ebpf_linker.specs.Machine.{State, StepResult, Goes, Ends, Waits, Leaves, run_steps, begin, flat_code, step_at}
 use Rattle.ebpf_reach.specs.declared.registers.Registers.{Registers}
 use Rattle.ebpf_reach.specs.declared.steps.SlotState.{SlotState}
-use Rattle.ebpf_reach.specs.Registers.{IsBelow, known}
-use Rattle.ebpf_reach.specs.Effects.{decided}
+use Rattle.ebpf_reach.specs.Effects.{IsBelow, known, decided}
 use Rattle.ebpf_reach.specs.Steps.{steps}
 use Rattle.ebpf_reach.specs.Reached.{Assignment, AreReached, IsClosed, state_at}
 

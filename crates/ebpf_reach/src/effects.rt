@@ -8,8 +8,7 @@ use crate::arithmetic::{
     computed_32, computed_64, extended_32, extended_64, low_32, negated_32, negated_64, swapped,
     truncated,
 };
-use crate::comparisons::{compared_32, compared_64};
-use crate::registers::Registers;
+use crate::registers::{Registers, compared_32, compared_64};
 use ebpf_parts::insn::bpf_insn;
 use ebpf_parts::insn::opcodes::{ALU, ALU64, CALL, JMP32, LD, LDX, ST, STX};
 

@@ -2,7 +2,6 @@
 #![tactic(auto)]
 
 mod arithmetic;
-mod comparisons;
 mod effects;
 pub mod laws;
 mod registers;

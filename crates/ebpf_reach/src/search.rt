@@ -2,9 +2,8 @@
 
 ghost use Rattle.std.specs.Prelude.{◌≡◌, ◌<◌, [], ◌∷◌, ◌++◌, length, vec_len, IfOk, IfSome, None, OnOk, Some, replicate, slice_set};
 ghost use Rattle.std.specs.Option.{option_to_list};
-ghost use Rattle.ebpf_reach.specs.Reached.{AreReached, IsLeast, reached, state_at};
+ghost use Rattle.ebpf_reach.specs.Reached.{AreReached, IsLeast, reached, state_at, Searched, TakesIn, steps_if_reached};
 ghost use Rattle.ebpf_reach.specs.Steps.{steps};
-ghost use Rattle.ebpf_reach.specs.Searched.{Searched, TakesIn, steps_if_reached};
 
 use crate::registers::Registers;
 use crate::steps::{SlotState, step_to, steps_from};

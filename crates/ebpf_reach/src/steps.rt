@@ -2,7 +2,7 @@
 
 ghost use Rattle.std.specs.Prelude.{◌≡◌, ◌+◌, ◌<◌, pos, length, IfSome};
 ghost use Rattle.std.specs.Option.{option_to_list};
-ghost use Rattle.ebpf_linker.specs.Slots.{flow, is_branch};
+ghost use Rattle.ebpf_linker.specs.Functions.{flow, is_branch};
 ghost use Rattle.ebpf_reach.specs.Effects.{decided};
 ghost use Rattle.ebpf_reach.specs.Steps.{next_index, callback, steps_by_flow, target_index, steps_to, steps, ways};
 ghost use Rattle.ebpf_reach.specs.PrivateContracts.{AreWithin, pair_to_list};

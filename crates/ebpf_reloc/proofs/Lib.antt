@@ -1,12 +1,5 @@
 pub mod Modulo
-pub mod Searched
-pub mod CallSteps
-pub mod ByNumber
 pub mod Keys
-pub mod NumberedKeys
 pub mod CallsRefer
-pub mod Finished
 pub mod SoFar
 pub mod OneResult
-pub mod KeyedLinkMaps
-pub mod OneLinkMap

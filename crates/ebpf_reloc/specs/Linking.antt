@@ -1,20 +1,39 @@
--- What linking the programs of an object gives.
-use Rattle.std.specs.Prelude.{◌≡◌, ◌<◌, ℕ, List, ◌∷◌, Some, slice_get, unwrap_or, MatchOption}
+-- What linking the programs of an object gives, and what the linked program of each is made of.
+use Rattle.std.specs.Prelude.{◌≡◌, List, map, Some, ◌<◌, ℕ, ◌∷◌, slice_get, unwrap_or, MatchOption}
 use Rattle.std.specs.FinMap.{FinMap, get, contains_key}
 use Rattle.std.specs.List.{list_any}
 use Rattle.std.specs.Ordering.{eq_by_cmp}
 use Rattle.ebpf_base.specs.Keys.{key_cmp}
-use Rattle.ebpf_linker.specs.declared.body.LinkedProgram.{LinkedProgram}
 use Rattle.ebpf_linker.specs.Faults.{LeastFault, checked_references}
+use Rattle.ebpf_linker.specs.LinkMap.{CopyOf, IsLinkMap}
 use Rattle.ebpf_linker.specs.Machine.{SameVisits, OnCallsOrLoads}
 use Rattle.ebpf_linker.specs.Result.{IsProgram}
+use Rattle.ebpf_linker.specs.declared.body.LinkedProgram.{LinkedProgram}
+use Rattle.ebpf_model.specs.Symbols.{FunctionKey, key_address, key_section}
 use Rattle.ebpf_model.specs.declared.error.EbpfRelocationError.{EbpfRelocationError}
 use Rattle.ebpf_model.specs.declared.error.RelocationError.{RelocationError}
 use Rattle.ebpf_model.specs.declared.error.RelocationError.TheVariants.{UnknownProgram}
 use Rattle.ebpf_model.specs.declared.function.Function.{Function}
+use Rattle.ebpf_reloc.specs.References.{name_at, functions_of}
 use Rattle.ebpf_reloc.specs.SlotTargets.{LinkableValue}
-use Rattle.ebpf_model.specs.Keys.{FunctionKey, key_address, key_section}
-use Rattle.ebpf_reloc.specs.References.{functions_of}
+use Rattle.ebpf_reloc.specs.declared.link_map.CodeCopy.{CodeCopy}
+use Rattle.ebpf_reloc.specs.declared.link_map.LinkMap.{LinkMap}
+
+-- a copy, with the name of its function
+abbrev pub code_copy : FinMap key_cmp Function → CopyOf FunctionKey → CodeCopy
+code_copy functions c = record { key = c.key; name = name_at functions c.key; base = c.base; slots = c.slots }
+
+-- m is the link map of the program at a key: that program, and each function that it reaches, in the order of their key
+-- paths, with their names; and the references of them all, in the order of their places
+pub record IsLinkMapAt (parts : LinkableValue) (key : FunctionKey) (m : LinkMap) : Type 0 where
+  pub function : Function
+  pub stands : get parts.functions key ≡ Some function
+  pub order : List FunctionKey
+  pub copies : List (CopyOf FunctionKey)
+  pub program : IsLinkMap (functions_of parts) key order copies m.references
+  pub named : m.copies ≡ map (code_copy parts.functions) copies
+
+-- ---- what linking the programs of an object gives
 
 -- a program: its name, and the section and the address of its function
 pub record ProgramValue : Type 0 where

@@ -5,7 +5,7 @@ use Rattle.std.specs.Map.{keys_of}
 use Rattle.ebpf_base.specs.Keys.{key_cmp}
 use Rattle.ebpf_linker.specs.declared.reference.Fault.{Fault}
 use Rattle.ebpf_linker.specs.declared.reference.Fault.TheVariants.{UnsupportedTextSymbol, UnknownFunction, FunctionInfoMismatch, ProgramTooLong, InvalidLineInfo}
-use Rattle.ebpf_model.specs.Keys.{FunctionKey}
+use Rattle.ebpf_model.specs.Symbols.{FunctionKey}
 use Rattle.ebpf_model.specs.declared.error.RelocationError.{RelocationError}
 use Rattle.ebpf_model.specs.declared.error.RelocationError.TheVariants.{UnsupportedTextSymbol as NoTextSymbol, UnknownFunction as NoFunction, FunctionInfoMismatch as Mismatch, ProgramTooLong as TooLong, InvalidLineInfo as StrayLine}
 use Rattle.ebpf_model.specs.declared.function.Function.{Function}

@@ -4,12 +4,12 @@ use Rattle.std.specs.declared.alloc.Global.{Global}
 use Rattle.ebpf_linker.specs.declared.link_map.NumberedCopy.{NumberedCopy}
 use Rattle.ebpf_linker.specs.declared.body.Body.{Body}
 use Rattle.ebpf_linker.specs.declared.layout.Layout.{Layout}
-use Rattle.ebpf_linker.specs.Ready.{IsLaidOut}
+use Rattle.ebpf_linker.specs.Copies.{IsLaidOut}
 use Rattle.ebpf_model.specs.declared.function.Function.{Function}
 use Rattle.ebpf_reloc.specs.declared.link_map.CodeCopy.{CodeCopy}
 use Rattle.ebpf_reloc.specs.Numbers.{function_keys, key_in, function_name}
 use Rattle.ebpf_reloc.specs.SlotTargets.{LinkableValue, slot_target_of}
-use Rattle.ebpf_model.specs.Keys.{FunctionKey}
+use Rattle.ebpf_model.specs.Symbols.{FunctionKey}
 use Rattle.std.specs.List.{position_from}
 use Rattle.std.specs.Ordering.{eq_by_cmp}
 use Rattle.ebpf_base.specs.Keys.{key_cmp}

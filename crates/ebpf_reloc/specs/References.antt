@@ -4,7 +4,7 @@ use Rattle.std.specs.FinMap.{FinMap, get, contains_key}
 use Rattle.ebpf_base.specs.Keys.{key_cmp}
 use Rattle.ebpf_linker.specs.Functions.{SlotReference, Nothing, Faulty, Names, FunctionContent, Functions}
 use Rattle.ebpf_parts.specs.declared.insn.bpf_insn.{bpf_insn}
-use Rattle.ebpf_model.specs.Keys.{FunctionKey}
+use Rattle.ebpf_model.specs.Symbols.{FunctionKey}
 use Rattle.ebpf_model.specs.declared.error.RelocationError.{RelocationError}
 use Rattle.ebpf_model.specs.declared.error.RelocationError.TheVariants.{UnsupportedTextSymbol, UnknownFunction, FunctionInfoMismatch, ProgramTooLong, InvalidLineInfo}
 use Rattle.ebpf_model.specs.declared.function.Function.{Function}

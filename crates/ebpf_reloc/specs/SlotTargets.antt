@@ -4,9 +4,9 @@ use Rattle.std.specs.FinMap.{FinMap, get}
 use Rattle.std.specs.Int.{int_rem_euclid}
 use Rattle.std.specs.Ordering.{nat_cmp}
 use Rattle.ebpf_base.specs.Keys.{key_cmp}
-use Rattle.ebpf_elf.specs.declared.entries.ElfRelocation.{ElfRelocation}
-use Rattle.ebpf_elf.specs.declared.entries.SymbolKind.{SymbolKind}
-use Rattle.ebpf_elf.specs.declared.entries.SymbolKind.TheVariants.{Text, Section}
+use Rattle.ebpf_elf.specs.declared.relocation.ElfRelocation.{ElfRelocation}
+use Rattle.ebpf_elf.specs.declared.symbol.SymbolKind.{SymbolKind}
+use Rattle.ebpf_elf.specs.declared.symbol.SymbolKind.TheVariants.{Text, Section}
 use Rattle.ebpf_parts.specs.declared.insn.bpf_insn.{bpf_insn}
 use Rattle.ebpf_parts.specs.Slots.{is_pseudo_call}
 use Rattle.ebpf_model.specs.declared.function.Function.{Function}
@@ -14,8 +14,7 @@ use Rattle.ebpf_reloc.specs.declared.linkable.Linkable.{Linkable}
 use Rattle.ebpf_reloc.specs.declared.slot_target.SlotTarget.{SlotTarget}
 use Rattle.ebpf_reloc.specs.declared.slot_target.SlotTarget.TheVariants.{Absent, Unsupported, At}
 use Rattle.ebpf_model.specs.declared.symbol.Symbol.{Symbol}
-use Rattle.ebpf_model.specs.Symbols.{is_extern}
-use Rattle.ebpf_model.specs.TextSections.{TextSections, text_sections_in}
+use Rattle.ebpf_model.specs.Symbols.{is_extern, TextSections, text_sections_in}
 use Rattle.ebpf_model.specs.Walks.{found_at}
 
 -- what is read of an object to tell what its slots refer to

@@ -3,13 +3,13 @@
 ghost use Rattle.std.specs.Prelude.{◌≡◌, ◌+◌, ◌*◌, length, map, IfOk, OnOk};
 ghost use Rattle.std.specs.FinMap.{get};
 ghost use Rattle.ebpf_reloc.specs.PrivateContracts.{numbered_target, calls_of, calls_from};
-ghost use Rattle.ebpf_model.specs.Walks.{found_at, walked_relocations, IsBefore, IsWithinFunction};
+ghost use Rattle.ebpf_model.specs.Walks.{walked_relocations, IsBefore};
 ghost use Rattle.ebpf_reloc.specs.SlotTargets.{slot_target_of, relocation_of, read};
 ghost use Rattle.std.specs.List.Sorted.{IsStrictlySortedBy};
 ghost use Rattle.ebpf_base.specs.Keys.{key_cmp};
 
-use crate::key_numbers::KeyNumbers;
 use crate::linkable::Linkable;
+use crate::numbers::KeyNumbers;
 use crate::slot_target::{SlotTarget, own_target, relocated_target};
 use ebpf_linker::{Call, Fault, Target};
 use ebpf_model::{Function, Walk};
@@ -62,7 +62,7 @@ fn count_calls(slots: &[bpf_insn]) -> usize {
 
 /// The calls of the function with this number, in the order of its slots. The walk, which has not passed the function,
 /// goes on to its last slot.
-#[tactic(auto, using(crate::proofs::CallSteps::call_here, crate::proofs::CallSteps::no_call_here, crate::proofs::CallSteps::calls_end, crate::proofs::CallSteps::next_slot))]
+#[tactic(auto, using(crate::proofs::CallsRefer::call_here, crate::proofs::CallsRefer::no_call_here, crate::proofs::CallsRefer::calls_end, crate::proofs::CallsRefer::next_slot))]
 fn calls_of(
     alloc: Global,
     parts: &Linkable<'_>,
@@ -91,7 +91,7 @@ fn calls_of(
 }
 
 /// The calls of each function, which are numbered from 0 on.
-#[tactic(auto, using(crate::proofs::CallSteps::function_here, crate::proofs::CallSteps::functions_end))]
+#[tactic(auto, using(crate::proofs::CallsRefer::function_here, crate::proofs::CallsRefer::functions_end))]
 pub fn all_calls(
     alloc: Global,
     parts: &Linkable<'_>,

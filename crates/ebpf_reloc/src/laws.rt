@@ -1,7 +1,6 @@
 //! What follows of linked programs.
 
-ghost use Rattle.ebpf_reloc.specs.Laws.{OneResult, OneProgram, OwnSlotsStay, CopiedSlotsStay};
-ghost use Rattle.ebpf_reloc.specs.LinkMapLaws.{OneLinkMap, OneLinkMapAnswer, RefusedAsLinking, LinkMapsMatch, WithLinkMapAreLinked, FirstWithoutLinkMap, AllWithLinkMaps};
+ghost use Rattle.ebpf_reloc.specs.Laws.{OneResult, OneProgram, OwnSlotsStay, CopiedSlotsStay, OneLinkMap, OneLinkMapAnswer, RefusedAsLinking, LinkMapsMatch, WithLinkMapAreLinked, FirstWithoutLinkMap, AllWithLinkMaps};
 
 /// What `relocate_calls` promises leaves one result, want of memory aside: the functions, the order of the copies
 /// in each, and the error. It follows from the functions, symbols, relocations, sections and programs as values,

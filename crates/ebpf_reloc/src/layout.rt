@@ -53,7 +53,7 @@ impl<'a> NumberedFunctions<'a> {
 
 impl NumberedFunctions<'_> {
     /// The layout of a program.
-    #[tactic(auto, using(crate::proofs::Finished::with_name))]
+    #[tactic(auto, using(crate::proofs::SoFar::with_name))]
     pub(crate) fn layout(
         &self,
         alloc: Global,

@@ -2,7 +2,6 @@
 #![tactic(auto)]
 
 mod calls;
-mod key_numbers;
 pub mod laws;
 mod layout;
 mod link_map;

@@ -1,10 +1,9 @@
 //! What the linked program of a program is made of.
 
 ghost use Rattle.std.specs.Prelude.{◌≡◌, ◌<◌, length, map, IfOk, IfErr, ⊤, MatchBool};
-ghost use Rattle.ebpf_linker.specs.Ready.{IsLaidOut};
-ghost use Rattle.ebpf_reloc.specs.LinkMaps.{IsLinkMapAt};
+ghost use Rattle.ebpf_linker.specs.Copies.{IsLaidOut};
+ghost use Rattle.ebpf_reloc.specs.Linking.{IsLinkMapAt, key_of, IsProgramRefusal};
 ghost use Rattle.ebpf_reloc.specs.PrivateContracts.{named_copy};
-ghost use Rattle.ebpf_reloc.specs.Linking.{key_of, IsProgramRefusal};
 ghost use Rattle.ebpf_model.specs.Memory.{is_memory_at, NamesNoneForMemory};
 ghost use Rattle.ebpf_reloc.specs.Numbers.{function_keys, key_in};
 ghost use Rattle.ebpf_reloc.specs.SlotTargets.{read};

@@ -2,7 +2,7 @@
 
 ghost use Rattle.std.specs.Prelude.{◌≡◌, ◌<◌, length, true, IfOk, OnOk, IfErr, Some, ⊤, MatchBool, slice_get};
 ghost use Rattle.std.specs.FinMap as map;
-ghost use Rattle.ebpf_linker.specs.Ready.{IsLaidOut};
+ghost use Rattle.ebpf_linker.specs.Copies.{IsLaidOut};
 ghost use Rattle.ebpf_reloc.specs.Linking.{ProgramValue, key_of, with_linked, IsLinked, IsProgramRefusal, AreLinked, IsFirstRefusal};
 ghost use Rattle.ebpf_model.specs.Memory.{is_memory_at, NamesNoneForMemory};
 ghost use Rattle.ebpf_reloc.specs.Numbers.{function_keys, function_list, key_in};

@@ -48,7 +48,7 @@ fn body_of<'a>(function: &'a Function) -> Body<'a>
 }
 
 /// What is linked of each function.
-#[tactic(auto, using(crate::proofs::CallSteps::body_here, crate::proofs::CallSteps::bodies_end))]
+#[tactic(auto, using(crate::proofs::CallsRefer::body_here, crate::proofs::CallsRefer::bodies_end))]
 fn bodies_of<'a>(alloc: Global, functions: &[&'a Function]) -> Result<Vec<Body<'a>>, AllocError>
     ensures { IfOk result (λ bodies. map body_content bodies.items ≡ map content_of (map (λ f. f.now) functions.now)) }
 {

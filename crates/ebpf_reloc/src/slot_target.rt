@@ -1,8 +1,7 @@
 //! What slots refer to.
 
 ghost use Rattle.std.specs.Prelude.{◌≡◌, ◌+◌, ◌*◌, ◌%◌, ◌^◌, pos, ◌+ℤ◌, ◌*ℤ◌};
-ghost use Rattle.std.specs.Option.{option_copied};
-ghost use Rattle.ebpf_model.specs.TextSections.{text_sections_in};
+ghost use Rattle.ebpf_model.specs.Symbols.{text_sections_in};
 ghost use Rattle.ebpf_reloc.specs.SlotTargets.{modulo, is_usable, reference_address, symbol_target, relocated_target, own_target, read};
 
 use crate::linkable::Linkable;

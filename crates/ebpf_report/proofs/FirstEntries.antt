@@ -8,7 +8,7 @@ use Rattle.std.specs.declared.cmp.Ordering.{Ordering}
 use Rattle.ebpf_base.specs.Mapped.{map_values, mapped_entries}
 use Rattle.ebpf_base.proofs.Mapped.{map_values-from_get}
 use Rattle.ebpf_base.proofs.Orderings.{is_equal}
-use Rattle.ebpf_report.specs.FirstEntries.{put_first, put_firsts}
+use Rattle.ebpf_report.specs.HelperCalls.{put_first, put_firsts}
 
 or_none : {X : Type 0} (x : Option X) → x ≡ option_or x None
 or_none None = refl

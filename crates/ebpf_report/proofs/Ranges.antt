@@ -1,5 +1,5 @@
 -- The relocations of a range: those up to its end, of those from its begin on, where offsets rise.
-use Rattle.std.proofs.Common.{◌≡◌, ℕ, ◌<◌, ◌≤◌, Bool, true, false, ◌&&◌, T, List, [], ◌∷◌, refl, sym, ap, ◌∙◌, arith}
+use Rattle.std.proofs.Common.{◌≡◌, ℕ, Bool, true, false, ◌&&◌, T, List, [], ◌∷◌, refl, sym, ap, ◌∙◌, arith}
 use Rattle.std.specs.Prelude.{nat_le, nat_lt, if◌then◌else◌}
 use Rattle.std.specs.FinMap.{FinMap, entries, entries_sorted, is_sorted}
 use Rattle.std.specs.FinMap.Entries.{below_all, is_sorted-where_key}

@@ -1,13 +1,24 @@
--- The helper functions that functions call (RFC 9669, section 4.3.1).
-use Rattle.std.specs.Prelude.{ℕ, Bool, false, ◌&&◌, ◌==◌, List, [], fold, Option, Some, None, if◌then◌else◌}
+-- Maps from lists of entries, of which the first with a key stands.
+use Rattle.std.specs.Prelude.{List, fold, if◌then◌else◌, ℕ, Bool, false, ◌&&◌, ◌==◌, [], Option, Some, None}
+use Rattle.std.specs.FinMap.{FinMap, insert, contains_key}
+use Rattle.std.specs.declared.cmp.Ordering.{Ordering}
 use Rattle.std.specs.BTreeSet.{BTreeSet, insert_key}
 use Rattle.std.specs.Int.{w32, cast_unsigned}
 use Rattle.std.specs.List.{filter_map, list_any}
 use Rattle.std.specs.Ordering.{nat_cmp}
 use Rattle.ebpf_model.specs.declared.function.Function.{Function}
-use Rattle.ebpf_parts.specs.Opcodes.{call}
-use Rattle.ebpf_parts.specs.Slots.{src_of}
+use Rattle.ebpf_parts.specs.Slots.{call, src_of}
 use Rattle.ebpf_parts.specs.declared.insn.bpf_insn.{bpf_insn}
+
+-- one more entry, where its key is new
+abbrev pub put_first : {K X : Type 0} {R : K → K → Ordering} → FinMap R X → K → X → FinMap R X
+put_first m k v = if contains_key m k then m else insert m k v
+
+-- the entries put into a map, one after the other
+abbrev pub put_firsts : {K X : Type 0} {R : K → K → Ordering} → FinMap R X → List (K × X) → FinMap R X
+put_firsts m entries = fold (λ so_far e. put_first so_far e.0 e.1) m entries
+
+-- ---- the helper functions that functions call (RFC 9669, section 4.3.1)
 
 -- the number of the helper function that a slot calls: the code of a call, with source register 0
 unfoldable pub helper_called : bpf_insn → Option ℕ

@@ -1,9 +1,6 @@
 pub mod Shown
 pub mod ObjectPrograms
 pub mod HelperCalls
-pub mod FirstEntries
 pub mod FunctionMaps
-pub mod KnownExterns
-pub mod ObjectSettings
 pub mod RecordKinds
 pub mod PrivateContracts

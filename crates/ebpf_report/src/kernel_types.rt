@@ -107,15 +107,14 @@ impl KernelError {
 
     /// What one can do about it, where one can.
     fn help(&self) -> Option<&'static str> {
-        match self {
-            KernelError::NoTypes => Some(
-                "give /sys/kernel/btf/vmlinux, or a copy of another kernel's",
-            ),
-            KernelError::NoSection => {
-                Some("`pahole -J FILE` adds a section .BTF to a kernel that has debug information")
+        Some(match self {
+            KernelError::NoTypes => "give /sys/kernel/btf/vmlinux, or a copy of another kernel's",
+            KernelError::NoSection =>
+                "`pahole -J FILE` adds a section .BTF to a kernel that has debug information",
+            KernelError::Elf(_) | KernelError::OtherByteOrder | KernelError::Types(_) => {
+                return None;
             }
-            KernelError::Elf(_) | KernelError::OtherByteOrder | KernelError::Types(_) => None,
-        }
+        })
     }
 }
 

@@ -3,10 +3,7 @@
 #![tactic(auto)]
 
 pub mod compressed;
-pub mod files;
 pub mod helper_calls;
-pub mod helper_names;
-pub mod json;
 pub mod kernel_types;
 pub mod kinds;
 mod machines;
@@ -14,13 +11,10 @@ pub mod map_uses;
 pub mod names;
 pub mod object_file;
 mod parse_help;
-pub mod parsed;
 pub mod programs;
 pub mod refusal;
 pub mod refuse;
 pub mod settings;
-pub mod stop;
 pub mod table;
-pub mod type_names;
 pub mod types;
 pub mod unknown_externs;

@@ -1,4 +1,4 @@
-//! The maps that functions use.
+//! The maps that functions use, and the numbers that stand for an object's own.
 
 ghost use Rattle.std.specs.Prelude.{◌≡◌, ◌++◌, IfOk, OnOk, string_bytes};
 ghost use Rattle.std.specs.FinMap as finite;
@@ -6,7 +6,7 @@ ghost use Rattle.std.specs.Option.{option_copied, option_to_list};
 ghost use Rattle.ebpf_base.specs.EntriesFrom.{entries_from};
 ghost use Rattle.ebpf_base.specs.Faults.{or_else};
 ghost use Rattle.ebpf_base.specs.Keyed.{put_all};
-ghost use Rattle.ebpf_report.specs.FirstEntries.{put_first, put_firsts};
+ghost use Rattle.ebpf_report.specs.HelperCalls.{put_first, put_firsts};
 ghost use Rattle.ebpf_report.specs.FunctionMaps.{end_of, first_slots, function_maps, if_used, map_referred, map_use, maps_by_function, maps_used, named_maps, names_by_section, names_by_symbol, referred, uses_at};
 ghost use Rattle.ebpf_report.specs.PrivateContracts.{lent_names, names_in, up_to};
 
@@ -260,4 +260,15 @@ pub fn map_uses(alloc: Global, object: &Object) -> Result<ByKey<Items<MapUse>>, 
 {
     let names = map_names(alloc, object)?;
     uses_by_function(alloc, object, &names)
+}
+
+/// Descriptors of an object's own maps: 1 and on, in byte order of their names.
+pub fn own_descriptors(alloc: Global, object: &Object) -> Result<Vec<(&str, i32)>, AllocError> {
+    let mut descriptors = Vec::with_capacity(alloc, object.maps.len())?;
+    let mut descriptor: i32 = 0;
+    for (name, _) in object.maps.iter() {
+        descriptor = descriptor.saturating_add(1);
+        descriptors.push((name.as_str(), descriptor))?;
+    }
+    Ok(descriptors)
 }

@@ -1,4 +1,5 @@
-//! Names from files, written so that none of them says anything to a terminal.
+//! Names from files, written so that none of them says anything to a terminal; and values, and what stands between two of
+//! a list.
 
 ghost use Rattle.std.specs.Prelude.{◌≡◌, ◌<◌};
 ghost use Rattle.std.specs.Char.{digit_char};
@@ -7,6 +8,7 @@ ghost use Rattle.std.specs.List.{flat_map};
 ghost use Rattle.ebpf_report.specs.Shown.{speaks, escaped_byte, shown_char, shown};
 
 use std::fmt;
+use std::io::{self, Write};
 
 /// A name as text shows it: a control character, a backslash and a character that turns the direction of a line are
 /// written as their bytes, `\xNN` each.
@@ -125,4 +127,18 @@ pub fn last_part(path: &str) -> &str {
         Some((_, last)) => last,
         None => path,
     }
+}
+
+/// Writes a comma before all but the first of a list.
+pub fn separate<W: Write>(out: &mut W, is_first: bool) -> io::Result<()> {
+    if is_first { Ok(()) } else { write!(out, ",") }
+}
+
+/// Writes a value, which may have a sign.
+pub fn write_value<W: Write>(out: &mut W, is_signed: bool, value: u64) -> io::Result<()> {
+    if is_signed {
+        let value = value.cast_signed();
+        return write!(out, "{value}");
+    }
+    write!(out, "{value}")
 }

@@ -1,11 +1,18 @@
 //! The object of a file: the file itself, or one that a program for another machine holds.
 
+ghost use Rattle.std.specs.Prelude.{IfOk};
+ghost use Rattle.ebpf_object.specs.Prepared.{IsParsed};
+ghost use Rattle.ebpf_parts.specs.declared.reading.Reading.TheVariants.{Broad};
+
 use crate::machines::{machine_name, other_machine};
 use crate::refusal::{READING, Refusal};
-use crate::refuse::{read_given, refused};
-use crate::stop::Stop;
+use crate::refuse::{Stop, read_given, refuse_parsing, refused};
 use ebpf_embedded::{ObjectRange, embedded_objects};
+use ebpf_object::Object;
+use ebpf_parts::{ParseError, Reading};
 use std::alloc::{AllocError, Global};
+use std::io::{self, Read};
+use std::{env, fs};
 
 /// For which machine a file is.
 fn machine_text(alloc: Global, machine: u16) -> Result<String, AllocError> {
@@ -126,4 +133,44 @@ pub fn read_object(
         Ok(bytes) => Ok(bytes),
         Err((refusal, status)) => Err(refused(rt, json, path, &refusal, status)),
     }
+}
+
+/// The object of a file's bytes, read broadly. Little is stated of it, so that what calls this isn't proved over all that
+/// is stated of parsing.
+fn parsed(alloc: Global, file: &[u8]) -> Result<Object, ParseError>
+    ensures { IfOk result (IsParsed Broad file.now) }
+{
+    Object::parse_as(alloc, file, Reading::Broad)
+}
+
+/// The object of a file's bytes, read broadly; one that can't be parsed is told.
+pub fn parsed_object(rt: &HostRuntime, json: bool, path: &str, file: &[u8]) -> Result<Object, Stop>
+    ensures { IfOk result (IsParsed Broad file.now) }
+{
+    match parsed(rt.alloc(), file) {
+        Ok(object) => Ok(object),
+        Err(error) => {
+            let stop = refuse_parsing(rt, json, path, file, &error);
+            drop(error);
+            Err(stop)
+        }
+    }
+}
+
+/// The words of the command line after the program's own name.
+pub fn gather_words(rt: &HostRuntime) -> io::Result<Vec<String>> {
+    let mut words = Vec::new(rt.alloc());
+    for word in env::args(rt)?.skip(1) {
+        words.push(word)?;
+    }
+    Ok(words)
+}
+
+/// The bytes of a file up to its end, whatever size it states: files of /sys and /proc state others.
+pub fn read_file(rt: &HostRuntime, path: &str) -> io::Result<Vec<u8>> {
+    let mut file = fs::open(rt, path)?;
+    let size = file.metadata()?.len().min(1 << 40) as usize;
+    let mut bytes = Vec::with_capacity(rt.alloc(), size.saturating_add(1))?;
+    file.read_to_end(&mut bytes)?;
+    Ok(bytes)
 }

@@ -24,32 +24,27 @@ fn elf_help(error: &ElfReadError) -> &'static str {
 
 /// What one can do about an object's type information.
 pub fn types_help(error: &BtfError) -> Option<&'static str> {
-    match error {
+    Some(match error {
         BtfError::InvalidHeader
         | BtfError::InvalidTypeInfo
         | BtfError::InvalidInfo
         | BtfError::InvalidStringOffset { .. }
-        | BtfError::UnknownBtfType { .. } => {
-            Some("the type information is damaged: look at it with `bpftool btf dump file FILE`")
-        }
-        BtfError::InvalidRelocationKind { .. } => {
-            Some("compile with the builtins of clang that libbpf has kinds for")
-        }
-        BtfError::UnexpectedBtfType { .. } => Some(
+        | BtfError::UnknownBtfType { .. } =>
+            "the type information is damaged: look at it with `bpftool btf dump file FILE`",
+        BtfError::InvalidRelocationKind { .. } =>
+            "compile with the builtins of clang that libbpf has kinds for",
+        BtfError::UnexpectedBtfType { .. } =>
             "declare a map's members as libbpf's `__uint` and `__type` do; `bpftool btf dump file FILE` shows the types",
-        ),
-        BtfError::InvalidDatasec => Some("declare externs as functions or variables with `__ksym`"),
-        BtfError::InvalidSymbolName => Some("don't strip symbols"),
-        BtfError::InnerMapCannotBePinned { .. } => Some("leave `pinning` out of the inner map"),
-        BtfError::MultiLevelMapInMapNotSupported { .. } => {
-            Some("leave `values` out of the inner map")
-        }
-        BtfError::InvalidValuesSpec { .. } => Some("declare `__array(values, struct inner)`"),
+        BtfError::InvalidDatasec => "declare externs as functions or variables with `__ksym`",
+        BtfError::InvalidSymbolName => "don't strip symbols",
+        BtfError::InnerMapCannotBePinned { .. } => "leave `pinning` out of the inner map",
+        BtfError::MultiLevelMapInMapNotSupported { .. } => "leave `values` out of the inner map",
+        BtfError::InvalidValuesSpec { .. } => "declare `__array(values, struct inner)`",
         BtfError::UnknownBtfTypeName { .. }
         | BtfError::MaximumTypeDepth { .. }
         | BtfError::TooLarge
-        | BtfError::OutOfMemory => None,
-    }
+        | BtfError::OutOfMemory => return None,
+    })
 }
 
 /// What one can do about a file that can't be parsed, by the error alone.

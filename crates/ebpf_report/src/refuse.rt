@@ -1,12 +1,12 @@
 //! Refusals, told.
 
 use crate::compressed::Compression;
-use crate::files::read_file;
+use crate::object_file::read_file;
 use crate::parse_help::parse_help;
-use crate::programs::ObjectProgram;
+use crate::programs::{ObjectProgram, object_programs};
 use crate::refusal::{READING, Refusal, RefusalLines, RefusalObject, help_of};
-use crate::stop::Stop;
 use ebpf_base::Text;
+use ebpf_object::Object;
 use ebpf_object::obj::ExplainedParse;
 use ebpf_parts::ParseError;
 use ebpf_variants::variant_of_parsing;
@@ -148,7 +148,7 @@ fn has_name(programs: &[ObjectProgram], name: &Text) -> bool {
 }
 
 /// Refuses names that no program of an object has.
-pub fn check_names(
+fn check_names(
     rt: &HostRuntime,
     json: bool,
     path: &str,
@@ -163,4 +163,76 @@ pub fn check_names(
         return Err(refused(rt, json, path, &refusal, 2));
     }
     Ok(())
+}
+
+/// The programs of these names.
+fn of_names(
+    alloc: Global,
+    programs: Vec<ObjectProgram>,
+    names: &[Text],
+) -> Result<Vec<ObjectProgram>, AllocError> {
+    let mut chosen = Vec::new(alloc);
+    for program in programs {
+        if !names.iter().any(|name| name.is(program.name.as_str())) {
+            continue;
+        }
+        chosen.push(program)?;
+    }
+    Ok(chosen)
+}
+
+/// The programs of an object that have these names, or all without a name; a name that no program has is told.
+pub fn chosen_programs(
+    rt: &HostRuntime,
+    json: bool,
+    path: &str,
+    file: &[u8],
+    object: &Object,
+    names: &[Text],
+) -> Result<Vec<ObjectProgram>, Stop> {
+    let programs = object_programs(rt.alloc(), file, object)?;
+    if names.is_empty() {
+        return Ok(programs);
+    }
+    check_names(rt, json, path, &programs, names)?;
+    Ok(of_names(rt.alloc(), programs, names)?)
+}
+
+/// Why the work ends before its end.
+#[derive(Drop)]
+pub enum Stop {
+    /// What was told already; with the status.
+    Told(u8),
+    /// The output can't be written.
+    Output(io::Error),
+    /// No memory was found.
+    Memory,
+}
+
+impl From<AllocError> for Stop {
+    fn from(_error: AllocError) -> Stop {
+        Stop::Memory
+    }
+}
+
+impl From<io::Error> for Stop {
+    fn from(error: io::Error) -> Stop {
+        Stop::Output(error)
+    }
+}
+
+/// Says why nothing more is done, and gives the status. An output whose reader is gone ends without a word.
+pub fn stopped(rt: &HostRuntime, stop: Stop) -> u8 {
+    match stop {
+        Stop::Told(status) => status,
+        Stop::Output(error) if matches!(error.kind(), ErrorKind::BrokenPipe) => 2,
+        Stop::Output(error) => {
+            let _ = eprintln!(rt; "ebpf: cannot write: {error}");
+            2
+        }
+        Stop::Memory => {
+            let _ = eprintln!(rt; "ebpf: out of memory");
+            2
+        }
+    }
 }

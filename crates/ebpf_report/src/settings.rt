@@ -5,7 +5,7 @@ ghost use Rattle.std.specs.Option.{option_map_or, option_to_list};
 ghost use Rattle.std.specs.Result.{result_ok};
 ghost use Rattle.ebpf_btf.specs.Strings.{id_of_name, type_name};
 ghost use Rattle.ebpf_btf.specs.declared.kind.BtfKind.TheVariants as kinds;
-ghost use Rattle.ebpf_report.specs.ObjectSettings.{object_settings, section_entries, setting_name, setting_names, settings_entries, settings_section};
+ghost use Rattle.ebpf_report.specs.ObjectPrograms.{object_settings, section_entries, setting_name, setting_names, settings_entries, settings_section};
 
 use ebpf_base::{Items, Text};
 use ebpf_btf::{Btf, BtfError, BtfKind, BtfType, DataSecEntry, Rows};
@@ -16,7 +16,7 @@ use std::alloc::{AllocError, Global};
 const SETTINGS: &str = ".kconfig";
 
 /// The entries of a DATASEC; other types have none.
-#[tactic(auto, unfolding(crate::specs::ObjectSettings::section_entries))]
+#[tactic(auto, unfolding(crate::specs::ObjectPrograms::section_entries))]
 fn section_entries<'a>(ty: &BtfType<'a>) -> Rows<'a, DataSecEntry>
     ensures { result ≡ section_entries ty.now }
 {
@@ -70,7 +70,7 @@ fn type_name(alloc: Global, types: &Btf, ty: &BtfType<'_>) -> Result<Option<Text
 }
 
 /// The name of the variable of an entry, where it can be read.
-#[tactic(auto, unfolding(crate::specs::ObjectSettings::setting_name))]
+#[tactic(auto, unfolding(crate::specs::ObjectPrograms::setting_name))]
 fn setting_name(
     alloc: Global,
     types: &Btf,
@@ -115,7 +115,7 @@ fn setting_names(
 }
 
 /// The names of the externs that the kernel's configuration gives, in the order in which the object has them.
-#[tactic(auto, unfolding(crate::specs::ObjectSettings::object_settings))]
+#[tactic(auto, unfolding(crate::specs::ObjectPrograms::object_settings))]
 pub fn object_settings(alloc: Global, object: &Object) -> Result<Items<Text>, AllocError>
     ensures { IfOk result (λ names. names ≡ object_settings object.now.btf) }
 {

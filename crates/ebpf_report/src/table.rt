@@ -1,8 +1,8 @@
 //! Tables of text.
 
-use crate::helper_names::helper_name;
+use crate::helper_calls::helper_name;
 use crate::names::Shown;
-use crate::type_names::map_type_name;
+use crate::types::map_type_name;
 use std::alloc::{AllocError, Global};
 use std::fmt::Write as _;
 use std::io::{self, Write};

@@ -4,8 +4,8 @@ ghost use Rattle.std.specs.Prelude.{◌≡◌, OnOk};
 ghost use Rattle.std.specs.FinMap as finite;
 ghost use Rattle.ebpf_base.specs.Keyed.{put_all};
 ghost use Rattle.ebpf_base.specs.Mapped.{mapped_entries};
-ghost use Rattle.ebpf_report.specs.FirstEntries.{put_firsts};
-ghost use Rattle.ebpf_report.specs.KnownExterns.{settings_named, unknown};
+ghost use Rattle.ebpf_report.specs.HelperCalls.{put_firsts};
+ghost use Rattle.ebpf_report.specs.ObjectPrograms.{settings_named, unknown};
 
 use ebpf_base::{ByName, Text};
 use ebpf_model::ExternDesc;

@@ -3,7 +3,7 @@ use Rattle.std.proofs.Common.{◌≡◌, ℕ, List, [], Some, ap, sym, ◌∙◌
 use Rattle.std.specs.Prelude.{Result, Ok, Err}
 use Rattle.ebpf_base.specs.Faults.{fault_of}
 use Rattle.ebpf_btf.specs.declared.error.BtfError.{BtfError}
-use Rattle.ebpf_rows.specs.RecordRows.{text_or_empty}
+use Rattle.ebpf_rows.specs.Records.{text_or_empty}
 
 -- a text that was read, and its copy
 pub read : (found : Result (List ℕ) BtfError) (text copy : List ℕ) → found ≡ Ok text → copy ≡ text → copy ≡ text_or_empty found

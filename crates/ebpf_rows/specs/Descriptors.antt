@@ -2,17 +2,15 @@
 use Rattle.std.specs.Prelude.{◌≡◌, ℕ, ◌+◌, List, length, take, drop, nat_le, Bool, true, Option, Some, None, option_map, is_some, MatchBool, if◌then◌else◌}
 use Rattle.std.specs.List.{filter_map, list_all}
 use Rattle.std.specs.Str.{is_utf8}
-use Rattle.ebpf_object.specs.Stages.{fds_written, fds_fault}
-use Rattle.ebpf_object.specs.StageFaults.{Wrapped}
+use Rattle.ebpf_object.specs.Stages.{fds_written, fds_fault, Wrapped, Descriptor}
 use Rattle.ebpf_object.specs.Prepared.{RefusesPreparing}
-use Rattle.ebpf_object.specs.Steps.{Descriptor}
 use Rattle.ebpf_object.specs.declared.object.Object.{Object}
 use Rattle.ebpf_object.specs.declared.prepare_error.PrepareError.TheVariants.{Maps}
 use Rattle.ebpf_rows.specs.Handles.{IsRefusal}
-use Rattle.ebpf_rows.specs.StageNumbers.{prepare_refusal}
-use Rattle.ebpf_answers.specs.Refusal.{plain}
+use Rattle.ebpf_rows.specs.Numbers.{prepare_refusal}
+use Rattle.ebpf_answers.specs.Refusals.{plain}
 use Rattle.ebpf_answers.specs.declared.codes.TheConstants.{BAD_NAME}
-use Rattle.ebpf_rows.specs.declared.descriptors.ebpf_descriptor.{ebpf_descriptor}
+use Rattle.ebpf_rows.specs.declared.reads.ebpf_descriptor.{ebpf_descriptor}
 use Rattle.ebpf_answers.specs.declared.refusal.Refusal.{Refusal}
 
 -- the bytes as a text, where they are one

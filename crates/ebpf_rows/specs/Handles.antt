@@ -1,10 +1,10 @@
 -- What a call leaves of a handle, and why it refuses.
 use Rattle.std.specs.Prelude.{◌≡◌, ◌⊎◌, ⊤, ℕ, List, Option, Some, None, Result, Err, MatchBool, MatchResult}
 use Rattle.ebpf_answers.specs.Numbers.{parse_refusal}
-use Rattle.ebpf_answers.specs.Refusal.{plain, IsReported}
+use Rattle.ebpf_answers.specs.Refusals.{plain, IsReported}
 use Rattle.ebpf_answers.specs.declared.codes.TheConstants.{CLOSED, MEMORY}
 use Rattle.ebpf_answers.specs.declared.refusal.Refusal.{Refusal}
-use Rattle.ebpf_answers.specs.declared.refusal_row.ebpf_refusal.{ebpf_refusal}
+use Rattle.ebpf_answers.specs.declared.refusal.ebpf_refusal.{ebpf_refusal}
 use Rattle.ebpf_object.specs.declared.object.Object.{Object}
 use Rattle.ebpf_parts.specs.Memory.{is_parse_memory}
 use Rattle.ebpf_parts.specs.declared.error.ParseError.{ParseError}

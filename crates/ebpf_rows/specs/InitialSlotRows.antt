@@ -1,8 +1,7 @@
 -- What C reads of the initial values of maps.
 use Rattle.std.specs.Prelude.{◌≡◌, ⊤, ℕ, ◌+◌, Bool, true, false, List, [], ◌∷◌, ◌++◌, length, Some, None, MatchBool}
-use Rattle.ebpf_initial_slots.specs.InitialSlotMemory.{is_initial_slot_memory}
-use Rattle.ebpf_initial_slots.specs.InitialSlots.{initial_slots, initial_slots_fault}
-use Rattle.ebpf_initial_slots.specs.declared.slot.InitialSlot.{InitialSlot}
+use Rattle.ebpf_initial_slots.specs.InitialSlots.{is_initial_slot_memory, initial_slots, initial_slots_fault}
+use Rattle.ebpf_initial_slots.specs.declared.slots.InitialSlot.{InitialSlot}
 use Rattle.ebpf_initial_slots.specs.declared.target.InitialTarget.{InitialTarget}
 use Rattle.ebpf_initial_slots.specs.declared.target.InitialTarget.TheVariants.{Map, Program}
 use Rattle.ebpf_object.specs.declared.object.Object.{Object}
@@ -10,9 +9,9 @@ use Rattle.ebpf_answers.specs.Answers.{Listed}
 use Rattle.ebpf_answers.specs.Flags.{flag}
 use Rattle.ebpf_rows.specs.Handles.{IsRefusal}
 use Rattle.ebpf_answers.specs.Listing.{listed_by, zero_terminated}
-use Rattle.ebpf_rows.specs.LoaderNumbers.{initial_slots_refusal}
+use Rattle.ebpf_rows.specs.Numbers.{initial_slots_refusal}
 use Rattle.ebpf_answers.specs.declared.refusal.Refusal.{Refusal}
-use Rattle.ebpf_rows.specs.declared.slot_rows.ebpf_initial_slot.{ebpf_initial_slot}
+use Rattle.ebpf_rows.specs.declared.programs.ebpf_initial_slot.{ebpf_initial_slot}
 
 -- the name of what stands in a slot
 abbrev pub target_name : InitialTarget → List ℕ

@@ -3,8 +3,7 @@ use denote.Ref.{Bor}
 use Rattle.std.specs.Prelude.{ℕ, Bool, List, ◌≡◌, MatchOption}
 use Rattle.std.specs.FinMap.{FinMap, insert}
 use Rattle.ebpf_base.specs.Keys.{text_cmp}
-use Rattle.ebpf_object.specs.PatchValues.{global_of}
-use Rattle.ebpf_object.specs.Patches.{Global}
+use Rattle.ebpf_object.specs.Patches.{global_of, Global}
 use Rattle.ebpf_parts.specs.declared.maps.either.Map.{Map}
 use Rattle.ebpf_answers.specs.Entries.{value_by_bytes}
 use Rattle.ebpf_answers.specs.declared.codes.TheConstants.{DONE, NO_MAP}

@@ -11,16 +11,15 @@ use Rattle.ebpf_parts.specs.declared.insn.bpf_insn.{bpf_insn}
 use Rattle.ebpf_model.specs.declared.function.Function.{Function}
 use Rattle.ebpf_answers.specs.Answers.{Listed}
 use Rattle.ebpf_answers.specs.Entries.{value_by_bytes}
-use Rattle.ebpf_answers.specs.ExternRows.{extern_row}
+use Rattle.ebpf_answers.specs.ObjectRows.{extern_row, section_row}
 use Rattle.ebpf_answers.specs.Listing.{listing_of}
 use Rattle.ebpf_rows.specs.MapRows.{map_row}
 use Rattle.ebpf_rows.specs.ProgramRows.{program_row, name_of_section_number}
-use Rattle.ebpf_answers.specs.SectionRows.{section_row}
 use Rattle.ebpf_answers.specs.declared.codes.TheConstants.{CLOSED, NO_MAP, NO_PROGRAM}
-use Rattle.ebpf_answers.specs.declared.externs.ebpf_extern.{ebpf_extern}
+use Rattle.ebpf_answers.specs.declared.entries.ebpf_extern.{ebpf_extern}
 use Rattle.ebpf_rows.specs.declared.maps.ebpf_map.{ebpf_map}
 use Rattle.ebpf_rows.specs.declared.programs.ebpf_program.{ebpf_program}
-use Rattle.ebpf_answers.specs.declared.sections.ebpf_section.{ebpf_section}
+use Rattle.ebpf_answers.specs.declared.entries.ebpf_section.{ebpf_section}
 
 -- what a call on a handle gives, which may be closed
 abbrev pub of_open : {X : Type 0} → (Object → Result X ℕ) → Option Object → Result X ℕ

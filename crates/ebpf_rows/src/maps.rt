@@ -1,16 +1,20 @@
 //! Maps as C reads them.
 
 ghost use Rattle.std.specs.Prelude.{◌≡◌, ◌∷◌, []};
-ghost use Rattle.ebpf_answers.specs.Listing.{zero_terminated};
-ghost use Rattle.ebpf_rows.specs.MapRows.{map_row, no_shape, pinning_number, section_kind_number, shape_if, shape_of, type_ids_of};
-ghost use Rattle.ebpf_parts.specs.Maps.{inner_of};
 ghost use Rattle.std.specs.Option.{option_copied};
+ghost use Rattle.ebpf_answers.specs.Listing.{zero_terminated};
+ghost use Rattle.ebpf_parts.specs.Maps.{inner_of};
+ghost use Rattle.ebpf_rows.specs.MapRows.{map_row, pinning_number, section_kind_number, shape_if, shape_of, type_ids_of};
+ghost use Rattle.ebpf_rows.specs.NamedRows.{answer_row, map_named, program_named, row_after};
 
+use crate::programs::{ebpf_program, program_row};
+use crate::reads::text_of;
+use ebpf_answers::codes::{DONE, NO_MAP, NO_PROGRAM, flag};
 use ebpf_answers::entries::Entry;
-use ebpf_answers::flags::flag;
 use ebpf_answers::listing::{Listing, Rows, add_row};
 use ebpf_btf::Btf;
 use ebpf_loading::{MapTypeIds, map_types};
+use ebpf_object::Object;
 use ebpf_parts::EbpfSectionKind;
 use ebpf_parts::maps::{Map, PinningType};
 use std::alloc::AllocError;
@@ -175,5 +179,47 @@ impl<'a> Rows<Entry<'a, Map>, Option<Btf>> for ebpf_map {
     ) -> Result<(), AllocError> {
         let row = map_row(context, value.name, value.value, listing.text.len());
         add_row(listing, row, value.name)
+    }
+}
+
+/// The row of the map that some bytes name.
+#[tactic(auto, using(crate::proofs::Rows::value_by_no_text, crate::proofs::Rows::no_row_by_text))]
+pub fn map_named(object: &Object, name: &[u8]) -> Result<ebpf_map, u32>
+    ensures { result ≡ map_named name.now object.now }
+{
+    let Some(text) = text_of(name) else {
+        return Err(NO_MAP);
+    };
+    match object.maps.get(text) {
+        Some(map) => Ok(map_row(&object.btf, text, map, 0)),
+        None => Err(NO_MAP),
+    }
+}
+
+/// The row of the program that some bytes name.
+#[tactic(auto, using(crate::proofs::Rows::value_by_no_text, crate::proofs::Rows::no_row_by_text))]
+pub fn program_named(object: &Object, name: &[u8]) -> Result<ebpf_program, u32>
+    ensures { result ≡ program_named name.now object.now }
+{
+    let Some(text) = text_of(name) else {
+        return Err(NO_PROGRAM);
+    };
+    match object.programs.get(text) {
+        Some(program) => Ok(program_row(object, text, program, 0)),
+        None => Err(NO_PROGRAM),
+    }
+}
+
+/// Writes a row where there is one. A number of a refusal is answered, and nothing is written.
+pub fn write_row<R: Copy>(found: Result<R, u32>, row: &mut R) -> u32
+    ensures answer { result ≡ answer_row found }
+    ensures row { row.new ≡ row_after found row.old }
+{
+    match found {
+        Ok(found) => {
+            *row = found;
+            DONE
+        }
+        Err(number) => number,
     }
 }

@@ -1,17 +1,25 @@
 //! What an object has by a name, lent.
 
-ghost use Rattle.std.specs.Prelude.{◌≡◌};
+ghost use Rattle.std.specs.Prelude.{◌≡◌, map, IfOk, OnOk, option_map};
 ghost use Rattle.std.specs.Option.{option_copied};
+ghost use Rattle.std.specs.FinMap.{insert};
 ghost use Rattle.ebpf_answers.specs.LentResults.{found_list};
+ghost use Rattle.ebpf_object.specs.Stages.{descriptor_of};
+ghost use Rattle.ebpf_rows.specs.Descriptors.{name_in, text_of, have_names, descriptors_in};
+ghost use Rattle.ebpf_rows.specs.Kconfig.{given_by_row, given_values};
+ghost use Rattle.ebpf_rows.specs.PrivateContracts.{lent_pair};
 ghost use Rattle.ebpf_rows.specs.Reads.{read_func_infos, function_by_bytes, read_line_infos, read_map_data, read_section_name, read_slots};
 
 use crate::programs::name_of_section;
+use crate::value_rows::{bytes_in, ebpf_value};
 use ebpf_answers::codes::{NO_MAP, NO_PROGRAM};
 use ebpf_answers::entries::value_by_bytes;
+use ebpf_base::{ByName, Items};
 use ebpf_ext::{bpf_func_info, bpf_line_info};
 use ebpf_model::Function;
 use ebpf_object::Object;
 use ebpf_parts::insn::bpf_insn;
+use std::alloc::{AllocError, Global};
 
 /// The function of the program that some bytes name.
 fn function_by_bytes<'a>(object: &'a Object, name: &[u8]) -> Option<&'a Function>
@@ -73,4 +81,117 @@ pub fn read_map_data<'a>(object: &'a Object, name: &[u8]) -> Result<&'a [u8], u3
         Some(map) => Ok(map.data()),
         None => Err(NO_MAP),
     }
+}
+
+/// The descriptor of a map, and where the map's name stands in a text.
+#[repr(C)]
+#[derive(Clone, Copy)]
+pub struct ebpf_descriptor {
+    /// Where the name begins.
+    pub name_at: usize,
+    /// How many bytes it has.
+    pub name_len: usize,
+    /// The descriptor.
+    pub descriptor: i32,
+}
+
+/// The bytes as a text, where they are one.
+pub fn text_of(bytes: &[u8]) -> Option<&str>
+    ensures { option_copied result ≡ text_of bytes.now }
+{
+    match str::from_utf8(bytes) {
+        Ok(text) => Some(text),
+        Err(_) => None,
+    }
+}
+
+/// The name at an offset of a text, where it is inside and is itself a text.
+pub fn name_in(text: &[u8], at: usize, count: usize) -> Option<&str>
+    ensures { option_copied result ≡ name_in text.now at count }
+{
+    let Some(end) = at.checked_add(count) else {
+        return None;
+    };
+    if end > text.len() {
+        return None;
+    }
+    text_of(&text[at..end])
+}
+
+/// Whether each row names a map.
+pub fn have_names(rows: &[ebpf_descriptor], text: &[u8]) -> bool
+    ensures { result ≡ have_names text.now rows.now }
+{
+    rows.iter()
+        .all(|row| name_in(text, row.name_at, row.name_len).is_some())
+}
+
+/// The names of maps with their descriptors. A row that names none is passed over.
+#[tactic(auto, using(crate::proofs::Rows::one_read, crate::proofs::Rows::none_read, ebpf_base::proofs::Walks::rest_none))]
+pub fn descriptors_in<'a>(
+    alloc: Global,
+    rows: &[ebpf_descriptor],
+    text: &'a [u8],
+) -> Result<Vec<(&'a str, i32)>, AllocError>
+    ensures { IfOk result (λ named. map descriptor_of named.items ≡ descriptors_in text.now rows.now) }
+{
+    let mut named = Vec::with_capacity(alloc, rows.len())?;
+    for row in rows {
+        let Some(name) = name_in(text, row.name_at, row.name_len) else {
+            continue;
+        };
+        named.push((name, row.descriptor))?;
+    }
+    Ok(named)
+}
+
+/// What a row hands over: an extern's name and its value.
+fn given_by_row<'a>(
+    row: &ebpf_value,
+    text: &'a [u8],
+    bytes: &'a [u8],
+) -> Option<(&'a str, &'a [u8])>
+    ensures { option_map lent_pair result ≡ given_by_row text.now bytes.now row.now }
+{
+    let Some(name) = name_in(text, row.name_at, row.name_len) else {
+        return None;
+    };
+    let Some(value) = bytes_in(bytes, row.value_at, row.value_len) else {
+        return None;
+    };
+    Some((name, value))
+}
+
+/// Puts the value of an extern in the place of an earlier one.
+fn put_given(
+    alloc: Global,
+    values: &mut ByName<Items<u8>>,
+    name: &str,
+    value: &[u8],
+) -> Result<(), AllocError>
+    ensures { OnOk result (values.new ≡ insert values.old name.now value.now) }
+{
+    let bytes = Items::from_vec(Vec::from_slice(alloc, value)?);
+    values.insert(String::from_str(alloc, name)?, bytes)?;
+    Ok(())
+}
+
+/// The values of externs by name, later rows over earlier ones.
+#[tactic(auto, using(crate::proofs::Rows::one_put, crate::proofs::Rows::none_put, ebpf_base::proofs::Walks::rest_none))]
+pub fn given_values(
+    alloc: Global,
+    rows: &[ebpf_value],
+    text: &[u8],
+    bytes: &[u8],
+) -> Result<ByName<Items<u8>>, AllocError>
+    ensures { IfOk result (λ values. values ≡ given_values text.now bytes.now rows.now) }
+{
+    let mut values = ByName::new(alloc);
+    for row in rows {
+        let Some((name, value)) = given_by_row(row, text, bytes) else {
+            continue;
+        };
+        put_given(alloc, &mut values, name, value)?;
+    }
+    Ok(values)
 }

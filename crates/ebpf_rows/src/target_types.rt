@@ -1,7 +1,7 @@
 //! The types of a kernel, as bytes.
 
 ghost use Rattle.std.specs.Prelude.{◌≡◌, ◌<◌, Ok, IfOk, IfErr};
-ghost use Rattle.ebpf_rows.specs.TargetTypes.{order_by_magic, types_in, types_if, CannotRead, CannotReadIf};
+ghost use Rattle.ebpf_rows.specs.FileTypes.{order_by_magic, types_in, types_if, CannotRead, CannotReadIf};
 
 use ebpf_answers::refusal::Refusal;
 use ebpf_answers::type_fault::type_refusal;

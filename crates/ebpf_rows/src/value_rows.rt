@@ -1,13 +1,18 @@
 //! Values of variables, as C hands them over.
 
-ghost use Rattle.std.specs.Prelude.{◌≡◌, IfOk, OnOk, option_map};
+ghost use Rattle.std.specs.Prelude.{◌≡◌, IfOk, OnOk, option_map, ◌∷◌, []};
 ghost use Rattle.std.specs.FinMap.{insert};
 ghost use Rattle.std.specs.Option.{option_copied};
-ghost use Rattle.ebpf_rows.specs.Values.{bytes_in, are_named, have_values, value_of_row, values_in};
+ghost use Rattle.ebpf_answers.specs.Listing.{zero_terminated};
+ghost use Rattle.ebpf_object.specs.Patches.{global_of, globals_of};
+ghost use Rattle.ebpf_rows.specs.Kconfig.{has_sign, kconfig_kind, kconfig_row};
 ghost use Rattle.ebpf_rows.specs.PrivateContracts.{lent_value};
-ghost use Rattle.ebpf_object.specs.PatchValues.{global_of, globals_of};
+ghost use Rattle.ebpf_rows.specs.Variables.{bytes_in, are_named, have_values, value_of_row, values_in};
 
-use crate::descriptors::name_in;
+use crate::reads::name_in;
+use ebpf_answers::codes::flag;
+use ebpf_answers::listing::{Listing, Rows, add_row};
+use ebpf_kconfig::{KconfigExtern, KconfigType};
 use std::alloc::{AllocError, Global};
 use std::collections::HashMap;
 
@@ -85,7 +90,7 @@ pub fn put_over<'a>(
 }
 
 /// The values of variables by name, later rows over earlier ones.
-#[tactic(auto, using(crate::proofs::PutRows::one_put, crate::proofs::PutRows::none_put, ebpf_base::proofs::Walks::rest_none))]
+#[tactic(auto, using(crate::proofs::Rows::one_put, crate::proofs::Rows::none_put, ebpf_base::proofs::Walks::rest_none))]
 pub fn values_in<'a>(
     alloc: Global,
     rows: &[ebpf_value],
@@ -102,4 +107,67 @@ pub fn values_in<'a>(
         put_over(&mut globals, name, value)?;
     }
     Ok(globals)
+}
+
+/// An extern that the kernel's configuration gives. Flags are 1 or 0.
+#[repr(C)]
+#[derive(Clone, Copy)]
+pub struct ebpf_kconfig_extern {
+    /// Where its name begins in the text.
+    pub name_at: usize,
+    /// How many bytes its name has.
+    pub name_len: usize,
+    /// The size of its value in bytes.
+    pub size: u32,
+    /// The number of its kind.
+    pub kind: u32,
+    /// Whether its numbers are signed.
+    pub is_signed: u32,
+    /// Whether it may stay without a value.
+    pub is_weak: u32,
+}
+
+/// The number of a kind.
+fn kconfig_kind(kind: KconfigType) -> u32
+    ensures { result ≡ kconfig_kind kind }
+{
+    match kind {
+        KconfigType::Bool => 0,
+        KconfigType::Tristate { .. } => 1,
+        KconfigType::Char { .. } => 2,
+        KconfigType::Integer { .. } => 3,
+        KconfigType::CharArray { .. } => 4,
+    }
+}
+
+/// Whether numbers of a kind are signed.
+fn has_sign(kind: KconfigType) -> bool
+    ensures { result ≡ has_sign kind }
+{
+    match kind {
+        KconfigType::Char { signed } | KconfigType::Integer { signed, .. } => signed,
+        KconfigType::Bool | KconfigType::Tristate { .. } | KconfigType::CharArray { .. } => false,
+    }
+}
+
+impl Rows<KconfigExtern, ()> for ebpf_kconfig_extern {
+    ghost rows_of = { λ _ e name_at. kconfig_row e name_at ∷ [] };
+
+    ghost text_of = { λ _ e. zero_terminated e.name };
+
+    fn add(
+        listing: &mut Listing<ebpf_kconfig_extern>,
+        _context: &(),
+        value: &KconfigExtern,
+    ) -> Result<(), AllocError> {
+        let row = ebpf_kconfig_extern {
+            name_at: listing.text.len(),
+            name_len: value.name.len(),
+            size: value.kind.size(),
+            kind: kconfig_kind(value.kind),
+            is_signed: flag(has_sign(value.kind)),
+            is_weak: flag(value.is_weak),
+        };
+        add_row(listing, row, value.name.as_str())
+    }
 }

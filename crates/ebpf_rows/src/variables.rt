@@ -1,20 +1,22 @@
 //! Variables in the data of maps.
 
-ghost use Rattle.std.specs.Prelude.{◌≡◌, ◌+◌, ◌==◌, nat_le, length, IfOk};
+ghost use Rattle.std.specs.Prelude.{◌≡◌, ◌+◌, ◌==◌, nat_le, length, IfOk, ◌∷◌, ◌++◌, [], OnOk};
 ghost use Rattle.std.specs.FinMap.{entries};
 ghost use Rattle.std.specs.List.{find};
 ghost use Rattle.std.specs.Option.{option_and_then, option_copied};
 ghost use Rattle.ebpf_answers.specs.Answers.{FillsList, or_memory};
 ghost use Rattle.ebpf_answers.specs.LentResults.{found_list};
-ghost use Rattle.ebpf_rows.specs.Reads.{or_number};
+ghost use Rattle.ebpf_answers.specs.Listing.{zero_terminated};
 ghost use Rattle.ebpf_parts.specs.Maps.{section_index_of};
-ghost use Rattle.ebpf_rows.specs.Variables.{map_if_inside, map_of_section, read_value, symbol_by_bytes, symbol_bytes, variable_map};
+ghost use Rattle.ebpf_rows.specs.Reads.{or_number};
+ghost use Rattle.ebpf_rows.specs.Variables.{map_if_inside, map_of_section, read_value, symbol_by_bytes, symbol_bytes, variable_map, row_if, text_if, variable_at, variable_row, variable_text};
 
-use crate::descriptors::text_of;
+use crate::reads::text_of;
 use crate::value_rows::bytes_in;
 use ebpf_answers::buffers::write_list;
 use ebpf_answers::codes::{MEMORY, NO_VARIABLE};
 use ebpf_answers::entries::Entry;
+use ebpf_answers::listing::{Listing, Rows, add_name};
 use ebpf_base::ByName;
 use ebpf_model::Symbol;
 use ebpf_object::{Object, symbol_indices};
@@ -139,4 +141,67 @@ pub fn write_value(
         return MEMORY;
     };
     write_list(value_of(&object.maps, symbol), value, len)
+}
+
+/// A variable in the data of a map.
+#[repr(C)]
+#[derive(Clone, Copy)]
+pub struct ebpf_variable {
+    /// Where its name begins in the text.
+    pub name_at: usize,
+    /// How many bytes it has.
+    pub name_len: usize,
+    /// Where the name of its map begins.
+    pub map_at: usize,
+    /// How many bytes that has.
+    pub map_len: usize,
+    /// Where it begins in the map's data.
+    pub offset: u64,
+    /// How many bytes it has there.
+    pub size: u64,
+}
+
+/// Adds the row and the names of a variable.
+fn push_variable(
+    listing: &mut Listing<ebpf_variable>,
+    name: &str,
+    map: &str,
+    symbol: &Symbol,
+) -> Result<(), AllocError>
+    ensures rows { OnOk result (listing.new.rows.items ≡ listing.old.rows.items ++ variable_row name.now (map.now, symbol.now) (length listing.old.text.items) (length listing.old.text.items + length (zero_terminated name.now)) ∷ []) }
+    ensures text { OnOk result (listing.new.text.items ≡ listing.old.text.items ++ variable_text name.now (map.now, symbol.now)) }
+{
+    let name_at = listing.text.len();
+    add_name(&mut listing.text, name)?;
+    let map_at = listing.text.len();
+    add_name(&mut listing.text, map)?;
+    listing.rows.push(ebpf_variable {
+        name_at,
+        name_len: name.len(),
+        map_at,
+        map_len: map.len(),
+        offset: symbol.address,
+        size: symbol.size,
+    })?;
+    Ok(())
+}
+
+impl<'a> Rows<Entry<'a, usize>, Object> for ebpf_variable {
+    ghost rows_of = { λ o e at. row_if e.0 (variable_at o.symbol_table (entries o.maps) e.1) at };
+
+    ghost text_of = { λ o e. text_if e.0 (variable_at o.symbol_table (entries o.maps) e.1) };
+
+    fn add(
+        listing: &mut Listing<ebpf_variable>,
+        context: &Object,
+        value: &Entry<'a, usize>,
+    ) -> Result<(), AllocError> {
+        let Some(symbol) = context.symbol_table.get(*value.value) else {
+            return Ok(());
+        };
+        match variable_map(&context.maps, symbol) {
+            Some(map) => push_variable(listing, value.name, map, symbol),
+            None => Ok(()),
+        }
+    }
 }

@@ -9,9 +9,9 @@ use ebpf_check::check;
 use ebpf_inspect_command::inspect;
 use ebpf_link_command::link;
 use ebpf_list::list;
-use ebpf_report::files::gather_words;
 use ebpf_report::names::Shown;
-use ebpf_report::stop::{Stop, stopped};
+use ebpf_report::object_file::gather_words;
+use ebpf_report::refuse::{Stop, stopped};
 use std::io::ErrorKind;
 use std::process::ExitCode;
 

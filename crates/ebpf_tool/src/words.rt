@@ -100,7 +100,7 @@ impl Verb {
 }
 
 /// An option of a command.
-#[derive(Clone, Copy)]
+#[derive(Clone, Copy, PartialEq, Eq)]
 enum Choice {
     Program,
     Object,
@@ -151,22 +151,16 @@ fn parted(word: &str) -> (&str, Option<&str>) {
     }
 }
 
-/// What words have said so far.
+/// What words have said so far: options without a value, and the values of those that are given once, as they are or as
+/// the numbers that they say.
 #[derive(Drop)]
 struct Options<'a> {
     files: Vec<&'a str>,
     programs: Vec<&'a str>,
+    chosen: Vec<Choice>,
+    values: Vec<(Choice, &'a str)>,
     object: Option<usize>,
-    btf: Option<&'a str>,
-    kallsyms: Option<&'a str>,
-    kconfig: Option<&'a str>,
     kernel: Option<u32>,
-    all: bool,
-    bytes: bool,
-    lines: bool,
-    json: bool,
-    help: bool,
-    version: bool,
 }
 
 /// Copies of words.
@@ -220,36 +214,22 @@ impl<'a> Options<'a> {
         Options {
             files: Vec::new(alloc),
             programs: Vec::new(alloc),
+            chosen: Vec::new(alloc),
+            values: Vec::new(alloc),
             object: None,
-            btf: None,
-            kallsyms: None,
-            kconfig: None,
             kernel: None,
-            all: false,
-            bytes: false,
-            lines: false,
-            json: false,
-            help: false,
-            version: false,
         }
     }
 
-    /// Notes an option without a value.
-    fn choose(&mut self, choice: Choice) {
-        match choice {
-            Choice::All => self.all = true,
-            Choice::Bytes => self.bytes = true,
-            Choice::Lines => self.lines = true,
-            Choice::Json => self.json = true,
-            Choice::Help => self.help = true,
-            Choice::Version => self.version = true,
-            Choice::Program
-            | Choice::Object
-            | Choice::Btf
-            | Choice::Kallsyms
-            | Choice::Kconfig
-            | Choice::Kernel => {}
-        }
+    /// Whether an option without a value was given.
+    fn has(&self, choice: Choice) -> bool {
+        self.chosen.contains(&choice)
+    }
+
+    /// The value of an option that is given once.
+    fn value(&self, choice: Choice) -> Option<&'a str> {
+        let (_, value) = self.values.iter().find(|(of, _)| *of == choice)?;
+        Some(*value)
     }
 
     /// Notes the value of an option of a name.
@@ -260,16 +240,13 @@ impl<'a> Options<'a> {
         value: &'a str,
     ) -> Result<(), WordsError<'a>> {
         match choice {
-            Choice::Program => self.programs.push(value)?,
-            Choice::Object if self.object.is_none() => self.object = Some(number_of(name, value)?),
-            Choice::Btf if self.btf.is_none() => self.btf = Some(value),
-            Choice::Kallsyms if self.kallsyms.is_none() => self.kallsyms = Some(value),
-            Choice::Kconfig if self.kconfig.is_none() => self.kconfig = Some(value),
-            Choice::Kernel if self.kernel.is_none() => {
-                self.kernel = Some(version_of(name, value)?)
-            }
-            _ => return Err(WordsError::SecondValue(name)),
+            Choice::Program => return Ok(self.programs.push(value)?),
+            _ if self.value(choice).is_some() => return Err(WordsError::SecondValue(name)),
+            Choice::Object => self.object = Some(number_of(name, value)?),
+            Choice::Kernel => self.kernel = Some(version_of(name, value)?),
+            _ => {}
         }
+        self.values.push((choice, value))?;
         Ok(())
     }
 
@@ -294,8 +271,8 @@ impl<'a> Options<'a> {
             object: self.object,
             kernels: copies(alloc, kernels)?,
             programs: copies(alloc, &self.programs)?,
-            all: self.all,
-            json: self.json,
+            all: self.has(Choice::All),
+            json: self.has(Choice::Json),
         }))
     }
 
@@ -305,7 +282,7 @@ impl<'a> Options<'a> {
         Ok(Command::List(ListWords {
             file: Text::from_str(alloc, file)?,
             object: self.object,
-            json: self.json,
+            json: self.has(Choice::Json),
         }))
     }
 
@@ -315,12 +292,12 @@ impl<'a> Options<'a> {
         Ok(PrepareWords {
             file: Text::from_str(alloc, file)?,
             object: self.object,
-            btf: copy(alloc, self.btf)?,
-            kallsyms: copy(alloc, self.kallsyms)?,
-            kconfig: copy(alloc, self.kconfig)?,
+            btf: copy(alloc, self.value(Choice::Btf))?,
+            kallsyms: copy(alloc, self.value(Choice::Kallsyms))?,
+            kconfig: copy(alloc, self.value(Choice::Kconfig))?,
             kernel: self.kernel,
             programs: copies(alloc, &self.programs)?,
-            json: self.json,
+            json: self.has(Choice::Json),
         })
     }
 
@@ -333,21 +310,21 @@ impl<'a> Options<'a> {
     fn link(&self, alloc: Global) -> Result<Command, WordsError<'a>> {
         Ok(Command::Link(LinkWords {
             prepare: self.prepare(alloc)?,
-            bytes: self.bytes,
-            lines: self.lines,
+            bytes: self.has(Choice::Bytes),
+            lines: self.has(Choice::Lines),
         }))
     }
 
     /// What a command is asked for.
     fn command(&self, alloc: Global, verb: Verb) -> Result<Command, WordsError<'a>> {
-        if self.version && !self.help {
+        if self.has(Choice::Version) && !self.has(Choice::Help) {
             return Ok(Command::Version);
         }
         match verb {
-            Verb::Check if self.help => Ok(Command::CheckHelp),
-            Verb::List if self.help => Ok(Command::ListHelp),
-            Verb::Inspect if self.help => Ok(Command::InspectHelp),
-            Verb::Link if self.help => Ok(Command::LinkHelp),
+            Verb::Check if self.has(Choice::Help) => Ok(Command::CheckHelp),
+            Verb::List if self.has(Choice::Help) => Ok(Command::ListHelp),
+            Verb::Inspect if self.has(Choice::Help) => Ok(Command::InspectHelp),
+            Verb::Link if self.has(Choice::Help) => Ok(Command::LinkHelp),
             Verb::Check => self.check(alloc),
             Verb::List => self.list(alloc),
             Verb::Inspect => self.inspect(alloc),
@@ -374,7 +351,7 @@ fn read_option<'a>(
         Some(_) => Err(WordsError::NeedlessValue(name)),
         None if has_value(choice) => Ok(Some((choice, name))),
         None => {
-            options.choose(choice);
+            options.chosen.push(choice)?;
             Ok(None)
         }
     }

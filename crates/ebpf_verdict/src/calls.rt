@@ -99,12 +99,12 @@ fn call_topic(alloc: Global, object: &Object, called: Called) -> Result<Topic, A
 
 /// Judges the calls by numbers of a copy; whether the program breaks by them.
 pub fn judge_calls(
-    alloc: Global,
     findings: &mut Findings,
     answers: &Answers<'_>,
     site: &Site<'_>,
     copy: &CodeCopy,
 ) -> Result<bool, AllocError> {
+    let alloc = answers.alloc;
     let mut breaks = false;
     let object = &answers.loaded.object;
     for slot in 0..copy.slots {

@@ -4,7 +4,7 @@ use crate::kernel_symbols::{KernelSymbols, Sort};
 use crate::loaded::Loaded;
 use ebpf_base::{ByName, Text};
 use ebpf_btf::{Btf, BtfError, BtfKind};
-use ebpf_candidates::types_are_compatible;
+use ebpf_core_candidates::types_are_compatible;
 use ebpf_model::ExternDesc;
 use ebpf_report::unknown_externs::{add_settings, add_unknown, unknown};
 use std::alloc::{AllocError, Global};
@@ -200,9 +200,9 @@ pub fn kernel_externs(
         lacking: Vec::new(alloc),
     };
     if let Some(local) = &loaded.object.btf {
-        add_typed(alloc, local, kernel, &loaded.typed, &mut externs)?;
+        add_typed(alloc, local, kernel, &loaded.needs.typed, &mut externs)?;
     }
     add_unknown(&loaded.object.externs, &mut externs.written)?;
-    add_settings(loaded.settings.as_slice(), &mut externs.written)?;
+    add_settings(loaded.needs.settings.as_slice(), &mut externs.written)?;
     Ok(externs)
 }

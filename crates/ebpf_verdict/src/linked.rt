@@ -10,6 +10,7 @@ use ebpf_object::relocation::ProgramMaps;
 use ebpf_parts::insn::bpf_insn;
 use ebpf_reach::reached_slots;
 use ebpf_reloc::{CodeCopy, Linkable, ProgramKey, relocate_calls};
+use ebpf_report::map_uses::own_descriptors;
 use ebpf_report::programs::ObjectProgram;
 use std::alloc::{AllocError, Global};
 use std::collections::HashSet;
@@ -27,17 +28,6 @@ pub struct Linked {
 
 /// Why a program, or all, can't be linked, in a sentence.
 pub type RefusalText = String;
-
-/// Descriptors of an object's own maps: 1 and on, in byte order of their names.
-fn own_descriptors(alloc: Global, object: &Object) -> Result<Vec<(&str, i32)>, AllocError> {
-    let mut descriptors = Vec::with_capacity(alloc, object.maps.len())?;
-    let mut descriptor: i32 = 0;
-    for (name, _) in object.maps.iter() {
-        descriptor = descriptor.saturating_add(1);
-        descriptors.push((name.as_str(), descriptor))?;
-    }
-    Ok(descriptors)
-}
 
 /// Whether memory was refused.
 fn is_memory(error: &EbpfRelocationError) -> bool {

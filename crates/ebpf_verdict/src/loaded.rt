@@ -20,23 +20,6 @@ pub struct Record {
     pub own: Option<u64>,
 }
 
-/// An object, with what is asked of it.
-#[derive(Drop)]
-pub struct Loaded {
-    /// The object, read broadly.
-    pub object: Object,
-    /// The programs that count, in byte order of their names.
-    pub programs: Vec<ObjectProgram>,
-    /// Its records, section by section and in order.
-    pub records: Vec<Record>,
-    /// The maps that functions use, by the functions' keys.
-    pub map_uses: ByKey<Items<MapUse>>,
-    /// The externs with a type.
-    pub typed: ByName<ExternDesc>,
-    /// The names of the externs that the kernel's configuration gives.
-    pub settings: Items<Text>,
-}
-
 /// Adds the records of a section.
 fn add_records(
     alloc: Global,
@@ -82,11 +65,16 @@ fn typed_externs(alloc: Global, object: &Object) -> Result<ByName<ExternDesc>, A
 /// What is asked of an object.
 #[derive(Drop)]
 pub struct Needs {
-    programs: Vec<ObjectProgram>,
-    records: Vec<Record>,
-    map_uses: ByKey<Items<MapUse>>,
-    typed: ByName<ExternDesc>,
-    settings: Items<Text>,
+    /// The programs that count, in byte order of their names.
+    pub programs: Vec<ObjectProgram>,
+    /// Its records, section by section and in order.
+    pub records: Vec<Record>,
+    /// The maps that functions use, by the functions' keys.
+    pub map_uses: ByKey<Items<MapUse>>,
+    /// The externs with a type.
+    pub typed: ByName<ExternDesc>,
+    /// The names of the externs that the kernel's configuration gives.
+    pub settings: Items<Text>,
 }
 
 impl Needs {
@@ -112,16 +100,11 @@ impl Needs {
     }
 }
 
-impl Loaded {
-    /// An object with what is asked of it.
-    pub fn new(object: Object, needs: Needs) -> Loaded {
-        Loaded {
-            object,
-            programs: needs.programs,
-            records: needs.records,
-            map_uses: needs.map_uses,
-            typed: needs.typed,
-            settings: needs.settings,
-        }
-    }
+/// An object, with what is asked of it.
+#[derive(Drop)]
+pub struct Loaded {
+    /// The object, read broadly.
+    pub object: Object,
+    /// What is asked of it.
+    pub needs: Needs,
 }

@@ -2,9 +2,9 @@
 
 use ebpf_btf::{Btf, BtfKind};
 use ebpf_core::{NamedPath, local_path};
+use ebpf_core_places::{Place, PlaceEnd};
 use ebpf_ext::{Relocation, RelocationKind};
-use ebpf_origins::answers::{no_answer, own_value_of};
-use ebpf_places::{Place, PlaceEnd};
+use ebpf_origins::record_names::{no_answer, own_value_of};
 use std::alloc::{AllocError, Global};
 
 /// The id of the type of the member with a number.

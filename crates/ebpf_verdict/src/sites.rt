@@ -8,9 +8,8 @@ use crate::verdict::{Answers, topic_of};
 use ebpf_btf::Btf;
 use ebpf_core::Outcome;
 use ebpf_core_relo::{Absence, RecordResult, RelocationError};
-use ebpf_origins::answers::{absence_words, has_sign};
 use ebpf_origins::lines::{Lines, Span};
-use ebpf_origins::record_names::record_name;
+use ebpf_origins::record_names::{absence_words, has_sign, record_name};
 use ebpf_parts::insn::bpf_insn;
 use ebpf_parts::insn::opcodes::{ALU, ALU64, LD};
 use ebpf_reloc::CodeCopy;
@@ -136,7 +135,6 @@ fn record_topic(
 
 /// Notes a record that has no value.
 fn note_record(
-    alloc: Global,
     findings: &mut Findings,
     answers: &Answers<'_>,
     site: &Site<'_>,
@@ -145,6 +143,7 @@ fn note_record(
     rank: Rank,
     reason: String,
 ) -> Result<(), AllocError> {
+    let alloc = answers.alloc;
     let Some(local) = &answers.loaded.object.btf else {
         return Ok(());
     };
@@ -155,7 +154,6 @@ fn note_record(
 
 /// Notes a record whose value is absent; whether its program breaks.
 fn judge_absent(
-    alloc: Global,
     findings: &mut Findings,
     answers: &Answers<'_>,
     site: &Site<'_>,
@@ -165,14 +163,13 @@ fn judge_absent(
 ) -> Result<bool, AllocError> {
     let breaks = site.is_reached(spot);
     let rank = if breaks { Rank::Breaks } else { Rank::Guarded };
-    let reason = String::from_str(alloc, absence_words(absence))?;
-    note_record(alloc, findings, answers, site, spot, record, rank, reason)?;
+    let reason = String::from_str(answers.alloc, absence_words(absence))?;
+    note_record(findings, answers, site, spot, record, rank, reason)?;
     Ok(breaks)
 }
 
 /// Notes a record that is refused.
 fn judge_refused(
-    alloc: Global,
     findings: &mut Findings,
     answers: &Answers<'_>,
     site: &Site<'_>,
@@ -180,15 +177,14 @@ fn judge_refused(
     record: &Record,
     error: &RelocationError,
 ) -> Result<bool, AllocError> {
-    let reason = format!(in alloc; "refused: {error}")?;
+    let reason = format!(in answers.alloc; "refused: {error}")?;
     let rank = Rank::Breaks;
-    note_record(alloc, findings, answers, site, spot, record, rank, reason)?;
+    note_record(findings, answers, site, spot, record, rank, reason)?;
     Ok(true)
 }
 
 /// Notes a value of a kind where it is another one than the object's own.
 fn note_changed(
-    alloc: Global,
     findings: &mut Findings,
     answers: &Answers<'_>,
     record: &Record,
@@ -196,6 +192,7 @@ fn note_changed(
     own: u64,
     value: u64,
 ) -> Result<(), AllocError> {
+    let alloc = answers.alloc;
     let Some(local) = &answers.loaded.object.btf else {
         return Ok(());
     };
@@ -216,7 +213,6 @@ fn note_changed(
 
 /// Notes the value of a record where it is told and another one than the object's own.
 fn note_value(
-    alloc: Global,
     findings: &mut Findings,
     answers: &Answers<'_>,
     record: &Record,
@@ -226,13 +222,12 @@ fn note_value(
         return Ok(());
     };
     let kind = Kind::of(record.relocation.kind);
-    note_changed(alloc, findings, answers, record, kind, own, value)
+    note_changed(findings, answers, record, kind, own, value)
 }
 
 /// Notes the size of a field where a load or store moves another number of bytes than the object's own. It does so of
 /// integers without a sign and pointers alone; of others its record is refused.
 fn note_moved_size(
-    alloc: Global,
     findings: &mut Findings,
     answers: &Answers<'_>,
     record: &Record,
@@ -242,24 +237,23 @@ fn note_moved_size(
         return Ok(());
     };
     let (own, value) = (u64::from(own.size), u64::from(found.size));
-    note_changed(alloc, findings, answers, record, Kind::ByteSize, own, value)
+    note_changed(findings, answers, record, Kind::ByteSize, own, value)
 }
 
 /// Notes what is written of a record where it is another than the object's own: its value, and the size of what its slot
 /// loads or stores.
 fn note_written(
-    alloc: Global,
     findings: &mut Findings,
     answers: &Answers<'_>,
     spot: Spot<'_>,
     record: &Record,
     outcome: &Outcome,
 ) -> Result<(), AllocError> {
-    note_value(alloc, findings, answers, record, outcome.value)?;
+    note_value(findings, answers, record, outcome.value)?;
     if spot.leads {
         return Ok(());
     }
-    note_moved_size(alloc, findings, answers, record, outcome)
+    note_moved_size(findings, answers, record, outcome)
 }
 
 /// Whether a slot, as the object has it, loads a number and nothing else: by its class it is no load from memory and no
@@ -276,7 +270,6 @@ fn loads_number(answers: &Answers<'_>, copy: &CodeCopy, slot: usize) -> bool {
 
 /// Judges the record of a number; whether the program breaks by it.
 fn judge_record(
-    alloc: Global,
     findings: &mut Findings,
     answers: &Answers<'_>,
     site: &Site<'_>,
@@ -285,7 +278,7 @@ fn judge_record(
 ) -> Result<bool, AllocError> {
     let (Some(outcome), Some(record)) = (
         answers.outcomes.get(number),
-        answers.loaded.records.get(number),
+        answers.loaded.needs.records.get(number),
     ) else {
         return Ok(false);
     };
@@ -297,21 +290,20 @@ fn judge_record(
     let spot = Spot { copy, slot, leads };
     match &outcome.result {
         RecordResult::Value(outcome) => {
-            note_written(alloc, findings, answers, spot, record, outcome)?;
+            note_written(findings, answers, spot, record, outcome)?;
             Ok(false)
         }
         RecordResult::Absent(absence) => {
-            judge_absent(alloc, findings, answers, site, spot, record, *absence)
+            judge_absent(findings, answers, site, spot, record, *absence)
         }
         RecordResult::Refused(error) => {
-            judge_refused(alloc, findings, answers, site, spot, record, error)
+            judge_refused(findings, answers, site, spot, record, error)
         }
     }
 }
 
 /// Judges the records of a copy; whether the program breaks by them.
 fn judge_records(
-    alloc: Global,
     findings: &mut Findings,
     answers: &Answers<'_>,
     site: &Site<'_>,
@@ -322,22 +314,20 @@ fn judge_records(
         return Ok(false);
     };
     for number in numbers.iter() {
-        if judge_record(alloc, findings, answers, site, copy, *number)? {
-            breaks = true;
-        }
+        breaks = judge_record(findings, answers, site, copy, *number)? || breaks;
     }
     Ok(breaks)
 }
 
 /// Judges a map that a copy uses; whether the kernel has no type of its number.
 fn judge_map(
-    alloc: Global,
     findings: &mut Findings,
     answers: &Answers<'_>,
     site: &Site<'_>,
     copy: &CodeCopy,
     used: &MapUse,
 ) -> Result<bool, AllocError> {
+    let alloc = answers.alloc;
     if answers.numbers.knows_map_type(used.map_type) != Some(false) {
         return Ok(false);
     }
@@ -356,34 +346,30 @@ fn judge_map(
 
 /// Judges the maps that a copy uses; whether the program breaks by them.
 fn judge_maps(
-    alloc: Global,
     findings: &mut Findings,
     answers: &Answers<'_>,
     site: &Site<'_>,
     copy: &CodeCopy,
 ) -> Result<bool, AllocError> {
     let mut breaks = false;
-    let Some(uses) = answers.loaded.map_uses.get(copy.key) else {
+    let Some(uses) = answers.loaded.needs.map_uses.get(copy.key) else {
         return Ok(false);
     };
     for used in uses.iter() {
-        if judge_map(alloc, findings, answers, site, copy, used)? {
-            breaks = true;
-        }
+        breaks = judge_map(findings, answers, site, copy, used)? || breaks;
     }
     Ok(breaks)
 }
 
 /// Judges a copy of a function in a linked program; whether the program breaks by it.
 pub fn judge_copy(
-    alloc: Global,
     findings: &mut Findings,
     answers: &Answers<'_>,
     site: &Site<'_>,
     copy: &CodeCopy,
 ) -> Result<bool, AllocError> {
-    let by_records = judge_records(alloc, findings, answers, site, copy)?;
-    let by_maps = judge_maps(alloc, findings, answers, site, copy)?;
-    let by_calls = judge_calls(alloc, findings, answers, site, copy)?;
+    let by_records = judge_records(findings, answers, site, copy)?;
+    let by_maps = judge_maps(findings, answers, site, copy)?;
+    let by_calls = judge_calls(findings, answers, site, copy)?;
     Ok(by_records || by_maps || by_calls)
 }

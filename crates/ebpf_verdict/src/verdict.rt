@@ -17,10 +17,15 @@ use std::alloc::{AllocError, Global};
 /// A kernel's answers to an object.
 #[derive(Drop)]
 pub struct Answers<'a> {
+    pub alloc: Global,
     /// The object.
     pub loaded: &'a Loaded,
+    /// The kernel's types.
+    types: &'a Btf,
     /// The kernel's number.
     pub kernel: usize,
+    /// Whether it lacks an extern, so that no program is loaded.
+    lacks: bool,
     /// What each record comes to.
     pub outcomes: &'a [RecordOutcome],
     /// The numbers of the records of functions, by the functions' keys.
@@ -99,17 +104,16 @@ fn replaces(section: &str) -> bool {
 
 /// Notes that a kernel has no type for what a program is attached to; whether it has none.
 fn note_attach(
-    alloc: Global,
     findings: &mut Findings,
     answers: &Answers<'_>,
-    kernel: &Btf,
     number: usize,
     section: &str,
 ) -> Result<bool, AllocError> {
+    let alloc = answers.alloc;
     if replaces(section) {
         return Ok(false);
     }
-    let AttachTarget::NotFound { name } = attach_target(alloc, section, kernel)? else {
+    let AttachTarget::NotFound { name } = attach_target(alloc, section, answers.types)? else {
         return Ok(false);
     };
     let section = String::from_str(alloc, section)?;
@@ -122,13 +126,13 @@ fn note_attach(
 
 /// Notes that a program can't be linked.
 fn note_refused(
-    alloc: Global,
     findings: &mut Findings,
     answers: &Answers<'_>,
     number: usize,
     name: &str,
     sentence: String,
 ) -> Result<(), AllocError> {
+    let alloc = answers.alloc;
     let name = format!(in alloc; "program {name}")?;
     let topic = topic_of(alloc, name, Kind::Linking, sentence);
     let place = Site::whole(alloc, number);
@@ -137,120 +141,98 @@ fn note_refused(
 
 /// Judges the copies that a program is made of; whether it breaks.
 fn judge_linked(
-    alloc: Global,
     findings: &mut Findings,
     answers: &Answers<'_>,
     number: usize,
     linked: &Linked,
 ) -> Result<bool, AllocError> {
-    let site = Site::new(alloc, number, linked)?;
+    let site = Site::new(answers.alloc, number, linked)?;
     let mut breaks = false;
     for copy in linked.copies.iter() {
-        if judge_copy(alloc, findings, answers, &site, copy)? {
-            breaks = true;
-        }
+        breaks = judge_copy(findings, answers, &site, copy)? || breaks;
     }
     Ok(breaks)
 }
 
 /// Judges a program; whether it breaks.
 fn judge_program(
-    alloc: Global,
     findings: &mut Findings,
     answers: &Answers<'_>,
     linker: &Linker<'_>,
-    kernel: &Btf,
     number: usize,
 ) -> Result<bool, AllocError> {
-    let Some(program) = answers.loaded.programs.get(number) else {
+    let Some(program) = answers.loaded.needs.programs.get(number) else {
         return Ok(false);
     };
     let section = program.section.as_str();
-    let unattached = note_attach(alloc, findings, answers, kernel, number, section)?;
-    match linker.linked(alloc, program)? {
+    let unattached = note_attach(findings, answers, number, section)?;
+    match linker.linked(answers.alloc, program)? {
         Ok(Some(linked)) => {
-            let breaks = judge_linked(alloc, findings, answers, number, &linked)?;
+            let breaks = judge_linked(findings, answers, number, &linked)?;
             Ok(breaks || unattached)
         }
         Ok(None) => Ok(unattached),
         Err(sentence) => {
             let name = program.name.as_str();
-            note_refused(alloc, findings, answers, number, name, sentence)?;
+            note_refused(findings, answers, number, name, sentence)?;
             Ok(true)
         }
     }
 }
 
-/// One answer for each of so many programs.
-fn all_alike(alloc: Global, count: usize, breaks: bool) -> Result<Vec<bool>, AllocError> {
-    let mut all = Vec::with_capacity(alloc, count)?;
-    for _ in 0..count {
-        all.push(breaks)?;
-    }
-    Ok(all)
-}
-
 /// Judges each program; whether each breaks.
 fn judge_programs(
-    alloc: Global,
     findings: &mut Findings,
     answers: &Answers<'_>,
     linker: &Linker<'_>,
-    kernel: &Btf,
-    lacks: bool,
 ) -> Result<Vec<bool>, AllocError> {
-    let count = answers.loaded.programs.len();
-    let mut all = Vec::with_capacity(alloc, count)?;
+    let count = answers.loaded.needs.programs.len();
+    let mut all = Vec::with_capacity(answers.alloc, count)?;
     for number in 0..count {
-        let breaks = judge_program(alloc, findings, answers, linker, kernel, number)?;
-        all.push(breaks || lacks)?;
+        let breaks = judge_program(findings, answers, linker, number)?;
+        all.push(breaks || answers.lacks)?;
     }
     Ok(all)
 }
 
 /// Judges each program of an object that is written for a kernel; whether each breaks.
 fn judge_object(
-    alloc: Global,
     findings: &mut Findings,
     answers: &Answers<'_>,
     object: &Object,
-    kernel: &Btf,
-    lacks: bool,
 ) -> Result<Vec<bool>, AllocError> {
+    let alloc = answers.alloc;
     let sections = object.text_sections(alloc)?;
-    let linker = Linker::new(alloc, object, &sections, &answers.loaded.programs)?;
-    judge_programs(alloc, findings, answers, &linker, kernel, lacks)
+    let linker = Linker::new(alloc, object, &sections, &answers.loaded.needs.programs)?;
+    judge_programs(findings, answers, &linker)
 }
 
 /// Notes that no program can be linked.
 fn note_unwritten(
-    alloc: Global,
     findings: &mut Findings,
     answers: &Answers<'_>,
     sentence: RefusalText,
 ) -> Result<Vec<bool>, AllocError> {
+    let alloc = answers.alloc;
     let name = String::from_str(alloc, "all programs")?;
     let topic = topic_of(alloc, name, Kind::Linking, sentence);
     findings.add(topic, answers.kernel, None)?;
-    all_alike(alloc, answers.loaded.programs.len(), true)
+    Ok(vec![in alloc; true; answers.loaded.needs.programs.len()]?)
 }
 
 /// Judges each program of an object that is written for a kernel, or notes why it isn't; whether each breaks.
 fn judge_written(
-    alloc: Global,
     findings: &mut Findings,
     answers: &Answers<'_>,
     written: Result<Object, RefusalText>,
-    kernel: &Btf,
-    lacks: bool,
 ) -> Result<Vec<bool>, AllocError> {
     match written {
         Ok(object) => {
-            let judged = judge_object(alloc, findings, answers, &object, kernel, lacks);
+            let judged = judge_object(findings, answers, &object);
             drop(object);
             judged
         }
-        Err(sentence) => note_unwritten(alloc, findings, answers, sentence),
+        Err(sentence) => note_unwritten(findings, answers, sentence),
     }
 }
 
@@ -267,13 +249,16 @@ fn judge_outcomes(
 ) -> Result<Vec<bool>, AllocError> {
     let by_function = by_function(alloc, outcomes)?;
     let answers = Answers {
+        alloc,
         loaded,
+        types: kernel,
         kernel: number,
+        lacks,
         outcomes,
         by_function: &by_function,
         numbers: KernelNumbers::of(kernel),
     };
-    judge_written(alloc, findings, &answers, written, kernel, lacks)
+    judge_written(findings, &answers, written)
 }
 
 /// What the records of an object come to over a kernel's types. Nothing is stated of it, so that what calls this isn't

@@ -6,13 +6,11 @@
 //! last one between the marks. A call is a name, and a word behind `=` where it asks for one.
 #![tactic(auto)]
 
-mod kept;
 mod loader;
 mod object;
 mod passes;
 mod prepared;
 mod run;
-mod still_object;
 mod subject;
 mod types;
 

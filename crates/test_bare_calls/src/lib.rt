@@ -5,21 +5,14 @@
 #![tactic(auto)]
 
 mod asking;
-mod calls;
-mod externs;
 mod files;
-mod functions;
-mod hearing;
-mod maps;
+mod passes;
 mod types;
-mod values;
 
-pub use asking::Asker;
-pub use calls::{link_map, relocate_calls, text_sections};
-pub use externs::{relocate_externs, resolve_externs, resolve_lines, resolve_text};
+pub use asking::{Asker, Listener};
 pub use files::{forget, let_go, on_copy, on_file, on_made, on_parsed, on_prepared, parsed};
-pub use functions::{relocate_btf, sanitize_functions};
-pub use hearing::Listener;
-pub use maps::relocate_maps;
+pub use passes::{
+    link_map, patch_map_data, relocate_btf, relocate_calls, relocate_externs, relocate_maps,
+    resolve_externs, resolve_lines, resolve_text, sanitize_functions, text_sections,
+};
 pub use types::{on_types, on_void_types, relocate_types};
-pub use values::patch_map_data;

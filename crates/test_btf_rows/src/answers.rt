@@ -1,6 +1,6 @@
 //! What types answer.
 
-use crate::kinds::kind_of;
+use crate::candidates::kind_of;
 use ebpf_btf::{Btf, BtfError, BtfMember, BtfType};
 use std::alloc::{AllocError, Global};
 use std::borrow::CowStr;

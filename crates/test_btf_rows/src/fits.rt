@@ -1,7 +1,7 @@
 //! Whether types fit: their fields, or the types themselves.
 
 use ebpf_btf::{Btf, BtfError, Endianness};
-use ebpf_candidates::{fields_are_compatible, types_are_compatible};
+use ebpf_core_candidates::{fields_are_compatible, types_are_compatible};
 use std::alloc::{AllocError, Global};
 use test_cases::{Action, Files, no_action, shown, value_or_error};
 

@@ -7,7 +7,6 @@ mod candidates;
 mod changes;
 mod ext;
 mod fits;
-mod kinds;
 mod outcomes;
 mod types;
 

@@ -16,18 +16,15 @@
 
 mod action;
 mod answers;
-mod changes;
 mod failing_reader;
 mod files;
-mod hex;
 mod run;
 mod tally;
 mod task;
 
 pub use action::{Action, no_action};
 pub use answers::{beside_copy, shown, shown_line, value_or_error};
-pub use changes::{changed, front};
 pub use failing_reader::FailingReader;
-pub use files::{Files, Rise};
+pub use files::{Files, Rise, changed, front, put_hex};
 pub use run::{Outcomes, run_cases};
 pub use tally::{Tally, tally_each};

@@ -1,13 +1,14 @@
-use ebpf_base::{ByKey, ByName, Items, Text};
+use ebpf_base::{ByKey, ByName, Text};
 use ebpf_btf::{Btf, BtfEnum, BtfError, BtfMember, Endianness};
 use ebpf_core_relo::{RecordOutcome, RecordOutcomes, RecordResult, record_outcomes};
 use ebpf_elf::SectionIndex;
-use ebpf_ext::{BtfExt, FuncSecInfo, LineSecInfo};
+use ebpf_ext::BtfExt;
 use ebpf_model::Function;
 use ebpf_parts::insn::bpf_insn;
 use std::alloc::{AllocError, Global};
 use std::test::Fail;
 use test_same::same;
+use test_types::functions::function_of;
 use test_types::{add_enumeration, add_int, add_pointer, add_struct, add_typedef, member};
 
 /// The integer of four bytes that each side has as its first type.
@@ -117,39 +118,6 @@ fn instructions(alloc: Global) -> Result<Vec<bpf_insn>, AllocError> {
         })?;
     }
     Ok(instructions)
-}
-
-/// No records on functions.
-fn no_func_info(alloc: Global) -> FuncSecInfo {
-    FuncSecInfo {
-        sec_name_offset: 0,
-        num_info: 0,
-        func_info: Items::new(alloc),
-    }
-}
-
-/// No records on lines.
-fn no_line_info(alloc: Global) -> LineSecInfo {
-    LineSecInfo {
-        sec_name_offset: 0,
-        num_info: 0,
-        line_info: Items::new(alloc),
-    }
-}
-
-/// A function of section 3.
-fn function_of(alloc: Global, name: Text, instructions: Vec<bpf_insn>) -> Function {
-    Function {
-        address: 0,
-        name,
-        section_index: SectionIndex(3),
-        section_offset: 0,
-        instructions: Items::from_vec(instructions),
-        func_info: no_func_info(alloc),
-        line_info: no_line_info(alloc),
-        func_info_rec_size: 0,
-        line_info_rec_size: 0,
-    }
 }
 
 /// The function `p`.

@@ -1,7 +1,11 @@
 //! Why bytes are no file.
 
 use super::file::{Field, file_with};
-use ebpf_base::Endianness;
+use ebpf_base::Endianness::{self, Big, Little};
+use ebpf_elf::ElfReadError::{
+    BadByteOrder, BadMagic, BadRelocationTable, BadSectionTable, BadStringTable, BadSymbolTable,
+    ExtendedNumbering, NotElf64, TooShort,
+};
 use ebpf_elf::{ElfFile, ElfReadError};
 use std::alloc::Global;
 use std::test::Fail;
@@ -34,48 +38,39 @@ fn ends_in(
 
 /// In both byte orders.
 fn ends(alloc: Global, changes: &[Field], want: Option<ElfReadError>) -> Result<(), Fail> {
-    ends_in(alloc, Endianness::Little, changes, want)?;
-    ends_in(alloc, Endianness::Big, changes, want)
+    ends_in(alloc, Little, changes, want)?;
+    ends_in(alloc, Big, changes, want)
 }
 
 /// Each fault of a file alone.
 const FAULTS: [(Field, ElfReadError); 27] = [
-    ((0, 1, 0x7e), ElfReadError::BadMagic),
-    ((3, 1, 0x47), ElfReadError::BadMagic),
-    ((4, 1, 1), ElfReadError::NotElf64),
-    ((5, 1, 0), ElfReadError::BadByteOrder),
-    ((5, 1, 3), ElfReadError::BadByteOrder),
-    ((60, 2, 0), ElfReadError::ExtendedNumbering),
-    ((62, 2, 0xffff), ElfReadError::ExtendedNumbering),
-    ((58, 2, 40), ElfReadError::BadSectionTable),
-    ((60, 2, 7), ElfReadError::BadSectionTable),
-    ((40, 8, 233), ElfReadError::BadSectionTable),
-    (
-        (40, 8, 0xffff_ffff_ffff_ffff),
-        ElfReadError::BadSectionTable,
-    ),
-    ((62, 2, 6), ElfReadError::BadStringTable),
-    ((62, 2, 1), ElfReadError::BadStringTable),
-    ((512, 8, 568), ElfReadError::BadStringTable),
-    (
-        (520, 8, 0xffff_ffff_ffff_ffff),
-        ElfReadError::BadStringTable,
-    ),
-    ((456, 8, 71), ElfReadError::BadSymbolTable),
-    ((448, 8, 545), ElfReadError::BadSymbolTable),
-    ((464, 4, 9), ElfReadError::BadStringTable),
-    ((464, 4, 1), ElfReadError::BadStringTable),
-    ((118, 2, 0xffff), ElfReadError::ExtendedNumbering),
-    ((142, 2, 0xffff), ElfReadError::ExtendedNumbering),
-    ((596, 4, 6), ElfReadError::BadRelocationTable),
-    ((584, 8, 17), ElfReadError::BadRelocationTable),
-    ((576, 8, 601), ElfReadError::BadRelocationTable),
-    ((556, 4, 4), ElfReadError::BadRelocationTable),
-    (
-        (584, 8, 0xffff_ffff_ffff_fff0),
-        ElfReadError::BadRelocationTable,
-    ),
-    ((596, 4, 0xffff_ffff), ElfReadError::BadRelocationTable),
+    ((0, 1, 0x7e), BadMagic),
+    ((3, 1, 0x47), BadMagic),
+    ((4, 1, 1), NotElf64),
+    ((5, 1, 0), BadByteOrder),
+    ((5, 1, 3), BadByteOrder),
+    ((60, 2, 0), ExtendedNumbering),
+    ((62, 2, 0xffff), ExtendedNumbering),
+    ((58, 2, 40), BadSectionTable),
+    ((60, 2, 7), BadSectionTable),
+    ((40, 8, 233), BadSectionTable),
+    ((40, 8, 0xffff_ffff_ffff_ffff), BadSectionTable),
+    ((62, 2, 6), BadStringTable),
+    ((62, 2, 1), BadStringTable),
+    ((512, 8, 568), BadStringTable),
+    ((520, 8, 0xffff_ffff_ffff_ffff), BadStringTable),
+    ((456, 8, 71), BadSymbolTable),
+    ((448, 8, 545), BadSymbolTable),
+    ((464, 4, 9), BadStringTable),
+    ((464, 4, 1), BadStringTable),
+    ((118, 2, 0xffff), ExtendedNumbering),
+    ((142, 2, 0xffff), ExtendedNumbering),
+    ((596, 4, 6), BadRelocationTable),
+    ((584, 8, 17), BadRelocationTable),
+    ((576, 8, 601), BadRelocationTable),
+    ((556, 4, 4), BadRelocationTable),
+    ((584, 8, 0xffff_ffff_ffff_fff0), BadRelocationTable),
+    ((596, 4, 0xffff_ffff), BadRelocationTable),
 ];
 
 #[test]
@@ -89,24 +84,16 @@ fn refuses_each_fault(rt: HostRuntime) -> Result<(), Fail> {
 
 /// Two neighbours in the order of the faults, and the error of the earlier.
 const PAIRS: [(Field, Field, ElfReadError); 10] = [
-    ((0, 1, 0), (4, 1, 1), ElfReadError::BadMagic),
-    ((4, 1, 1), (5, 1, 3), ElfReadError::NotElf64),
-    ((5, 1, 3), (60, 2, 0), ElfReadError::BadByteOrder),
-    (
-        (62, 2, 0xffff),
-        (58, 2, 40),
-        ElfReadError::ExtendedNumbering,
-    ),
-    ((58, 2, 40), (62, 2, 6), ElfReadError::BadSectionTable),
-    ((62, 2, 1), (456, 8, 71), ElfReadError::BadStringTable),
-    ((456, 8, 71), (464, 4, 9), ElfReadError::BadSymbolTable),
-    ((464, 4, 9), (118, 2, 0xffff), ElfReadError::BadStringTable),
-    (
-        (142, 2, 0xffff),
-        (596, 4, 6),
-        ElfReadError::ExtendedNumbering,
-    ),
-    ((448, 8, 600), (584, 8, 17), ElfReadError::BadSymbolTable),
+    ((0, 1, 0), (4, 1, 1), BadMagic),
+    ((4, 1, 1), (5, 1, 3), NotElf64),
+    ((5, 1, 3), (60, 2, 0), BadByteOrder),
+    ((62, 2, 0xffff), (58, 2, 40), ExtendedNumbering),
+    ((58, 2, 40), (62, 2, 6), BadSectionTable),
+    ((62, 2, 1), (456, 8, 71), BadStringTable),
+    ((456, 8, 71), (464, 4, 9), BadSymbolTable),
+    ((464, 4, 9), (118, 2, 0xffff), BadStringTable),
+    ((142, 2, 0xffff), (596, 4, 6), ExtendedNumbering),
+    ((448, 8, 600), (584, 8, 17), BadSymbolTable),
 ];
 
 #[test]
@@ -129,10 +116,10 @@ fn are_refused(bytes: &[u8], from: usize, to: usize, want: ElfReadError) -> Resu
 
 #[test]
 fn refuses_each_prefix(rt: HostRuntime) -> Result<(), Fail> {
-    let bytes = file_with(rt.alloc(), Endianness::Little, &[])?;
+    let bytes = file_with(rt.alloc(), Little, &[])?;
     same_number(bytes.len() as u64, 616)?;
-    are_refused(&bytes, 0, 64, ElfReadError::TooShort)?;
-    are_refused(&bytes, 64, 616, ElfReadError::BadSectionTable)?;
+    are_refused(&bytes, 0, 64, TooShort)?;
+    are_refused(&bytes, 64, 616, BadSectionTable)?;
     is_refused(&bytes, None)
 }
 
@@ -156,5 +143,5 @@ fn passes_over_what_is_not_read(rt: HostRuntime) -> Result<(), Fail> {
         ends(alloc, &[*change], None)?;
     }
     let without_target = [(596, 4, 0), (584, 8, 17)];
-    ends_in(alloc, Endianness::Little, &without_target, None)
+    ends_in(alloc, Little, &without_target, None)
 }

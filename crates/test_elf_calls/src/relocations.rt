@@ -1,8 +1,9 @@
 //! Relocations.
 
-use super::answers::{Question, answers, answers_in_both};
+use super::answers::Question::{Relocations, Targets};
+use super::answers::{answers, answers_in_both};
 use super::file::Field;
-use ebpf_base::Endianness;
+use ebpf_base::Endianness::Big;
 use std::test::Fail;
 
 /// The kind and the size of a section with relocations, the info of its entry, and the entry, with the size of what is
@@ -30,7 +31,7 @@ const RELOCATIONS: [([Field; 3], &str); 4] = [
 fn reads_relocations(rt: HostRuntime) -> Result<(), Fail> {
     let alloc = rt.alloc();
     for (changes, want) in RELOCATIONS.iter() {
-        answers_in_both(alloc, changes, Question::Relocations("kprobe/p"), want)?;
+        answers_in_both(alloc, changes, Relocations("kprobe/p"), want)?;
     }
     Ok(())
 }
@@ -49,11 +50,11 @@ const SECOND_TABLE: [Field; 6] = [
 fn lists_sections_of_relocations(rt: HostRuntime) -> Result<(), Fail> {
     let alloc = rt.alloc();
     for (question, want) in [
-        (Question::Targets, "1 1 "),
-        (Question::Relocations("kprobe/p"), "8 32 2;8 32 2;"),
-        (Question::Relocations(".symtab"), ""),
+        (Targets, "1 1 "),
+        (Relocations("kprobe/p"), "8 32 2;8 32 2;"),
+        (Relocations(".symtab"), ""),
     ] {
-        answers(alloc, Endianness::Big, &SECOND_TABLE, question, want)?;
+        answers(alloc, Big, &SECOND_TABLE, question, want)?;
     }
     Ok(())
 }

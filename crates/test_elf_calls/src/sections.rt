@@ -1,8 +1,9 @@
 //! Sections, their names and their data.
 
-use super::answers::{Question, answers, answers_in_both, section_named};
+use super::answers::Question::{Counts, DataLength, Fields, SecondName, Symbol};
+use super::answers::{answers, answers_in_both, section_named};
 use super::file::{CODE, Field, file_with};
-use ebpf_base::Endianness;
+use ebpf_base::Endianness::{self, Big, Little};
 use ebpf_elf::ElfFile;
 use std::alloc::Global;
 use std::test::Fail;
@@ -12,20 +13,8 @@ use test_same::same_bytes;
 fn reads_a_file_without_sections(rt: HostRuntime) -> Result<(), Fail> {
     let alloc = rt.alloc();
     let changes = [(40, 8, 0), (60, 2, 0)];
-    answers(
-        alloc,
-        Endianness::Big,
-        &changes,
-        Question::Counts,
-        "Big 0 0 0",
-    )?;
-    answers(
-        alloc,
-        Endianness::Big,
-        &changes,
-        Question::Fields(""),
-        "no section",
-    )
+    answers(alloc, Big, &changes, Counts, "Big 0 0 0")?;
+    answers(alloc, Big, &changes, Fields(""), "no section")
 }
 
 /// Fails where the data of the section of the program isn't the first 16 bytes of the code.
@@ -52,40 +41,17 @@ fn data_of<'a>(bytes: &'a [u8], name: &str) -> &'a [u8] {
 fn reads_the_sections(rt: HostRuntime) -> Result<(), Fail> {
     let alloc = rt.alloc();
     let changes = [(312, 8, 0x1000)];
-    answers(
-        alloc,
-        Endianness::Little,
-        &changes,
-        Question::Counts,
-        "Little 5 2 1",
-    )?;
-    answers(
-        alloc,
-        Endianness::Big,
-        &changes,
-        Question::Counts,
-        "Big 5 2 1",
-    )?;
-    answers_in_both(
-        alloc,
-        &changes,
-        Question::Fields("kprobe/p"),
-        "1 1 6 4096 16",
-    )?;
-    has_the_data(alloc, Endianness::Little, &changes)?;
-    has_the_data(alloc, Endianness::Big, &changes)
+    answers(alloc, Little, &changes, Counts, "Little 5 2 1")?;
+    answers(alloc, Big, &changes, Counts, "Big 5 2 1")?;
+    answers_in_both(alloc, &changes, Fields("kprobe/p"), "1 1 6 4096 16")?;
+    has_the_data(alloc, Little, &changes)?;
+    has_the_data(alloc, Big, &changes)
 }
 
 #[test]
 fn finds_the_first_of_a_name(rt: HostRuntime) -> Result<(), Fail> {
-    let question = Question::Fields(".text");
-    answers(
-        rt.alloc(),
-        Endianness::Little,
-        &[(296, 4, 14)],
-        question,
-        "1 1 6 0 16",
-    )
+    let question = Fields(".text");
+    answers(rt.alloc(), Little, &[(296, 4, 14)], question, "1 1 6 0 16")
 }
 
 /// Changes that make the name of `.text` unreadable: past the table, no zero byte after it, no UTF-8.
@@ -100,20 +66,8 @@ fn passes_over_unreadable_names(rt: HostRuntime) -> Result<(), Fail> {
     let alloc = rt.alloc();
     for changes in UNREADABLE.iter() {
         let want = "Err(BadStringTable)";
-        answers(
-            alloc,
-            Endianness::Little,
-            changes,
-            Question::SecondName,
-            want,
-        )?;
-        answers(
-            alloc,
-            Endianness::Little,
-            changes,
-            Question::Fields(".text"),
-            "no section",
-        )?;
+        answers(alloc, Little, changes, SecondName, want)?;
+        answers(alloc, Little, changes, Fields(".text"), "no section")?;
     }
     Ok(())
 }
@@ -122,15 +76,9 @@ fn passes_over_unreadable_names(rt: HostRuntime) -> Result<(), Fail> {
 fn reads_names_without_a_table(rt: HostRuntime) -> Result<(), Fail> {
     let alloc = rt.alloc();
     let changes = [(62, 2, 0), (360, 4, 0), (136, 4, 0)];
-    answers(
-        alloc,
-        Endianness::Little,
-        &changes,
-        Question::Fields(""),
-        "2 1 6 0 8",
-    )?;
+    answers(alloc, Little, &changes, Fields(""), "2 1 6 0 8")?;
     let want = "2 Ok(\"\") Some(2) 0 8";
-    answers(alloc, Endianness::Little, &changes, Question::Symbol, want)
+    answers(alloc, Little, &changes, Symbol, want)
 }
 
 /// Changes of `.text`, and the length of its data where it has any.
@@ -149,13 +97,7 @@ const DATA: [([Field; 2], &str); 5] = [
 fn reads_data(rt: HostRuntime) -> Result<(), Fail> {
     let alloc = rt.alloc();
     for (changes, want) in DATA.iter() {
-        answers(
-            alloc,
-            Endianness::Little,
-            changes,
-            Question::DataLength(".text"),
-            want,
-        )?;
+        answers(alloc, Little, changes, DataLength(".text"), want)?;
     }
     Ok(())
 }

@@ -1,14 +1,15 @@
 //! Symbols.
 
-use super::answers::{Question, answers, answers_in_both};
+use super::answers::Question::{Kind, Symbol};
+use super::answers::{answers, answers_in_both};
 use super::file::Field;
-use ebpf_base::Endianness;
+use ebpf_base::Endianness::{Big, Little};
 use std::test::Fail;
 
 #[test]
 fn reads_the_symbols(rt: HostRuntime) -> Result<(), Fail> {
     let want = "2 Ok(\"f\") Some(2) 24 8";
-    answers_in_both(rt.alloc(), &[(144, 8, 24)], Question::Symbol, want)
+    answers_in_both(rt.alloc(), &[(144, 8, 24)], Symbol, want)
 }
 
 /// The info of a symbol, its kind, whether it is a definition, and whether it is weak.
@@ -28,13 +29,7 @@ const KINDS: [(u64, &str); 9] = [
 fn reads_the_kinds_of_symbols(rt: HostRuntime) -> Result<(), Fail> {
     let alloc = rt.alloc();
     for (info, want) in KINDS.iter() {
-        answers(
-            alloc,
-            Endianness::Little,
-            &[(140, 1, *info)],
-            Question::Kind,
-            want,
-        )?;
+        answers(alloc, Little, &[(140, 1, *info)], Kind, want)?;
     }
     Ok(())
 }
@@ -72,8 +67,8 @@ const SECTIONS: [([Field; 2], &str, &str); 5] = [
 fn reads_the_sections_of_symbols(rt: HostRuntime) -> Result<(), Fail> {
     let alloc = rt.alloc();
     for (changes, fields, kind) in SECTIONS.iter() {
-        answers(alloc, Endianness::Big, changes, Question::Symbol, fields)?;
-        answers(alloc, Endianness::Big, changes, Question::Kind, kind)?;
+        answers(alloc, Big, changes, Symbol, fields)?;
+        answers(alloc, Big, changes, Kind, kind)?;
     }
     Ok(())
 }

@@ -1,8 +1,7 @@
 //! What the names of an object or a file add to errors.
 
-use crate::lines::Lines;
+use crate::lines::{Lines, Sample};
 use crate::prepare::{in_p, without_map};
-use crate::sample::Sample;
 use crate::small_object::{empty_object, put_names};
 use ebpf_elf::ElfReadError;
 use ebpf_ksyms::KsymsError;

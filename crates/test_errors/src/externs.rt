@@ -1,7 +1,6 @@
 //! Why externs can't be resolved.
 
-use crate::lines::Lines;
-use crate::sample::Sample;
+use crate::lines::{Lines, Sample};
 use ebpf_btf::BtfError;
 use ebpf_ksyms::KsymsError;
 use ebpf_variants::variant_of_resolving;

@@ -1,7 +1,6 @@
 //! Why a file can't be read.
 
-use crate::lines::Lines;
-use crate::sample::Sample;
+use crate::lines::{Lines, Sample};
 use ebpf_elf::ElfReadError;
 
 impl Sample for ElfReadError {

@@ -1,7 +1,6 @@
 //! Why the initial values of maps can't be told.
 
-use crate::lines::Lines;
-use crate::sample::Sample;
+use crate::lines::{Lines, Sample};
 use ebpf_elf::ElfReadError;
 use ebpf_initial_slots::InitialSlotError;
 

@@ -1,7 +1,6 @@
 //! Why an object's types can't be made ready for the kernel.
 
-use crate::lines::Lines;
-use crate::sample::Sample;
+use crate::lines::{Lines, Sample};
 use ebpf_btf::BtfError;
 use ebpf_elf::ElfReadError;
 use ebpf_kernel_types::KernelTypesError;

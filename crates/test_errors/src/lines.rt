@@ -1,9 +1,17 @@
 //! The lines that are printed.
 
-use crate::sample::Sample;
 use ebpf_base::{Items, Text};
 use std::alloc::{AllocError, Global};
 use std::fmt::Display;
+
+/// An error type, by the name under which `ebpf_object` has it.
+pub trait Sample: Display + Drop {
+    /// The type's path.
+    const TYPE: &'static str;
+
+    /// The name of the variant, by a `match` of all of them.
+    fn variant(&self) -> &'static str;
+}
 
 /// Lines, and whether all are there: memory may be refused.
 #[derive(Drop)]

@@ -11,7 +11,6 @@ mod lines;
 mod object;
 mod prepare;
 mod records;
-mod sample;
 mod settings;
 mod slots;
 mod small_object;

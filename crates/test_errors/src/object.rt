@@ -1,7 +1,6 @@
 //! Why an object can't be parsed or changed.
 
-use crate::lines::Lines;
-use crate::sample::Sample;
+use crate::lines::{Lines, Sample};
 use ebpf_btf::BtfError;
 use ebpf_elf::ElfReadError;
 use ebpf_parts::ParseError;

@@ -1,7 +1,6 @@
 //! Why a file can't be prepared.
 
-use crate::lines::Lines;
-use crate::sample::Sample;
+use crate::lines::{Lines, Sample};
 use ebpf_core::RelocationError as CoreError;
 use ebpf_core_relo::BtfRelocationError;
 use ebpf_ksyms::KsymsError;

@@ -1,7 +1,6 @@
 //! Why CO-RE relocations can't be applied.
 
-use crate::lines::Lines;
-use crate::sample::Sample;
+use crate::lines::{Lines, Sample};
 use ebpf_base::{Items, Text};
 use ebpf_btf::BtfError;
 use ebpf_core::RelocationError;

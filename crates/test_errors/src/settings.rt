@@ -1,7 +1,6 @@
 //! Why externs of the kernel's configuration can't be listed or defined.
 
-use crate::lines::Lines;
-use crate::sample::Sample;
+use crate::lines::{Lines, Sample};
 use ebpf_kconfig::KconfigError;
 
 impl Sample for KconfigError {

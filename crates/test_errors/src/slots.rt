@@ -1,7 +1,6 @@
 //! Why descriptors, externs and calls can't be written.
 
-use crate::lines::Lines;
-use crate::sample::Sample;
+use crate::lines::{Lines, Sample};
 use ebpf_model::{EbpfRelocationError, RelocationError};
 use ebpf_variants::variant_of_relocation;
 

@@ -1,7 +1,6 @@
 //! Why type information can't be read.
 
-use crate::lines::Lines;
-use crate::sample::Sample;
+use crate::lines::{Lines, Sample};
 use ebpf_btf::BtfError;
 use ebpf_variants::variant_of_types;
 

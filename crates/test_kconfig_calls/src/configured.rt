@@ -37,7 +37,7 @@ const STRING: KconfigType = KconfigType::CharArray { len: 4 };
 
 const LONG_STRING: KconfigType = KconfigType::CharArray { len: 8 };
 
-/// An extern's name and type, and its value in little-endian order, or why there is none.
+/// An extern's name and type, and its value in little-endian order, or why there is none, which says the name.
 type Row = (&'static str, KconfigType, &'static str);
 
 const LETTERS: [Row; 13] = [
@@ -45,17 +45,13 @@ const LETTERS: [Row; 13] = [
     ("CONFIG_NO", BOOL, "[0]"),
     ("CONFIG_N", BOOL, "none"),
     ("CONFIG_LAST", BOOL, "[1]"),
-    ("CONFIG_M", BOOL, "UnsuitedValue { name: \"CONFIG_M\" }"),
+    ("CONFIG_M", BOOL, "UnsuitedValue"),
     ("CONFIG_Y", TRISTATE, "[1, 0, 0, 0]"),
     ("CONFIG_M", TRISTATE, "[2, 0, 0, 0]"),
     ("CONFIG_NO", WIDE, "[0, 0, 0, 0, 0, 0, 0, 0]"),
     ("CONFIG_M", CHAR, "[109]"),
-    ("CONFIG_M", SHORT, "UnsuitedValue { name: \"CONFIG_M\" }"),
-    (
-        "CONFIG_EMPTY",
-        TRISTATE,
-        "UnsuitedValue { name: \"CONFIG_EMPTY\" }",
-    ),
+    ("CONFIG_M", SHORT, "UnsuitedValue"),
+    ("CONFIG_EMPTY", TRISTATE, "UnsuitedValue"),
     ("LINUX_KERNEL_VERSION", SHORT, "none"),
     ("CONFIG_", SHORT, "none"),
 ];
@@ -63,43 +59,23 @@ const LETTERS: [Row; 13] = [
 const NUMBERS: [Row; 15] = [
     ("CONFIG_HZ", SHORT, "[250, 0]"),
     ("CONFIG_HZ", BYTE, "[250]"),
-    ("CONFIG_HZ", CHAR, "ValueOutOfRange { name: \"CONFIG_HZ\" }"),
-    ("CONFIG_HZ", BOOL, "UnsuitedValue { name: \"CONFIG_HZ\" }"),
-    (
-        "CONFIG_HZ",
-        TRISTATE,
-        "UnsuitedValue { name: \"CONFIG_HZ\" }",
-    ),
-    ("CONFIG_HZ", STRING, "UnsuitedValue { name: \"CONFIG_HZ\" }"),
+    ("CONFIG_HZ", CHAR, "ValueOutOfRange"),
+    ("CONFIG_HZ", BOOL, "UnsuitedValue"),
+    ("CONFIG_HZ", TRISTATE, "UnsuitedValue"),
+    ("CONFIG_HZ", STRING, "UnsuitedValue"),
     ("CONFIG_HEX", SHORT, "[255, 0]"),
     ("CONFIG_OCTAL", CHAR, "[8]"),
     ("CONFIG_NEGATIVE", CHAR, "[128]"),
     ("CONFIG_NEGATIVE", SHORT, "[128, 255]"),
-    (
-        "CONFIG_NEGATIVE",
-        BYTE,
-        "ValueOutOfRange { name: \"CONFIG_NEGATIVE\" }",
-    ),
-    (
-        "CONFIG_BELOW",
-        CHAR,
-        "ValueOutOfRange { name: \"CONFIG_BELOW\" }",
-    ),
+    ("CONFIG_NEGATIVE", BYTE, "ValueOutOfRange"),
+    ("CONFIG_BELOW", CHAR, "ValueOutOfRange"),
     (
         "CONFIG_LARGE",
         LONG,
         "[255, 255, 255, 255, 255, 255, 255, 255]",
     ),
-    (
-        "CONFIG_LARGER",
-        LONG,
-        "ValueOutOfRange { name: \"CONFIG_LARGER\" }",
-    ),
-    (
-        "CONFIG_MIXED",
-        LONG,
-        "UnsuitedValue { name: \"CONFIG_MIXED\" }",
-    ),
+    ("CONFIG_LARGER", LONG, "ValueOutOfRange"),
+    ("CONFIG_MIXED", LONG, "UnsuitedValue"),
 ];
 
 const STRINGS: [Row; 6] = [
@@ -110,21 +86,9 @@ const STRINGS: [Row; 6] = [
         "[100, 101, 98, 105, 97, 110, 0, 0]",
     ),
     ("CONFIG_NONE", STRING, "[0, 0, 0, 0]"),
-    (
-        "CONFIG_OPEN",
-        STRING,
-        "UnsuitedValue { name: \"CONFIG_OPEN\" }",
-    ),
-    (
-        "CONFIG_QUOTE",
-        STRING,
-        "UnsuitedValue { name: \"CONFIG_QUOTE\" }",
-    ),
-    (
-        "CONFIG_NAME",
-        SHORT,
-        "UnsuitedValue { name: \"CONFIG_NAME\" }",
-    ),
+    ("CONFIG_OPEN", STRING, "UnsuitedValue"),
+    ("CONFIG_QUOTE", STRING, "UnsuitedValue"),
+    ("CONFIG_NAME", SHORT, "UnsuitedValue"),
 ];
 
 /// An extern that isn't weak.
@@ -145,16 +109,25 @@ fn value_of(
     kconfig_value(alloc, CONFIG, wanted, order)
 }
 
-/// This value, or why there is none.
+/// This value, or why there is none, but for the extern's name in the error.
 fn shown(
     alloc: Global,
+    name: &str,
     value: Result<Option<Items<u8>>, KconfigError>,
 ) -> Result<String, AllocError> {
     match value {
         Ok(Some(value)) => format!(in alloc; "{:?}", value.as_slice()),
         Ok(None) => String::from_str(alloc, "none"),
-        Err(error) => format!(in alloc; "{error:?}"),
+        Err(error) => without_name(alloc, name, &error),
     }
+}
+
+/// An error that says the name alone, without it.
+fn without_name(alloc: Global, name: &str, error: &KconfigError) -> Result<String, AllocError> {
+    let text = format!(in alloc; "{error:?}")?;
+    let said = format!(in alloc; " {{ name: {name:?} }}")?;
+    let variant = text.as_str().strip_suffix(said.as_str());
+    String::from_str(alloc, variant.unwrap_or(text.as_str()))
 }
 
 /// The value of an extern that isn't weak, or why there is none.
@@ -165,7 +138,7 @@ fn outcome(
     order: Endianness,
 ) -> Result<String, AllocError> {
     let wanted = strong(alloc, name, kind)?;
-    shown(alloc, value_of(alloc, &wanted, order))
+    shown(alloc, name, value_of(alloc, &wanted, order))
 }
 
 /// Fails where the value of a row's extern isn't the row's.

@@ -3,9 +3,7 @@
 use super::asked::{Question, ask};
 use super::defined::{defines, has_maps, has_symbols};
 use super::objects::kconfig_object;
-use ebpf_base::{ByKey, ByOffset, BySection, Items, Text};
-use ebpf_elf::SectionIndex;
-use ebpf_ext::{FuncSecInfo, LineSecInfo};
+use ebpf_base::{ByKey, ByOffset, BySection, Text};
 use ebpf_model::Function;
 use ebpf_object::Object;
 use ebpf_parts::Relocation;
@@ -16,6 +14,7 @@ use std::test::Fail;
 use test_bare_calls::{Listener, relocate_maps};
 use test_same::{same, same_bytes};
 use test_types::externs::Extern;
+use test_types::functions::function_of;
 
 /// A load of 16 bytes, whose second half adds 2.
 const LOAD: [bpf_insn; 2] = [
@@ -42,39 +41,6 @@ const RELOCATION: Relocation = Relocation {
 
 /// Two externs, the second of which a function loads.
 const EXTERNS: [Extern; 2] = [("CONFIG_HZ", 5, false), ("CONFIG_SHORT", 4, false)];
-
-/// No records on functions.
-fn no_func_info(alloc: Global) -> FuncSecInfo {
-    FuncSecInfo {
-        sec_name_offset: 0,
-        num_info: 0,
-        func_info: Items::new(alloc),
-    }
-}
-
-/// No records on lines.
-fn no_line_info(alloc: Global) -> LineSecInfo {
-    LineSecInfo {
-        sec_name_offset: 0,
-        num_info: 0,
-        line_info: Items::new(alloc),
-    }
-}
-
-/// A function of section 3.
-fn function_of(alloc: Global, name: Text, instructions: Vec<bpf_insn>) -> Function {
-    Function {
-        address: 0,
-        name,
-        section_index: SectionIndex(3),
-        section_offset: 0,
-        instructions: Items::from_vec(instructions),
-        func_info: no_func_info(alloc),
-        line_info: no_line_info(alloc),
-        func_info_rec_size: 0,
-        line_info_rec_size: 0,
-    }
-}
 
 /// A function of one load.
 fn loading(alloc: Global) -> Result<Function, AllocError> {

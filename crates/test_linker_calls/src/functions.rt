@@ -45,6 +45,25 @@ pub type TestReference = (usize, usize, Target);
 /// The slots of a function.
 pub type TestSlots<'a> = &'a [bpf_insn];
 
+/// The functions that programs, which are the first, refer to.
+pub const PROGRAM: Target = Target::Function(0);
+
+pub const F: Target = Target::Function(1);
+
+pub const G: Target = Target::Function(2);
+
+pub const H: Target = Target::Function(3);
+
+/// A fault in the place of a function.
+pub const FAULT: Target = Target::Nowhere(Fault::UnsupportedTextSymbol { index: 5 });
+
+/// Functions with their references, and what the first of them gives.
+pub type Case = (
+    &'static [TestSlots<'static>],
+    &'static [TestReference],
+    &'static str,
+);
+
 /// A linked program, or the fault; none where the references are not sound.
 pub type Answer = Option<Result<LinkedProgram, Fault>>;
 

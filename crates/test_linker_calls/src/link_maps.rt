@@ -1,11 +1,11 @@
 //! What programs are made of, beside the slots that linking writes.
 
 use super::functions::{
-    Answer, CALLS, CALLS_TWICE, ENDS, EXIT, LOAD, MapAnswer, NOTHING, TestReference, TestSlots,
-    link_map_of, linked, lists, plain_bodies,
+    Answer, CALLS, CALLS_TWICE, Case, ENDS, EXIT, F, FAULT, G, LOAD, MapAnswer, NOTHING, PROGRAM,
+    TestReference, TestSlots, link_map_of, linked, lists, plain_bodies,
 };
 use ebpf_linker::link_map::{NumberedCopy, NumberedLinkMap, Reference};
-use ebpf_linker::{Body, Call, Fault, Target};
+use ebpf_linker::{Body, Call};
 use ebpf_parts::insn::bpf_insn;
 use std::alloc::{AllocError, Global};
 use std::test::Fail;
@@ -98,61 +98,37 @@ fn is_made_of(
     same(text.as_str(), want)
 }
 
-/// A program that calls itself has a copy of its own.
-#[test]
-fn calls_itself(rt: HostRuntime) -> Result<(), Fail> {
-    let references = [(0, 0, Target::Function(0))];
-    is_made_of(
-        rt.alloc(),
+const CASES: [Case; 4] = [
+    // A program that calls itself has a copy of its own.
+    (
         &[&CALLS],
-        &references,
+        &[(0, 0, PROGRAM)],
         "0@0+2 0@2+2 0>2 call Some(1) 2>2 call Some(-1) of 4",
-    )
-}
-
-/// P calls g and f, f calls g: g has one copy, before f's.
-#[test]
-fn two_callers_share_a_function(rt: HostRuntime) -> Result<(), Fail> {
-    let references = [
-        (0, 0, Target::Function(2)),
-        (0, 1, Target::Function(1)),
-        (1, 0, Target::Function(2)),
-    ];
-    is_made_of(
-        rt.alloc(),
+    ),
+    // P calls g and f, f calls g: g has one copy, before f's.
+    (
         &[&CALLS_TWICE, &CALLS, &ENDS],
-        &references,
+        &[(0, 0, G), (0, 1, F), (1, 0, G)],
         "0@0+3 2@3+1 1@4+2 0>3 call Some(2) 1>4 call Some(2) 4>3 call Some(-2) of 6",
-    )
-}
-
-/// A load of a function's address.
-#[test]
-fn callback(rt: HostRuntime) -> Result<(), Fail> {
-    let references = [(0, 0, Target::Function(1))];
-    is_made_of(
-        rt.alloc(),
+    ),
+    // A load of a function's address.
+    (
         &[&[LOAD, NOTHING, EXIT], &ENDS],
-        &references,
+        &[(0, 0, F)],
         "0@0+3 1@3+1 0>3 load Some(2) of 4",
-    )
-}
-
-/// A fault of a function that is called.
-#[test]
-fn fault(rt: HostRuntime) -> Result<(), Fail> {
-    let references = [
-        (0, 0, Target::Function(1)),
-        (
-            1,
-            0,
-            Target::Nowhere(Fault::UnsupportedTextSymbol { index: 5 }),
-        ),
-    ];
-    is_made_of(
-        rt.alloc(),
+    ),
+    // A fault of a function that is called.
+    (
         &[&CALLS, &CALLS],
-        &references,
+        &[(0, 0, F), (1, 0, FAULT)],
         "UnsupportedTextSymbol { index: 5 } UnsupportedTextSymbol { index: 5 }",
-    )
+    ),
+];
+
+#[test]
+fn programs_are_made_of_these(rt: HostRuntime) -> Result<(), Fail> {
+    for (slots, references, want) in CASES.iter() {
+        is_made_of(rt.alloc(), slots, references, want)?;
+    }
+    Ok(())
 }

@@ -1,8 +1,8 @@
 //! The separate functions and the linked program, run beside each other.
 
 use super::functions::{
-    Answer, CALL, CALLS, CALLS_TWICE, ENDS, EXIT, LOAD, NOTHING, TestReference, TestSlots, linked,
-    lists, plain_bodies,
+    Answer, CALL, CALLS, CALLS_TWICE, ENDS, EXIT, F, G, LOAD, NOTHING, PROGRAM, TestReference,
+    TestSlots, linked, lists, plain_bodies,
 };
 use ebpf_linker::{Body, Call, Target};
 use ebpf_parts::insn::{bpf_insn, opcodes};
@@ -363,7 +363,7 @@ fn visits(
 fn calls_itself(rt: HostRuntime) -> Result<(), Fail> {
     let functions = Functions {
         slots: &[&CALLS],
-        references: &[(0, 0, Target::Function(0))],
+        references: &[(0, 0, PROGRAM)],
         order: &[0, 0],
     };
     let want =
@@ -377,11 +377,7 @@ fn calls_itself(rt: HostRuntime) -> Result<(), Fail> {
 fn calls_in_turn(rt: HostRuntime) -> Result<(), Fail> {
     let functions = Functions {
         slots: &[&CALLS_TWICE, &CALLS, &ENDS],
-        references: &[
-            (0, 0, Target::Function(1)),
-            (0, 1, Target::Function(2)),
-            (1, 0, Target::Function(2)),
-        ],
+        references: &[(0, 0, F), (0, 1, G), (1, 0, G)],
         order: &[0, 1, 2],
     };
     let want = "0=0.0 3=1.0 5=2.0 4=1.1 1=0.1 5=2.0 2=0.2 Ended, 31 lists agree";
@@ -402,7 +398,7 @@ fn branches(alloc: Global, decisions: &[bool], want: &str) -> Result<(), Fail> {
     let program = [branch(1), CALL, EXIT];
     let functions = Functions {
         slots: &[&program, &ENDS],
-        references: &[(0, 1, Target::Function(1))],
+        references: &[(0, 1, F)],
         order: &[0, 1],
     };
     visits(alloc, functions, decisions, want)
@@ -442,11 +438,7 @@ fn loops(alloc: Global, decisions: &[bool], want: &str) -> Result<(), Fail> {
     let function = [branch(2), CALL, jump(-3), EXIT];
     let functions = Functions {
         slots: &[&program, &function, &ENDS],
-        references: &[
-            (0, 0, Target::Function(2)),
-            (0, 2, Target::Function(1)),
-            (1, 1, Target::Function(2)),
-        ],
+        references: &[(0, 0, G), (0, 2, F), (1, 1, G)],
         order: &[0, 2, 1],
     };
     visits(alloc, functions, decisions, want)

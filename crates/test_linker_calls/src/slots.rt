@@ -1,8 +1,8 @@
 //! Programs and functions linked, as texts.
 
 use super::functions::{
-    Answer, CALLS, CALLS_TWICE, ENDS, EXIT, LOAD, NOTHING, TestReference, TestSlots, linked,
-    linked_at, lists, plain, plain_bodies,
+    Answer, CALLS, CALLS_TWICE, Case, ENDS, EXIT, F, FAULT, G, H, LOAD, NOTHING, PROGRAM,
+    TestReference, TestSlots, linked, linked_at, lists, plain, plain_bodies,
 };
 use ebpf_ext::{bpf_func_info, bpf_line_info};
 use ebpf_linker::{Body, Call, Fault, LinkedProgram, Tables, Target};
@@ -131,123 +131,63 @@ fn link_in_turn(
     same(text.as_str(), want)
 }
 
-/// A program that calls itself has a copy of its own.
-#[test]
-fn calls_itself(rt: HostRuntime) -> Result<(), Fail> {
-    let references = [(0, 0, Target::Function(0))];
-    links(
-        rt.alloc(),
+const CASES: [Case; 7] = [
+    // A program that calls itself has a copy of its own.
+    (
         &[&CALLS],
-        &references,
+        &[(0, 0, PROGRAM)],
         "1/1 0/0 -1/1 0/0 Some(0) None",
-    )
-}
-
-/// P calls f and g, f calls g.
-#[test]
-fn calls_in_turn(rt: HostRuntime) -> Result<(), Fail> {
-    let references = [
-        (0, 0, Target::Function(1)),
-        (0, 1, Target::Function(2)),
-        (1, 0, Target::Function(2)),
-    ];
-    links(
-        rt.alloc(),
+    ),
+    // P calls f and g, f calls g.
+    (
         &[&CALLS_TWICE, &CALLS, &ENDS],
-        &references,
+        &[(0, 0, F), (0, 1, G), (1, 0, G)],
         "2/1 3/1 0/0 1/1 0/0 0/0 Some(0) None",
-    )
-}
-
-/// P calls g and f, f calls g: g stands before f, though its number is higher.
-#[test]
-fn stands_where_it_is_called_first(rt: HostRuntime) -> Result<(), Fail> {
-    let references = [
-        (0, 0, Target::Function(2)),
-        (0, 1, Target::Function(1)),
-        (1, 0, Target::Function(2)),
-    ];
-    links(
-        rt.alloc(),
+    ),
+    // P calls g and f, f calls g: g stands before f, though its number is higher.
+    (
         &[&CALLS_TWICE, &CALLS, &ENDS],
-        &references,
+        &[(0, 0, G), (0, 1, F), (1, 0, G)],
         "2/1 2/1 0/0 0/0 -2/1 0/0 Some(0) None",
-    )
-}
-
-/// P calls f and h, f calls g, h calls g: f, g, h.
-#[test]
-fn depth_first(rt: HostRuntime) -> Result<(), Fail> {
-    let references = [
-        (0, 0, Target::Function(1)),
-        (0, 1, Target::Function(3)),
-        (1, 0, Target::Function(2)),
-        (3, 0, Target::Function(2)),
-    ];
-    links(
-        rt.alloc(),
+    ),
+    // P calls f and h, f calls g, h calls g: f, g, h.
+    (
         &[&CALLS_TWICE, &CALLS, &ENDS, &CALLS],
-        &references,
+        &[(0, 0, F), (0, 1, H), (1, 0, G), (3, 0, G)],
         "2/1 4/1 0/0 1/1 0/0 0/0 -2/1 0/0 Some(0) None",
-    )
-}
-
-/// A load of a function's address.
-#[test]
-fn address_of_a_function(rt: HostRuntime) -> Result<(), Fail> {
-    let references = [(0, 0, Target::Function(1))];
-    links(
-        rt.alloc(),
+    ),
+    // A load of a function's address.
+    (
         &[&[LOAD, NOTHING, EXIT], &ENDS],
-        &references,
+        &[(0, 0, F)],
         "2/4 0/0 0/0 0/0 Some(0) None",
-    )
-}
-
-/// A fault in a function that is called before the slot with another.
-#[test]
-fn first_fault_on_the_walk(rt: HostRuntime) -> Result<(), Fail> {
-    let references = [
-        (0, 0, Target::Function(1)),
-        (
-            0,
-            1,
-            Target::Nowhere(Fault::UnsupportedTextSymbol { index: 5 }),
-        ),
-        (
-            1,
-            0,
-            Target::Nowhere(Fault::UnknownFunction {
-                address: 16,
-                caller: 1,
-            }),
-        ),
-    ];
-    links(
-        rt.alloc(),
+    ),
+    // A fault in a function that is called before the slot with another.
+    (
         &[&CALLS_TWICE, &CALLS],
-        &references,
+        &[(0, 0, F), (0, 1, FAULT), (1, 0, UNKNOWN)],
         "UnknownFunction { address: 16, caller: 1 }",
-    )
-}
-
-/// A fault in a function that nothing calls.
-#[test]
-fn fault_that_nothing_reaches(rt: HostRuntime) -> Result<(), Fail> {
-    let references = [
-        (0, 0, Target::Function(1)),
-        (
-            2,
-            0,
-            Target::Nowhere(Fault::UnsupportedTextSymbol { index: 5 }),
-        ),
-    ];
-    links(
-        rt.alloc(),
+    ),
+    // A fault in a function that nothing calls.
+    (
         &[&CALLS, &ENDS, &CALLS],
-        &references,
+        &[(0, 0, F), (2, 0, FAULT)],
         "1/1 0/0 0/0 Some(0) None",
-    )
+    ),
+];
+
+/// Another fault in the place of a function.
+const UNKNOWN: Target = Target::Nowhere(Fault::UnknownFunction {
+    address: 16,
+    caller: 1,
+});
+
+#[test]
+fn links_programs(rt: HostRuntime) -> Result<(), Fail> {
+    for (slots, references, want) in CASES.iter() {
+        links(rt.alloc(), slots, references, want)?;
+    }
+    Ok(())
 }
 
 /// A record on a function, or on a line, at a slot.
@@ -284,7 +224,7 @@ fn with_records<'a>(
         func_info,
         line_info,
     };
-    outcome(alloc, &[program, callee], &[(0, 0, Target::Function(1))])
+    outcome(alloc, &[program, callee], &[(0, 0, F)])
 }
 
 /// Fails where that isn't this.
@@ -306,13 +246,9 @@ fn moves_records(rt: HostRuntime) -> Result<(), Fail> {
 }
 
 #[test]
-fn wants_records_of_both(rt: HostRuntime) -> Result<(), Fail> {
+fn refuses_records(rt: HostRuntime) -> Result<(), Fail> {
     let want = "FunctionInfoMismatch { callee: 1 }";
-    links_records(rt.alloc(), &ENDS, &[], &[line_at(1)], want)
-}
-
-#[test]
-fn line_before_the_first(rt: HostRuntime) -> Result<(), Fail> {
+    links_records(rt.alloc(), &ENDS, &[], &[line_at(1)], want)?;
     let lines = [line_at(2), line_at(1)];
     let want = "InvalidLineInfo { callee: 1 }";
     links_records(rt.alloc(), &[NOTHING, EXIT], &[func_at(1)], &lines, want)
@@ -379,17 +315,7 @@ fn long_chain(rt: HostRuntime) -> Result<(), Fail> {
 /// Five functions linked in turn: after a fault, and again.
 fn share_tables(alloc: Global, tables: &Tables) -> Result<(), Fail> {
     let slots: [TestSlots<'_>; 4] = [&CALLS_TWICE, &CALLS, &ENDS, &CALLS_TWICE];
-    let references = [
-        (0, 0, Target::Function(1)),
-        (0, 1, Target::Function(2)),
-        (1, 0, Target::Function(2)),
-        (3, 0, Target::Function(2)),
-        (
-            3,
-            1,
-            Target::Nowhere(Fault::UnsupportedTextSymbol { index: 5 }),
-        ),
-    ];
+    let references = [(0, 0, F), (0, 1, G), (1, 0, G), (3, 0, G), (3, 1, FAULT)];
     let want = "2/1 3/1 0/0 1/1 0/0 0/0 Some(0) None; 1/1 0/0 0/0 Some(0) None; 0/0 None None; \
         UnsupportedTextSymbol { index: 5 }; 1/1 0/0 0/0 Some(0) None; ";
     link_in_turn(alloc, tables, &slots, &references, &[0, 1, 2, 3, 1], want)
@@ -400,7 +326,7 @@ fn share_tables(alloc: Global, tables: &Tables) -> Result<(), Fail> {
 fn programs_share_tables(rt: HostRuntime) -> Result<(), Fail> {
     let tables = Tables::new();
     share_tables(rt.alloc(), &tables)?;
-    let alone = [(0, 0, Target::Function(0))];
+    let alone = [(0, 0, PROGRAM)];
     let want = "1/1 0/0 -1/1 0/0 Some(0) None; ";
     link_in_turn(rt.alloc(), &tables, &[&CALLS], &alone, &[0], want)
 }

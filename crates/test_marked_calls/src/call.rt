@@ -1,8 +1,33 @@
 //! Calls by their names, and the marks around the one that is looked at.
 
-use crate::given::Kernel;
+use ebpf_btf::Btf;
 use std::fmt::Debug;
 use std::io;
+
+/// The bytes of the files.
+#[derive(Drop)]
+pub struct Files {
+    pub object: Vec<u8>,
+    pub types: Vec<u8>,
+    pub lines: Vec<u8>,
+}
+
+/// A kernel's types where there are some, and its symbols line by line.
+#[derive(Clone, Copy)]
+pub struct Kernel<'a> {
+    pub types: Option<&'a Btf>,
+    pub lines: &'a [u8],
+}
+
+impl Files {
+    /// What calls are given of a kernel.
+    pub fn kernel<'a>(&'a self, types: Option<&'a Btf>) -> Kernel<'a> {
+        Kernel {
+            types,
+            lines: self.lines.as_slice(),
+        }
+    }
+}
 
 /// The name of a call, the word behind it (the empty one where there is none), what it may be given of a kernel, where it
 /// is told, and whether it is the one that is looked at.

@@ -4,22 +4,15 @@
 
 mod call;
 mod code;
-mod given;
 mod kept_parts;
 mod small;
 mod still;
-mod still_file;
-mod still_maps;
-mod still_types;
 mod type_questions;
 mod types;
 
-pub use call::{Call, say};
+pub use call::{Call, Files, Kernel, say};
 pub use code::on_code;
-pub use given::{Files, Kernel};
 pub use kept_parts::{on_ext, on_map};
 pub use small::on_small;
-pub use still::mix;
-pub use still_file::on_file;
-pub use still_maps::{changed_map, map_by_info, of_maps};
+pub use still::{changed_map, map_by_info, mix, of_maps, on_file};
 pub use types::{on_types, parse_types, take_types};

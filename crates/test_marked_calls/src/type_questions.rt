@@ -1,9 +1,9 @@
 //! What is asked of types.
 
 use crate::call::{Call, say};
-use crate::still_types::of_types;
+use crate::still::of_types;
 use ebpf_btf::{Btf, BtfError, BtfKind, BtfType};
-use ebpf_candidates::{TypeIndex, fields_are_compatible};
+use ebpf_core_candidates::{TypeIndex, fields_are_compatible};
 use std::alloc::Global;
 use std::io;
 

@@ -1,13 +1,9 @@
 //! Actions on an object.
 
-use crate::externs_written::externs_written;
-use crate::fds_written::fds_written;
-use crate::linked::linked;
+use crate::passes::{externs_written, fds_written, linked, sanitized, types_relocated};
 use crate::patched::patched;
 use crate::resolved::resolved;
-use crate::sanitized::sanitized;
 use crate::tables::put_table;
-use crate::types_relocated::types_relocated;
 use ebpf_object::Object;
 use ebpf_object::obj::Reading;
 use std::alloc::{AllocError, Global};

@@ -1,6 +1,6 @@
 //! Values of variables that are written into the data of maps.
 
-use crate::answers::Shown;
+use crate::passes::Shown;
 use ebpf_object::Object;
 use std::alloc::{AllocError, Global};
 use std::collections::HashMap;

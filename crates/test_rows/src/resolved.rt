@@ -1,8 +1,7 @@
 //! Externs that are found in a kernel: its types are the file `kernel`, if there is one, and its addresses the file
 //! `kallsyms`.
 
-use crate::answers::Shown;
-use crate::externs_written::written;
+use crate::passes::{Shown, known_written};
 use ebpf_btf::Btf;
 use ebpf_object::Object;
 use std::alloc::{AllocError, Global};
@@ -71,7 +70,7 @@ fn put_found(
     match what {
         "externs" => put_lines(alloc, text, &object.externs),
         "slots" => {
-            let slots = written(alloc, object)?;
+            let slots = known_written(alloc, object)?;
             text.push_str(slots.as_str())
         }
         _ => text.push_str("no such outcome"),

@@ -8,7 +8,6 @@ mod lines;
 mod maps;
 mod names;
 mod parts;
-mod programs;
 mod records;
 mod slots;
 
@@ -18,6 +17,5 @@ pub use lines::put_lines;
 pub use maps::{map_copy, map_info, put_map_ids};
 pub use names::{default_attach_type, kind, loaded, of_number};
 pub use parts::{put_functions, put_relocations, put_symbols};
-pub use programs::put_slots;
 pub use records::{put_records, put_type_relocations};
-pub use slots::{put_immediates, with_slots};
+pub use slots::{put_immediates, put_slots, with_slots};

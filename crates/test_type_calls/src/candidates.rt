@@ -1,5 +1,5 @@
 use ebpf_btf::{Btf, BtfError, BtfKind};
-use ebpf_candidates::{KindsIndex, TypeIndex};
+use ebpf_core_candidates::{KindsIndex, TypeIndex};
 use std::alloc::{AllocError, Global};
 use std::test::Fail;
 use test_same::same;

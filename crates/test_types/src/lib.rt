@@ -2,6 +2,7 @@
 #![tactic(auto)]
 
 pub mod externs;
+pub mod functions;
 
 use ebpf_btf::{Btf, BtfEnum, BtfError, BtfMember, BtfType, DataSecEntry, Rows};
 

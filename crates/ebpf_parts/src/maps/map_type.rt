@@ -2,7 +2,7 @@
 
 ghost use Rattle.std.specs.Prelude.{◌≡◌, Some, slice_get};
 ghost use Rattle.ebpf_parts.specs.Numbers.{at_number};
-ghost use Rattle.ebpf_parts.specs.MapTypes.{map_types};
+ghost use Rattle.ebpf_parts.specs.Maps.{map_types};
 
 use crate::binding::{InvalidTypeBinding, at_number};
 
@@ -87,7 +87,7 @@ const MAP_TYPES: [bpf_map_type; 35] = [
 
 impl bpf_map_type {
     /// The number of the type.
-    #[tactic(auto, unfolding(crate::specs::MapTypes::map_types))]
+    #[tactic(auto, unfolding(crate::specs::Maps::map_types))]
     pub fn number(self) -> u32
         ensures { slice_get map_types result ≡ Some self }
     {
@@ -101,7 +101,7 @@ impl TryFrom<u32> for bpf_map_type {
     ghost try_from_gives = { λ number result. result ≡ at_number map_types number };
 
     /// The type of a number. `InvalidTypeBinding` with the number from 35 on.
-    #[tactic(auto, unfolding(crate::specs::MapTypes::map_types))]
+    #[tactic(auto, unfolding(crate::specs::Maps::map_types))]
     fn try_from(value: u32) -> Result<bpf_map_type, InvalidTypeBinding<u32>> {
         at_number(&MAP_TYPES, value)
     }

@@ -1,7 +1,7 @@
 //! How a map outlives its object.
 
 ghost use Rattle.std.specs.Prelude.{◌≡◌};
-ghost use Rattle.ebpf_parts.specs.Pinning.{pinning_type};
+ghost use Rattle.ebpf_parts.specs.Maps.{pinning_type};
 
 use thiserror::Error;
 

@@ -1,7 +1,7 @@
 //! The ways of attaching a program, by their numbers.
 
 ghost use Rattle.std.specs.Prelude.{◌≡◌};
-ghost use Rattle.ebpf_parts.specs.AttachTypes.{attach_type_number};
+ghost use Rattle.ebpf_parts.specs.ProgramTypes.{attach_type_number};
 
 /// Ways of attaching a program, with the kernel's names and numbers (of its `enum bpf_attach_type`). Those
 /// are here that a program's kind chooses between.
@@ -38,7 +38,7 @@ pub enum bpf_attach_type {
 
 impl bpf_attach_type {
     /// The kernel's number.
-    #[tactic(auto, unfolding(crate::specs::AttachTypes::attach_type_number))]
+    #[tactic(auto, unfolding(crate::specs::ProgramTypes::attach_type_number))]
     pub fn number(self) -> u32
         ensures { result ≡ attach_type_number self }
     {

@@ -1,7 +1,7 @@
 //! Programs for packets of a control group.
 
 ghost use Rattle.std.specs.Prelude.{◌≡◌};
-ghost use Rattle.ebpf_parts.specs.AttachTypes.{cgroup_skb_attach_type};
+ghost use Rattle.ebpf_parts.specs.ProgramTypes.{cgroup_skb_attach_type};
 
 use crate::programs::attach_type::bpf_attach_type;
 

@@ -1,7 +1,7 @@
 //! Programs for the options of a control group's sockets.
 
 ghost use Rattle.std.specs.Prelude.{◌≡◌};
-ghost use Rattle.ebpf_parts.specs.AttachTypes.{cgroup_sockopt_attach_type};
+ghost use Rattle.ebpf_parts.specs.ProgramTypes.{cgroup_sockopt_attach_type};
 
 use crate::programs::attach_type::bpf_attach_type;
 

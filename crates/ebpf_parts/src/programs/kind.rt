@@ -2,8 +2,8 @@
 
 ghost use Rattle.std.specs.Prelude.{◌≡◌, ◌==◌, ◌<◌, IfSome, length};
 ghost use Rattle.std.specs.List.{position};
-ghost use Rattle.std.specs.Option.{option_copied, option_map};
-ghost use Rattle.ebpf_parts.specs.ProgramKinds.{name_fits, has_target, is_marked, kind_in, longer, longest_fit, row_name, program_kind, unmarked};
+ghost use Rattle.std.specs.Option.{option_copied};
+ghost use Rattle.ebpf_parts.specs.ProgramTypes.{name_fits, has_target, is_marked, kind_in, longer, longest_fit, row_name, program_kind, unmarked};
 
 use crate::programs::named_kinds::NAMED_KINDS;
 use crate::programs::program_type::bpf_prog_type;
@@ -82,7 +82,7 @@ fn longer<'a>(found: Option<&'a NamedKind>, row: &'a NamedKind) -> Option<&'a Na
 }
 
 /// Of the rows that a name fits the one with the longest name.
-#[tactic(auto, unfolding(crate::specs::ProgramKinds::longest_fit), using(crate::proofs::KindRows::row_fits, crate::proofs::KindRows::row_passed, crate::proofs::KindRows::rows_seen))]
+#[tactic(auto, unfolding(crate::specs::ProgramTypes::longest_fit), using(crate::proofs::ProgramKinds::row_fits, crate::proofs::ProgramKinds::row_passed, crate::proofs::ProgramKinds::rows_seen))]
 fn longest_fit<'a>(rows: &'a [NamedKind], name: &[u8]) -> Option<&'a NamedKind>
     ensures { option_copied result ≡ longest_fit name.now rows.now }
 {

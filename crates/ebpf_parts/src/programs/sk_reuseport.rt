@@ -1,7 +1,7 @@
 //! Programs that choose a socket of a group.
 
 ghost use Rattle.std.specs.Prelude.{◌≡◌};
-ghost use Rattle.ebpf_parts.specs.AttachTypes.{sk_reuseport_attach_type};
+ghost use Rattle.ebpf_parts.specs.ProgramTypes.{sk_reuseport_attach_type};
 
 use crate::programs::attach_type::bpf_attach_type;
 

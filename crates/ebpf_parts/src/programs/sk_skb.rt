@@ -1,7 +1,7 @@
 //! Programs for the stream of a socket.
 
 ghost use Rattle.std.specs.Prelude.{◌≡◌};
-ghost use Rattle.ebpf_parts.specs.AttachTypes.{sk_skb_attach_type};
+ghost use Rattle.ebpf_parts.specs.ProgramTypes.{sk_skb_attach_type};
 
 use crate::programs::attach_type::bpf_attach_type;
 

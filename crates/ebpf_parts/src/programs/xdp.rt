@@ -1,7 +1,7 @@
 //! Programs for packets before the network stack.
 
 ghost use Rattle.std.specs.Prelude.{◌≡◌};
-ghost use Rattle.ebpf_parts.specs.AttachTypes.{xdp_attach_type};
+ghost use Rattle.ebpf_parts.specs.ProgramTypes.{xdp_attach_type};
 
 use crate::programs::attach_type::bpf_attach_type;
 

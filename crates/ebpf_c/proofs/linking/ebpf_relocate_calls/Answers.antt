@@ -1,6 +1,6 @@
 use Rattle.std.proofs.Common.{ap, ◌∙◌, Some}
 use Rattle.ebpf_c.specs.Passes.{CannotLink}
-use Rattle.ebpf_c.proofs.Refusing.{refused_with}
+use Rattle.ebpf_c.proofs.Handles.{refused_with}
 use Rattle.ebpf_c.proofs.linking.ebpf_relocate_calls.Goals as goal
 
 pub returns-clause-refused : goal.returns-clause-refused

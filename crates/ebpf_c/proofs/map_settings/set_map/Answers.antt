@@ -1,8 +1,8 @@
 use Rattle.std.proofs.Common.{◌≡◌, refl, subst, ap, ◌∙◌}
 use Rattle.std.specs.FinMap.{insert}
 use Rattle.std.specs.Option.{OnSome}
-use Rattle.ebpf_c.specs.MapDataSettings.{with_setting}
-use Rattle.ebpf_c.proofs.NamedMaps.{no_text, no_map, one_map}
+use Rattle.ebpf_c.specs.Settings.{with_setting}
+use Rattle.ebpf_c.proofs.Handles.{no_text, no_map, one_map}
 use Rattle.ebpf_c.proofs.map_settings.set_map.Goals as goal
 
 pub returns-in_default : goal.returns-in_default

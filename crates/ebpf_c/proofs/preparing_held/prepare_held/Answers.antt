@@ -1,9 +1,9 @@
 use Rattle.std.proofs.Common.{rules, ◌≡◌, map, true, Some, ◌∙◌}
 use Rattle.std.specs.Option.{option_copied}
-use Rattle.ebpf_object.specs.Steps.{chosen, descriptor_of}
+use Rattle.ebpf_object.specs.Stages.{chosen, descriptor_of}
 use Rattle.ebpf_rows.specs.Descriptors.{descriptors_in, have_names}
-use Rattle.ebpf_c.specs.Preparing.{all_passes, inputs_of}
-use Rattle.ebpf_c.proofs.HeldPasses.{held}
+use Rattle.ebpf_c.specs.Passes.{all_passes, inputs_of}
+use Rattle.ebpf_c.proofs.Handles.{held}
 use Rattle.ebpf_c.proofs.preparing_held.prepare_held.Goals as goal
 
 pub returns-in-Ok-prepare_in_place-clause-ok : goal.returns-in-Ok-prepare_in_place-clause-ok

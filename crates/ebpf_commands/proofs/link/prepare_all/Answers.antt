@@ -1,10 +1,10 @@
-use Rattle.std.proofs.Common.{◌≡◌, ap, ◌∙◌, map, subst}
+use Rattle.std.proofs.Common.{ap, ◌∙◌, map, subst}
 use Rattle.std.specs.Prelude.{pos}
 use Rattle.std.specs.Option.{option_copied}
 use Rattle.ebpf_commands.proofs.Numbered.{all_default_passes}
 use Rattle.ebpf_commands.specs.Linked.{numbered_descriptors}
 use Rattle.ebpf_object.specs.Headline.{Headline}
-use Rattle.ebpf_object.specs.Steps.{chosen, descriptor_of}
+use Rattle.ebpf_object.specs.Stages.{chosen, descriptor_of}
 use Rattle.ebpf_commands.proofs.link.prepare_all.Goals as goal
 use Rattle.ebpf_parts.specs.declared.reading.Reading.TheVariants.{Stated}
 

@@ -1,7 +1,7 @@
 use Rattle.std.proofs.Common.{◌≡◌, ◌++◌, map, drop}
 use Rattle.std.specs.Prelude.{pos}
 use Rattle.ebpf_commands.specs.Linked.{numbered_descriptors}
-use Rattle.ebpf_object.specs.Steps.{descriptor_of}
+use Rattle.ebpf_object.specs.Stages.{descriptor_of}
 use Rattle.ebpf_commands.proofs.preparation.numbered_descriptors.Given as goal
 
 -- with those that are left, all are there

@@ -1,5 +1,5 @@
 use Rattle.std.proofs.Common.{true, false, sym, ◌∙◌, arith}
-use Rattle.ebpf_core_relo.proofs.NamedMembers.{has_inside, has_name, has_none, none_left}
+use Rattle.ebpf_core_relo.proofs.MisfitNames.{has_inside, has_name, has_none, none_left}
 use Rattle.ebpf_core_relo.proofs.absence.+has_member.Goals as goal
 
 pub returns-then-has_name : goal.returns-then-has_name

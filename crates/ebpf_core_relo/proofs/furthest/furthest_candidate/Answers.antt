@@ -1,6 +1,6 @@
 use Rattle.std.proofs.Common.{ℕ, ◌+◌, ◌∙◌, ap, arith, drop, get_or, sym}
 use Rattle.std.specs.Prelude.{fold}
-use Rattle.ebpf_core.proofs.Lists.{number_more}
+use Rattle.ebpf_core.proofs.Lists.{rest_at}
 use Rattle.ebpf_core_relo.specs.Absences.{further, reach}
 use Rattle.ebpf_core_relo.specs.declared.furthest.Furthest.{Furthest}
 use Rattle.ebpf_core_relo.proofs.Reaches.{one_further, reach_within}
@@ -19,6 +19,6 @@ loop-candidate-preserved c =
       within = omega (arith, reach_within local target path id);
       rest =
           ap (λ last. fold next last (drop (i + 1) ids)) (sym (one_further c.loop-candidate.last id (reach local target path id) c.in_ok-steps.steps c.in_ok-steps.ensures c.if-steps-last.false))
-          ∙ ap (fold next c.loop-candidate.last) (sym (number_more ids i c.loop-candidate-test.true))
+          ∙ ap (fold next c.loop-candidate.last) (sym (rest_at ids i 0 c.loop-candidate-test.true))
           ∙ c.loop-candidate.invariant.rest;
     }

@@ -1,8 +1,9 @@
 use Rattle.std.proofs.Common.{ap, ◌∙◌}
-use Rattle.ebpf_core.specs.Sides.{Sides}
+use Rattle.ebpf_core.specs.Searches.{Sides}
 use Rattle.ebpf_core_relo.specs.Records.{relocation_inputs}
-use Rattle.ebpf_core_relo.specs.Sections.{found_number}
-use Rattle.ebpf_core_relo.proofs.OutcomeRows.{record_more, rest_at, slots_more}
+use Rattle.ebpf_core_relo.specs.PrivateContracts.{found_number}
+use Rattle.ebpf_core.proofs.Lists.{rest_at}
+use Rattle.ebpf_core_relo.proofs.OutcomeRows.{record_more, slots_more}
 use Rattle.ebpf_core_relo.proofs.outcomes.add_records.Goals as goal
 
 pub loop-relocation-preserved : goal.loop-relocation-preserved

@@ -1,6 +1,6 @@
 use Rattle.std.proofs.Common.{ap, ◌∙◌}
 use Rattle.ebpf_base.proofs.Walks.{rest_more}
-use Rattle.ebpf_core.specs.Sides.{Sides}
+use Rattle.ebpf_core.specs.Searches.{Sides}
 use Rattle.ebpf_core_relo.specs.Records.{relocation_inputs}
 use Rattle.ebpf_core_relo.proofs.OutcomeRows.{section_more, section_slots_more}
 use Rattle.ebpf_core_relo.proofs.outcomes.add_sections.Goals as goal

@@ -1,8 +1,8 @@
 use Rattle.std.proofs.Common.{ℕ, ◌/◌, Ok, ap, ◌∙◌, sym}
 use Rattle.std.specs.FinMap.{insert}
 use Rattle.ebpf_core_relo.specs.Carried.{written}
-use Rattle.ebpf_core_relo.specs.Carrying.{put_at}
-use Rattle.ebpf_core_relo.proofs.Rewritten.{put_by}
+use Rattle.ebpf_core_relo.specs.PrivateContracts.{put_at}
+use Rattle.ebpf_core_relo.proofs.PutSlots.{put_by}
 use Rattle.ebpf_core_relo.proofs.records.put_outcome.Goals as goal
 
 pub returns-clause-put : goal.returns-clause-put

@@ -1,6 +1,6 @@
 use Rattle.std.proofs.Common.{◌≡◌, ◌++◌, ℕ}
 use Rattle.std.specs.FinMap.{get}
-use Rattle.ebpf_core_relo.specs.RecordFunctions.{spans_among, spans_of}
+use Rattle.ebpf_core_relo.specs.Spans.{spans_among, spans_of}
 use Rattle.ebpf_core_relo.specs.PrivateContracts.{spans_or_none}
 use Rattle.ebpf_core_relo.proofs.section_spans.section_spans.Given as goal
 

@@ -14,7 +14,7 @@ returns-then-not-branch-clause-found c =
     let below : c.loop-id.id < length info.types = omega (arith, c.loop-id-test.true, c.len-id-end.ensures.all) in
     let left : AreGathered info c.args.by_name c.args.longest c.loop-id.by_name (c.at-ty.result ∷ drop (c.loop-id.id + 1) info.types) =
     subst (AreGathered info c.args.by_name c.args.longest c.loop-id.by_name) (rest_more info.types c.loop-id.id c.at-ty.result below c.at-ty.ensures.item) c.loop-id.invariant in
-    let looked = subst (IsScanned info c.at-ty.result c.loop-id.id c.loop-id.by_name c.scan_type.new.by_name) c.if-not-branch.true c.in_ok-scan_type.ensures.looked in
+    let looked = subst (IsScanned info c.at-ty.result c.loop-id.by_name c.scan_type.new.by_name) c.if-not-branch.true c.in_ok-scan_type.ensures.looked in
     let fault : datasec_name_fault info c.at-ty.result ≡ Some (InvalidStringOffset c.name_offset.result) = looked.1 ∙ ap (λ n. Some (InvalidStringOffset n)) (sym c.name_offset.ensures) in
     stopped info c.at-ty.result c.args.by_name c.args.longest c.loop-id.by_name _ left c.name_offset.result c.scan_type.new.by_name _ looked.0 fault refl
 
@@ -24,8 +24,8 @@ loop-id-preserved c =
     let below : c.loop-id.id < length info.types = omega (arith, c.loop-id-test.true, c.len-id-end.ensures.all) in
     let left : AreGathered info c.args.by_name c.args.longest c.loop-id.by_name (c.at-ty.result ∷ drop (c.loop-id.id + 1) info.types) =
     subst (AreGathered info c.args.by_name c.args.longest c.loop-id.by_name) (rest_more info.types c.loop-id.id c.at-ty.result below c.at-ty.ensures.item) c.loop-id.invariant in
-    let looked = subst (IsScanned info c.at-ty.result c.loop-id.id c.loop-id.by_name c.scan_type.new.by_name) c.if-not-branch.false c.in_ok-scan_type.ensures.looked in
-    one_less info c.at-ty.result c.args.by_name c.args.longest c.loop-id.by_name _ left c.loop-id.id c.scan_type.new.by_name looked.0 looked.1 c.at-ty.ensures.found
+    let looked = subst (IsScanned info c.at-ty.result c.loop-id.by_name c.scan_type.new.by_name) c.if-not-branch.false c.in_ok-scan_type.ensures.looked in
+    one_less info c.at-ty.result c.args.by_name c.args.longest c.loop-id.by_name _ left c.scan_type.new.by_name looked.0 looked.1
 
 pub returns-clause-found : goal.returns-clause-found
 returns-clause-found c =

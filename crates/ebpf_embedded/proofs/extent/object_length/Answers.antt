@@ -1,6 +1,6 @@
 use Rattle.std.proofs.Common.{rules, ◌≡◌, ◌+◌, ◌*◌, ◌<◌, arith}
 use borrow.Author.Count.{below_more}
-use Rattle.ebpf_elf.specs.File.{e_shoff, e_shnum}
+use Rattle.ebpf_elf.specs.Headers.{e_shoff, e_shnum}
 use Rattle.ebpf_embedded.specs.Objects.{section_data_end}
 use Rattle.ebpf_embedded.proofs.extent.object_length.Goals as goal
 

@@ -1,6 +1,6 @@
 use Rattle.std.proofs.Common.{◌++◌, ◌+◌, take, List, ℕ, subst, sym}
-use Rattle.ebpf_ext.specs.CopiedNames.{AreCopied, IsCopied}
-use Rattle.ebpf_ext.proofs.CopiedNames.{one_more_copied}
+use Rattle.ebpf_ext.specs.SectionNames.{AreCopied, IsCopied}
+use Rattle.ebpf_ext.proofs.SectionNames.{one_more_copied}
 use Rattle.ebpf_ext.proofs.copied_names.copy_names.Goals as goal
 
 pub loop-offset-preserved : goal.loop-offset-preserved

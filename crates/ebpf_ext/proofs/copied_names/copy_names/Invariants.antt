@@ -1,5 +1,5 @@
 use Rattle.std.proofs.Common.{take}
-use Rattle.ebpf_ext.specs.CopiedNames.{AreCopied}
+use Rattle.ebpf_ext.specs.SectionNames.{AreCopied}
 use Rattle.ebpf_ext.proofs.copied_names.copy_names.Given as goal
 
 -- the names of the sections so far are copied

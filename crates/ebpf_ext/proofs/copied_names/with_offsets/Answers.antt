@@ -1,5 +1,5 @@
 use Rattle.std.proofs.Common.{◌<◌, ◌∙◌, length, ap, refl, arith, slice_index_or, slice_set}
-use Rattle.ebpf_ext.proofs.CopiedNames.{one_put}
+use Rattle.ebpf_ext.proofs.SectionNames.{one_put}
 use Rattle.ebpf_ext.proofs.copied_names.with_offsets.Goals as goal
 
 pub loop-index-preserved : goal.loop-index-preserved

@@ -1,5 +1,5 @@
 use Rattle.std.proofs.Common.{◌≡◌, take}
-use Rattle.ebpf_ext.specs.CopiedNames.{with_offsets}
+use Rattle.ebpf_ext.specs.SectionNames.{with_offsets}
 use Rattle.ebpf_ext.proofs.copied_names.with_offsets.Given as goal
 
 -- the sections so far have their new offsets

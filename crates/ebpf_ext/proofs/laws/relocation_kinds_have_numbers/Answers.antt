@@ -1,4 +1,4 @@
-use Rattle.ebpf_ext.proofs.RelocationRows.{numbers_of_relocation_kinds, relocation_kinds_by_number}
+use Rattle.ebpf_ext.proofs.Relocations.{numbers_of_relocation_kinds, relocation_kinds_by_number}
 use Rattle.ebpf_ext.proofs.laws.relocation_kinds_have_numbers.Goals as goal
 
 pub returns-clause-kinds : goal.returns-clause-kinds

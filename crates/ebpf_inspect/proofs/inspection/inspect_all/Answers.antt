@@ -1,14 +1,12 @@
-use Rattle.std.proofs.Common.{◌≡◌, true, subst}
+use Rattle.std.proofs.Common.{true, subst}
 use Rattle.ebpf_inspect.proofs.Answering.{both_ok}
 use Rattle.ebpf_inspect.proofs.Gathered.{refused_by}
 use Rattle.ebpf_inspect.proofs.LinkingAfter.{alone, reported, same_fault, unlinked}
 use Rattle.ebpf_inspect.specs.Inspected.{with_linking}
 use Rattle.ebpf_object.proofs.Staging.{of_error}
 use Rattle.ebpf_object.specs.Prepared.{IsStageFault, RefusesPreparing, Stages}
-use Rattle.ebpf_object.specs.StageFaults.{Wrapped}
+use Rattle.ebpf_object.specs.Stages.{Wrapped, LinkingFault, chosen}
 use Rattle.ebpf_object.specs.declared.prepare_error.PrepareError.TheVariants.{Calls}
-use Rattle.ebpf_object.specs.Stages.{LinkingFault}
-use Rattle.ebpf_object.specs.Steps.{chosen}
 use Rattle.ebpf_inspect.proofs.inspection.inspect_all.Goals as goal
 
 pub returns-in-Err-clause-fault : goal.returns-in-Err-clause-fault

@@ -1,7 +1,7 @@
 use Rattle.ebpf_inspect.proofs.LinkingAfter.{inspected}
 use Rattle.ebpf_inspect.specs.Inspected.{with_linking}
 use Rattle.ebpf_object.proofs.Staging.{of_error, of_prepared, file_refused}
-use Rattle.ebpf_object.specs.Steps.{chosen}
+use Rattle.ebpf_object.specs.Stages.{chosen}
 use Rattle.ebpf_inspect.proofs.inspection.inspect_object.Goals as goal
 
 pub returns-clause-inspected : goal.returns-clause-inspected

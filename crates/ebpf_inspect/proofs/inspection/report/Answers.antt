@@ -1,12 +1,11 @@
-use Rattle.std.proofs.Common.{◌≡◌, true, sym, subst}
+use Rattle.std.proofs.Common.{true, sym, subst}
 use Rattle.ebpf_inspect.proofs.Gathered.{refused_by, of_calls}
 use Rattle.ebpf_inspect.proofs.Reports.{each_linked, none_refused, reports}
 use Rattle.ebpf_inspect.specs.Inspected.{AreReports}
 use Rattle.ebpf_inspect.specs.Named.{OneRefused}
 use Rattle.ebpf_object.specs.LinkedPrograms.{linkable_of, programs_in_order, ProgramsAreLinked}
-use Rattle.ebpf_object.specs.StageFaults.{Wrapped}
+use Rattle.ebpf_object.specs.Stages.{Wrapped, LinksPrograms, LinkingFault}
 use Rattle.ebpf_object.specs.declared.prepare_error.PrepareError.TheVariants.{Calls}
-use Rattle.ebpf_object.specs.Stages.{LinksPrograms, LinkingFault}
 use Rattle.ebpf_inspect.proofs.inspection.report.Goals as goal
 
 pub returns-in-Err-maps-clause-fault : goal.returns-in-Err-maps-clause-fault

@@ -1,4 +1,4 @@
-use Rattle.std.proofs.Common.{◌≡◌, ap, ◌∙◌, subst}
+use Rattle.std.proofs.Common.{ap, ◌∙◌, subst}
 use Rattle.std.specs.List.{flat_map}
 use Rattle.ebpf_base.specs.Keys.{lent_bytes}
 use Rattle.ebpf_inspect.specs.Named.{AreMaps, OneRefused}
@@ -6,7 +6,7 @@ use Rattle.ebpf_object.proofs.ProgramNames.{all_names}
 use Rattle.ebpf_object.proofs.Staging.{of_error, of_prepared}
 use Rattle.ebpf_object.specs.PrivateContracts.{program_with}
 use Rattle.ebpf_object.specs.Prepared.{RefusesPreparing}
-use Rattle.ebpf_object.specs.StageFaults.{Wrapped}
+use Rattle.ebpf_object.specs.Stages.{Wrapped}
 use Rattle.ebpf_object.specs.declared.prepare_error.PrepareError.TheVariants.{Calls}
 use Rattle.ebpf_inspect.proofs.maps.link_maps.Goals as goal
 

@@ -1,4 +1,4 @@
-use Rattle.std.proofs.Common.{◌≡◌, ◌≤◌, ◌++◌, List, [], rules, length, sym, subst}
+use Rattle.std.proofs.Common.{◌≤◌, ◌++◌, [], rules, length, sym, subst}
 use Rattle.std.proofs.lemmas.List.{append-nil}
 use Rattle.std.specs.List.{flat_map}
 use Rattle.ebpf_base.specs.Keys.{lent_bytes}

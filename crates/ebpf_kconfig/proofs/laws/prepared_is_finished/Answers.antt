@@ -1,4 +1,4 @@
-use Rattle.ebpf_kconfig.proofs.FinishedObjects.{prepared_is_finished}
+use Rattle.ebpf_kconfig.proofs.DefinedSymbols.{prepared_is_finished}
 use Rattle.ebpf_kconfig.proofs.laws.prepared_is_finished.Goals as goal
 
 pub returns : goal.returns

@@ -3,7 +3,7 @@ use Rattle.std.specs.FinMap.{get}
 use Rattle.std.specs.List.{flat_map}
 use Rattle.std.specs.Option.{option_to_list}
 use Rattle.ebpf_base.specs.Keys.{lent_bytes}
-use Rattle.ebpf_kconfig.specs.PrivateContracts.{lent_externs}
+use Rattle.ebpf_kconfig.specs.KconfigMaps.{lent_externs}
 use Rattle.ebpf_kconfig.proofs.layout.add_names.Given as goal
 
 -- with the externs of the names that are left, all are there

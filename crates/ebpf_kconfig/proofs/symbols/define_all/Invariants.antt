@@ -1,6 +1,6 @@
 use Rattle.std.proofs.Common.{◌≡◌, drop}
 use Rattle.std.specs.Prelude.{fold}
-use Rattle.ebpf_kconfig.specs.PrivateContracts.{with_defined}
+use Rattle.ebpf_kconfig.specs.KconfigMaps.{with_defined}
 use Rattle.ebpf_kconfig.proofs.symbols.define_all.Given as goal
 
 -- what is left to write from here gives what all gives from the start

@@ -1,7 +1,7 @@
 use Rattle.std.proofs.Common.{◌≡◌, subst, ap, sym, ◌∙◌}
 use Rattle.std.specs.FinMap.{insert}
 use Rattle.std.specs.Option.{OnSome, option_copied_mut}
-use Rattle.ebpf_kconfig.specs.PrivateContracts.{defined_in}
+use Rattle.ebpf_kconfig.specs.KconfigMaps.{defined_in}
 use Rattle.ebpf_kconfig.proofs.symbols.define_at.Goals as goal
 
 pub returns : goal.returns

@@ -1,7 +1,7 @@
 use Rattle.std.proofs.Common.{◌≡◌, ◌<◌, ◌^◌, ◌++◌, drop}
 use Rattle.std.specs.Prelude.{None}
 use Rattle.ebpf_kconfig.specs.KconfigLayout.{bytes_from, size_fault_from}
-use Rattle.ebpf_kconfig.specs.PrivateContracts.{lent_externs}
+use Rattle.ebpf_kconfig.specs.KconfigMaps.{lent_externs}
 use Rattle.ebpf_kconfig.proofs.values.bytes_of.Given as goal
 
 -- the bytes so far, and those of the externs that are left, are those of all

@@ -1,6 +1,6 @@
 use Rattle.std.proofs.Common.{◌≡◌}
 use Rattle.std.specs.List.{list_any}
-use Rattle.ebpf_kernel_types.specs.Standins.{takes_functions}
+use Rattle.ebpf_kernel_types.specs.KsymsSections.{takes_functions}
 use Rattle.ebpf_kernel_types.proofs.appended.any_functions.Given as goal
 
 -- none of the types so far is one

@@ -1,6 +1,6 @@
 use Rattle.std.proofs.Common.{◌≡◌, drop}
 use Rattle.std.specs.List.{position_from}
-use Rattle.ebpf_kernel_types.specs.Standins.{first_int, is_int_of_4}
+use Rattle.ebpf_kernel_types.specs.KsymsSections.{first_int, is_int_of_4}
 use Rattle.ebpf_kernel_types.proofs.appended.first_int.Given as goal
 
 -- the types that are left have the id that all have

@@ -1,5 +1,5 @@
 use Rattle.std.proofs.Common.{◌≡◌}
-use Rattle.ebpf_kernel_types.specs.Standins.{names_func}
+use Rattle.ebpf_kernel_types.specs.KsymsSections.{names_func}
 use Rattle.ebpf_kernel_types.proofs.appended.names_func.Given as goal
 
 -- none of the entries so far names one

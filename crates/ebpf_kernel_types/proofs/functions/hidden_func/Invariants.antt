@@ -1,6 +1,6 @@
 use Rattle.std.proofs.Common.{◌≡◌, ◌+◌, ◌≤◌, ◌^◌, length}
-use Rattle.ebpf_kernel_types.specs.HiddenFunctions.{function_from, hidden_func}
-use Rattle.ebpf_kernel_types.specs.PrivateContracts.{given_of}
+use Rattle.ebpf_kernel_types.specs.FunctionLinkages.{function_from, hidden_func}
+use Rattle.ebpf_kernel_types.specs.TypeSources.{given_of}
 use Rattle.ebpf_kernel_types.proofs.functions.hidden_func.Given as goal
 
 -- none of the types so far is it

@@ -1,7 +1,7 @@
 use Rattle.std.proofs.Common.{◌≡◌, ◌++◌}
 use Rattle.ebpf_elf.specs.Symbols.{symbols}
-use Rattle.ebpf_kernel_types.specs.HiddenFunctions.{hidden_words_in}
-use Rattle.ebpf_kernel_types.specs.PrivateContracts.{given_of}
+use Rattle.ebpf_kernel_types.specs.FunctionLinkages.{hidden_words_in}
+use Rattle.ebpf_kernel_types.specs.TypeSources.{given_of}
 use Rattle.ebpf_kernel_types.proofs.functions.hidden_words_in.Given as goal
 
 -- the words so far, and those of the symbols that are left, are those of all

@@ -1,5 +1,4 @@
-use Rattle.ebpf_kernel_types.proofs.HandedLinkages.{function_linkages_are_stated}
-use Rattle.ebpf_kernel_types.proofs.HandedTypes.{kernel_types_are_read}
+use Rattle.ebpf_kernel_types.proofs.Handed.{function_linkages_are_stated, kernel_types_are_read}
 use Rattle.ebpf_kernel_types.proofs.laws.kernel_types_are_read.Goals as goal
 
 pub returns-clause-types : goal.returns-clause-types

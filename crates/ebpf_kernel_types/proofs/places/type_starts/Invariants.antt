@@ -1,5 +1,5 @@
 use Rattle.std.proofs.Common.{◌≡◌, ◌++◌}
-use Rattle.ebpf_kernel_types.specs.TypePlaces.{type_starts}
+use Rattle.ebpf_kernel_types.specs.TypeSources.{type_starts}
 use Rattle.ebpf_kernel_types.proofs.places.type_starts.Given as goal
 
 -- the starts so far, and those of the types that are left, are those of all

@@ -1,6 +1,6 @@
 use Rattle.std.proofs.Common.{◌≡◌, ◌+◌, ◌++◌, ◌≤◌, ◌^◌, length}
-use Rattle.ebpf_kernel_types.specs.PrivateContracts.{given_of}
-use Rattle.ebpf_kernel_types.specs.WordsOfTypes.{type_words_fault, types_words}
+use Rattle.ebpf_kernel_types.specs.TypeSources.{given_of}
+use Rattle.ebpf_kernel_types.specs.KernelTypes.{type_words_fault, types_words}
 use Rattle.ebpf_kernel_types.proofs.plan.types_words.Given as goal
 
 -- the words so far, and those of the types that are left, are those of all

@@ -2,7 +2,7 @@ use Rattle.std.proofs.Common.{ap, ◌∙◌}
 use Rattle.std.specs.FinMap.{get}
 use Rattle.std.specs.List.{flat_map}
 use Rattle.ebpf_base.specs.Keys.{lent_bytes}
-use Rattle.ebpf_ksyms.specs.Entries.{entry_named}
+use Rattle.ebpf_ksyms.specs.PrivateContracts.{entry_named}
 use Rattle.ebpf_ksyms.proofs.Listed.{all_named}
 use Rattle.ebpf_ksyms.proofs.entry.entries_of.Goals as goal
 

@@ -1,6 +1,6 @@
 use Rattle.std.proofs.Common.{◌≡◌, drop}
 use Rattle.ebpf_base.specs.Keyed.{put_all}
-use Rattle.ebpf_ksyms.specs.Entries.{externs_from}
+use Rattle.ebpf_ksyms.specs.PrivateContracts.{externs_from}
 use Rattle.ebpf_ksyms.proofs.entry.externs_from.Given as goal
 
 -- what is left to put from here gives the whole map

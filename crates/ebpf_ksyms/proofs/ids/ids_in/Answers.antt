@@ -1,10 +1,9 @@
 use Rattle.std.proofs.Common.{◌≡◌, ◌+◌, ◌<◌, length, ap, sym, ◌∙◌, drop, None, arith}
 use Rattle.std.specs.Prelude.{option_map, slice_get}
 use Rattle.ebpf_btf.specs.Types.{kind_of}
-use Rattle.ebpf_candidates.proofs.Heads.{drop_found, headed, is_there}
-use Rattle.ebpf_ksyms.specs.Ids.{finished}
-use Rattle.ebpf_ksyms.specs.PrivateContracts.{value_named}
-use Rattle.ebpf_ksyms.proofs.Identities.{by_head, more-types}
+use Rattle.ebpf_core_candidates.proofs.Heads.{drop_found, headed, is_there}
+use Rattle.ebpf_ksyms.specs.PrivateContracts.{finished, value_named}
+use Rattle.ebpf_ksyms.proofs.Outcomes.{by_head, more-types}
 use Rattle.ebpf_ksyms.proofs.ids.ids_in.Goals as goal
 
 pub loop-id-preserved-in_default : goal.loop-id-preserved-in_default

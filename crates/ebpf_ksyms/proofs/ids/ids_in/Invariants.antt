@@ -1,8 +1,7 @@
 use Rattle.std.proofs.Common.{◌≡◌, ℕ, List, drop}
 use Rattle.std.specs.Prelude.{option_map}
 use Rattle.ebpf_base.specs.Keys.{lent_bytes}
-use Rattle.ebpf_ksyms.specs.Ids.{finished, ids_in}
-use Rattle.ebpf_ksyms.specs.PrivateContracts.{only_at, value_named}
+use Rattle.ebpf_ksyms.specs.PrivateContracts.{finished, ids_in, only_at, value_named}
 use Rattle.ebpf_ksyms.proofs.ids.ids_in.Given as goal
 
 -- with the types that are left, each name has its ids

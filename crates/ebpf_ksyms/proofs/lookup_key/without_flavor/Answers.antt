@@ -1,7 +1,5 @@
-use Rattle.std.proofs.Common.{◌≡◌, ℕ, ◌<◌, Some, None, length, sym, ◌∙◌, arith, take}
-use Rattle.std.proofs.lemmas.Grind.{common_steps}
-use Rattle.ebpf_btf.specs.EssentialNames.{essential_name}
-use Rattle.ebpf_ksyms.proofs.Flavors.{no_flavor, with_flavor, take_all}
+use Rattle.std.proofs.Common.{◌<◌, Some, None, length, sym, ◌∙◌, arith, take}
+use Rattle.ebpf_ksyms.proofs.Outcomes.{no_flavor, with_flavor, take_all}
 use Rattle.ebpf_ksyms.proofs.lookup_key.without_flavor.Goals as goal
 
 pub returns-in-Some : goal.returns-in-Some

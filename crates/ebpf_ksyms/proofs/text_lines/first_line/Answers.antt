@@ -1,5 +1,5 @@
 use Rattle.std.proofs.Common.{sym, ◌∙◌}
-use Rattle.ebpf_ksyms.proofs.Cutting.{line_before, one_line}
+use Rattle.ebpf_ksyms.proofs.Cuts.{line_before, one_line}
 use Rattle.ebpf_ksyms.proofs.text_lines.first_line.Goals as goal
 
 pub returns-in-Some : goal.returns-in-Some

@@ -1,6 +1,6 @@
 use Rattle.std.proofs.Common.{◌≡◌, ◌++◌, drop}
 use Rattle.ebpf_base.specs.Keys.{lent_bytes}
-use Rattle.ebpf_ksyms.specs.Typed.{lookup_names}
+use Rattle.ebpf_ksyms.specs.PrivateContracts.{lookup_names}
 use Rattle.ebpf_ksyms.proofs.typed.lookup_names.Given as goal
 
 -- with those of the externs that are left, all are there

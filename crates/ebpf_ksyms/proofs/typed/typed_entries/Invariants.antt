@@ -2,9 +2,7 @@ use Rattle.std.proofs.Common.{◌≡◌, ◌++◌, drop}
 use Rattle.std.specs.Option.{option_copied}
 use Rattle.ebpf_base.specs.Faults.{first_some}
 use Rattle.ebpf_ksyms.specs.Externs.{renewed}
-use Rattle.ebpf_ksyms.specs.Ids.{id_at}
-use Rattle.ebpf_ksyms.specs.PrivateContracts.{value_named}
-use Rattle.ebpf_ksyms.specs.Typed.{typed_as, typed_refused}
+use Rattle.ebpf_ksyms.specs.PrivateContracts.{id_at, value_named, typed_as, typed_refused}
 use Rattle.ebpf_ksyms.proofs.typed.typed_entries.Given as goal
 
 -- with those that are left, all are there, and the first fault of those left is the first of all

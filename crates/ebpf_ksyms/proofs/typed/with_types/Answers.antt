@@ -5,9 +5,7 @@ use Rattle.ebpf_base.specs.Faults.{Refuses, first_some}
 use Rattle.ebpf_base.specs.Keys.{lent_bytes}
 use Rattle.ebpf_ksyms.specs.Externs.{kernel_ids_of, renewed}
 use Rattle.ebpf_ksyms.specs.Faults.{is_ksyms_memory}
-use Rattle.ebpf_ksyms.specs.Ids.{ids_in}
-use Rattle.ebpf_ksyms.specs.PrivateContracts.{only_at, value_named}
-use Rattle.ebpf_ksyms.specs.Typed.{lookup_names, typed_as, typed_refused}
+use Rattle.ebpf_ksyms.specs.PrivateContracts.{ids_in, only_at, value_named, lookup_names, typed_as, typed_refused}
 use Rattle.ebpf_ksyms.proofs.Outcomes.{same_refused, same_renewed}
 use Rattle.ebpf_ksyms.proofs.typed.with_types.Goals as goal
 

@@ -1,8 +1,7 @@
 use Rattle.std.proofs.Common.{◌≡◌, ◌++◌, drop}
 use Rattle.ebpf_base.specs.Faults.{first_some}
 use Rattle.ebpf_ksyms.specs.Externs.{renewed}
-use Rattle.ebpf_ksyms.specs.PrivateContracts.{value_named}
-use Rattle.ebpf_ksyms.specs.TypelessExterns.{known_at, typeless_as, typeless_refused}
+use Rattle.ebpf_ksyms.specs.PrivateContracts.{value_named, known_at, typeless_as, typeless_refused}
 use Rattle.ebpf_ksyms.proofs.typeless.with_addresses.Given as goal
 
 -- with those that are left, all are there, and the first fault of those left is the first of all

@@ -1,6 +1,6 @@
-use Rattle.std.proofs.Common.{◌≡◌, List, [], ◌∷◌, Some, None, ap, sym, ◌∙◌, refl}
+use Rattle.std.proofs.Common.{◌≡◌, [], ◌∷◌, Some, None, ap, sym, ◌∙◌}
 use Rattle.std.specs.Str.Iter.{split_ascii_whitespace_text}
-use Rattle.ebpf_ksyms.specs.Lines.{words}
+use Rattle.ebpf_ksyms.specs.Addresses.{words}
 use Rattle.ebpf_ksyms.proofs.Cuts.{words-step, no_pair, no_pair_of_one, no_pair_of_two, pair_of_three}
 use Rattle.ebpf_ksyms.proofs.words.address_and_name.Goals as goal
 

@@ -1,5 +1,5 @@
 use Rattle.std.proofs.Common.{◌∙◌}
-use Rattle.ebpf_ksyms.proofs.Numbers.{stated}
+use Rattle.ebpf_ksyms.proofs.Cuts.{stated}
 use Rattle.ebpf_ksyms.proofs.words.stated_address.Goals as goal
 
 pub returns : goal.returns

@@ -1,7 +1,6 @@
 use Rattle.std.proofs.Common.{◌≡◌, ◌+◌}
 use Rattle.ebpf_elf.specs.Symbols.{symbols}
-use Rattle.ebpf_limits.specs.MadeBytes.{symbol_bytes}
-use Rattle.ebpf_limits.specs.Sums.{total}
+use Rattle.ebpf_limits.specs.OwnedBytes.{symbol_bytes, total}
 use Rattle.ebpf_limits.proofs.symbols.take_symbols.Given as goal
 
 -- what is left and all symbols are what there was and the symbols that are left

@@ -1,4 +1,4 @@
-use Rattle.std.proofs.Common.{◌≡◌, ℕ, List, Option, drop, map}
+use Rattle.std.proofs.Common.{ℕ, List, Option, drop, map}
 use Rattle.std.specs.Io.KnownBytes.{Appends}
 use Rattle.std.specs.List.{flat_map}
 use Rattle.ebpf_link_command.specs.Written.{program_name, shown_lines}

@@ -1,4 +1,4 @@
-use Rattle.ebpf_linker.proofs.BasesInOrder.{Placing}
+use Rattle.ebpf_linker.proofs.Walks.{Placing}
 use Rattle.ebpf_linker.proofs.bases.copy_bases.Given as goal
 
 abbrev pub invariant-loop-function : goal.invariant-loop-function

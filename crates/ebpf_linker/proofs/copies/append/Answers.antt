@@ -3,7 +3,7 @@ use Rattle.std.proofs.lemmas.Bool.{ltb-true}
 use Rattle.std.proofs.lemmas.Option.{slice_get-get_or, slice_get_read, slice_get_within}
 use Rattle.std.specs.Prelude.{slice_get}
 use Rattle.ebpf_linker.specs.declared.reference.Call.{Call}
-use Rattle.ebpf_linker.proofs.Copying.{refers, passes, to_copying}
+use Rattle.ebpf_linker.proofs.Whole.{refers, passes, to_copying}
 use Rattle.ebpf_linker.proofs.copies.append.Goals as goal
 use Rattle.ebpf_linker.proofs.copies.append.Goals.{in-Some+in_ok-push-in-Some, in_default+in_ok-push-in_default, in_default-via-in-Some+else-call-i, in_default-via-in_default}
 

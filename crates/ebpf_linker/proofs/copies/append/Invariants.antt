@@ -1,4 +1,4 @@
-use Rattle.ebpf_linker.proofs.Copying.{Copying}
+use Rattle.ebpf_linker.proofs.Whole.{Copying}
 use Rattle.ebpf_linker.proofs.copies.append.Given as goal
 
 abbrev pub invariant-loop-i : goal.invariant-loop-i

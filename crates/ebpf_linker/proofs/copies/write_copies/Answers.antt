@@ -1,5 +1,5 @@
 use Rattle.std.proofs.Common.{◌<◌, ◌∙◌, refl, sym, ap, arith, length, get_or}
-use Rattle.ebpf_linker.proofs.BasesInOrder.{linked_copies_next, fits_next, body_read, no_body, calls_read, among_at}
+use Rattle.ebpf_linker.proofs.Walks.{linked_copies_next, fits_next, body_read, no_body, calls_read, among_at}
 use Rattle.ebpf_linker.proofs.copies.write_copies.Goals as goal
 
 pub append-requires-clause-short : goal.append-requires-clause-short

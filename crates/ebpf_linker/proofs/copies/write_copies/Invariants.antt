@@ -1,4 +1,4 @@
-use Rattle.ebpf_linker.proofs.BasesInOrder.{Laying}
+use Rattle.ebpf_linker.proofs.Walks.{Laying}
 use Rattle.ebpf_linker.proofs.copies.write_copies.Given as goal
 
 abbrev pub invariant-loop-function : goal.invariant-loop-function

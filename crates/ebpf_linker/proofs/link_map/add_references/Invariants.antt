@@ -1,5 +1,5 @@
 use Rattle.std.proofs.Common.{◌≡◌, ◌++◌, drop}
-use Rattle.ebpf_linker.specs.LinkedReferences.{references_of_copy}
+use Rattle.ebpf_linker.specs.Copies.{references_of_copy}
 use Rattle.ebpf_linker.proofs.link_map.add_references.Given as goal
 
 -- the references so far, and those of the calls that are left

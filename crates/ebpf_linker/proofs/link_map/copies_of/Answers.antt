@@ -1,9 +1,7 @@
-use Rattle.std.proofs.Common.{List, arith, subst, length, get_or}
+use Rattle.std.proofs.Common.{List, subst, length, get_or}
 use Rattle.ebpf_parts.specs.declared.insn.bpf_insn.{bpf_insn}
-use Rattle.ebpf_linker.specs.LinkedSlots.{Fit}
-use Rattle.ebpf_linker.proofs.LinkMapWalks.{copies_first, copies_more}
-use Rattle.ebpf_linker.proofs.BasesInOrder.{body_read, no_body}
-use Rattle.ebpf_linker.proofs.RecordWalks.{fit_more, room_more}
+use Rattle.ebpf_linker.specs.Copies.{Fit}
+use Rattle.ebpf_linker.proofs.Walks.{copies_first, copies_more, body_read, no_body, fit_more}
 use Rattle.ebpf_linker.proofs.link_map.copies_of.Goals as goal
 
 pub loop-function-init : goal.loop-function-init
@@ -15,12 +13,6 @@ loop-function-init c =
       whole = copies_first B p c.args.reached.now (get_or B p no_body).slots.now c.new-copies.result.items _ body c.new-copies.ensures.items c.in_ok-push.ensures.items;
       fit = subst (λ (s : List bpf_insn). Fit B (length s) c.args.reached.now) body c.requires.fit;
     }
-
-pub overflow_add-end : goal.overflow_add-end
-overflow_add-end c =
-    let known = c.requires.reached c.loop-function.function-index 0 c.loop-function-test.true in
-    let room = room_more c.args.bodies.now c.args.reached.now c.loop-function.end c.loop-function.function-index c.loop-function-test.true known c.loop-function.invariant.fit in
-    omega (arith, room)
 
 pub loop-function-preserved : goal.loop-function-preserved
 loop-function-preserved c =

@@ -1,5 +1,5 @@
 use Rattle.std.proofs.Common.{◌≡◌, ◌++◌, [], ◌∷◌, drop, map}
-use Rattle.ebpf_linker.specs.LinkedSlots.{Fit}
+use Rattle.ebpf_linker.specs.Copies.{Fit}
 use Rattle.ebpf_linker.specs.LinkMap.{copies_from, numbered_copy}
 use Rattle.ebpf_linker.specs.Numbered.{functions_by_number}
 use Rattle.ebpf_linker.proofs.link_map.copies_of.Given as goal

@@ -1,7 +1,7 @@
 use Rattle.std.proofs.Common.{◌≡◌, ℕ, length, ap, sym, ◌∙◌, subst}
-use Rattle.ebpf_linker.specs.LinkedSlots.{with_bases}
+use Rattle.ebpf_linker.specs.Copies.{with_bases}
 use Rattle.ebpf_linker.proofs.LinkMaps.{is_link_map}
-use Rattle.ebpf_linker.proofs.BasesInOrder.{length-with_bases, body_read, no_body}
+use Rattle.ebpf_linker.proofs.Walks.{length-with_bases, body_read, no_body}
 use Rattle.ebpf_linker.proofs.link_map.link_map_of.Goals as goal
 
 pub references_of-requires-clause-bases : goal.references_of-requires-clause-bases

@@ -2,11 +2,9 @@ use Rattle.std.proofs.Common.{ℕ, ◌<◌, ◌∙◌, List, sym, arith, subst, 
 use Rattle.std.specs.Prelude.{All}
 use Rattle.ebpf_parts.specs.declared.insn.bpf_insn.{bpf_insn}
 use Rattle.ebpf_linker.specs.declared.reference.Call.{Call}
-use Rattle.ebpf_linker.specs.LinkedSlots.{Fit}
+use Rattle.ebpf_linker.specs.Copies.{Fit}
 use Rattle.ebpf_linker.specs.Numbered.{IsWithin}
-use Rattle.ebpf_linker.proofs.LinkMapWalks.{references_first, references_more}
-use Rattle.ebpf_linker.proofs.BasesInOrder.{body_read, calls_read, no_body}
-use Rattle.ebpf_linker.proofs.RecordWalks.{fit_more, room_more}
+use Rattle.ebpf_linker.proofs.Walks.{references_first, references_more, body_read, calls_read, no_body, fit_more}
 use Rattle.ebpf_linker.proofs.link_map.references_of.Goals as goal
 
 pub loop-function-init : goal.loop-function-init
@@ -29,18 +27,6 @@ add_references-requires-in-loop-function-clause-within c =
     let calls = calls_read c.args.calls.now k c.index-calls-function.result lt' c.index-calls-function.is ∙ sym c.deref-in-loop-function.ensures.value in
     subst (λ (n : ℕ). All (λ call. IsWithin n call.target) c.deref-in-loop-function.result.now) (sym c.requires.bases)
     (subst (λ (cs : List Call). All (λ call. IsWithin (length c.args.bodies.now) call.target) cs) calls (c.requires.sound.within k))
-
-pub add_references-requires-in-loop-function-clause-room : goal.add_references-requires-in-loop-function-clause-room
-add_references-requires-in-loop-function-clause-room c =
-    let known = c.requires.reached c.loop-function.function-index 0 c.loop-function-test.true in
-    let room = room_more c.args.bodies.now c.args.reached.now c.loop-function.base c.loop-function.function-index c.loop-function-test.true known c.loop-function.invariant.fit in
-    omega (arith, room)
-
-pub overflow_add-base : goal.overflow_add-base
-overflow_add-base c =
-    let known = c.requires.reached c.loop-function.function-index 0 c.loop-function-test.true in
-    let room = room_more c.args.bodies.now c.args.reached.now c.loop-function.base c.loop-function.function-index c.loop-function-test.true known c.loop-function.invariant.fit in
-    omega (arith, room)
 
 pub loop-function-preserved : goal.loop-function-preserved
 loop-function-preserved c =

@@ -1,6 +1,5 @@
 use Rattle.std.proofs.Common.{◌≡◌, ◌++◌, ◌∷◌, drop}
-use Rattle.ebpf_linker.specs.LinkedSlots.{Fit}
-use Rattle.ebpf_linker.specs.LinkedReferences.{references_of_copies}
+use Rattle.ebpf_linker.specs.Copies.{Fit, references_of_copies}
 use Rattle.ebpf_linker.proofs.link_map.references_of.Given as goal
 
 -- the references so far, and those of the functions that are left

@@ -1,10 +1,9 @@
 use Rattle.std.proofs.Common.{◌≡◌, ℕ, Bool, length, ap, sym, ◌∙◌, subst}
 use Rattle.ebpf_linker.specs.Faults.{has_some}
-use Rattle.ebpf_linker.specs.LinkedSlots.{with_bases, linked_copies}
+use Rattle.ebpf_linker.specs.Copies.{with_bases, linked_copies}
 use Rattle.ebpf_linker.specs.Numbered.{functions_by_number}
-use Rattle.ebpf_linker.specs.Records.{count_if, has_lines}
-use Rattle.ebpf_linker.proofs.BasesInOrder.{length-with_bases, body_read, no_body}
-use Rattle.ebpf_linker.proofs.RecordWalks.{some_if}
+use Rattle.ebpf_linker.specs.Result.{count_if, has_lines}
+use Rattle.ebpf_linker.proofs.Walks.{length-with_bases, body_read, no_body, some_if}
 use Rattle.ebpf_linker.proofs.Readying.{is_program}
 use Rattle.ebpf_linker.proofs.program.assemble.Goals as goal
 

@@ -1,5 +1,5 @@
 use Rattle.std.proofs.Common.{◌≡◌, ◌++◌, map, drop}
-use Rattle.ebpf_linker.specs.Records.{func_moved}
+use Rattle.ebpf_linker.specs.Result.{func_moved}
 use Rattle.ebpf_linker.proofs.records.append_func_info.Given as goal
 
 abbrev pub invariant-loop-record : goal.invariant-loop-record

@@ -1,7 +1,7 @@
 use Rattle.std.proofs.Common.{◌≡◌, ◌++◌, map, drop, false}
 use Rattle.std.specs.List.{list_any}
 use Rattle.ebpf_linker.specs.Faults.{is_stray}
-use Rattle.ebpf_linker.specs.Records.{line_moved}
+use Rattle.ebpf_linker.specs.Result.{line_moved}
 use Rattle.ebpf_linker.proofs.records.append_line_info.Given as goal
 
 abbrev pub invariant-loop-line : goal.invariant-loop-line

@@ -1,12 +1,5 @@
-use Rattle.std.proofs.Common.{arith}
-use Rattle.ebpf_linker.proofs.RecordWalks.{funcs_more, fit_more, room_more}
+use Rattle.ebpf_linker.proofs.Walks.{funcs_more, fit_more}
 use Rattle.ebpf_linker.proofs.records.func_records.Goals as goal
-
-pub overflow_add-base : goal.overflow_add-base
-overflow_add-base c =
-    let known = c.requires.copies c.loop-copy.copy-index 0 c.loop-copy-test.true in
-    let room = room_more c.args.bodies.now c.args.copies.now c.loop-copy.base c.loop-copy.copy-index c.loop-copy-test.true known c.loop-copy.invariant.fit in
-    omega (arith, room)
 
 pub loop-copy-preserved : goal.loop-copy-preserved
 loop-copy-preserved c =

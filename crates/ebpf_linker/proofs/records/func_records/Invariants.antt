@@ -1,7 +1,7 @@
 use Rattle.std.proofs.Common.{◌≡◌, ◌++◌, [], drop}
-use Rattle.ebpf_linker.specs.LinkedSlots.{Fit}
+use Rattle.ebpf_linker.specs.Copies.{Fit}
 use Rattle.ebpf_linker.specs.Numbered.{functions_by_number}
-use Rattle.ebpf_linker.specs.Records.{func_records, linked_func_info}
+use Rattle.ebpf_linker.specs.Result.{func_records, linked_func_info}
 use Rattle.ebpf_linker.proofs.records.func_records.Given as goal
 
 abbrev pub invariant-loop-copy : goal.invariant-loop-copy

@@ -1,6 +1,6 @@
 use Rattle.std.proofs.Common.{◌≡◌, [], drop}
 use Rattle.ebpf_linker.specs.Numbered.{functions_by_number}
-use Rattle.ebpf_linker.specs.Records.{has_lines}
+use Rattle.ebpf_linker.specs.Result.{has_lines}
 use Rattle.ebpf_linker.proofs.records.has_lines.Given as goal
 
 abbrev pub invariant-loop-copy : goal.invariant-loop-copy

@@ -1,7 +1,7 @@
 use Rattle.std.proofs.Common.{◌≡◌, ◌++◌, [], drop}
-use Rattle.ebpf_linker.specs.LinkedSlots.{Fit}
+use Rattle.ebpf_linker.specs.Copies.{Fit}
 use Rattle.ebpf_linker.specs.Numbered.{functions_by_number}
-use Rattle.ebpf_linker.specs.Records.{line_records, linked_line_info}
+use Rattle.ebpf_linker.specs.Result.{line_records, linked_line_info}
 use Rattle.ebpf_linker.proofs.records.line_records.Given as goal
 
 abbrev pub invariant-loop-copy : goal.invariant-loop-copy

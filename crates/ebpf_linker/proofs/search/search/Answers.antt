@@ -1,14 +1,12 @@
-use Rattle.std.proofs.Common.{◌≡◌, ℕ, ◌+◌, ◌<◌, List, [], ◌∷◌, ◌++◌, length, replicate, true, false, rules, refl, sym, ap, ◌∙◌, subst, arith, Option}
-use Rattle.std.specs.Prelude.{slice_get, slice_index_or, All, Err, Ok, Vec}
+use Rattle.std.proofs.Common.{◌≡◌, ℕ, ◌+◌, ◌<◌, List, [], ◌∷◌, ◌++◌, length, replicate, true, false, rules, sym, ap, ◌∙◌, subst, arith, Some, None}
+use Rattle.std.specs.Prelude.{slice_index_or, All, Err, Ok, Vec}
 use Rattle.std.specs.declared.alloc.Global.{Global}
-use Rattle.ebpf_linker.specs.declared.reference.Fault.{Fault}
 use Rattle.ebpf_linker.specs.declared.search.Open.{Open}
 use Rattle.ebpf_linker.specs.Functions.{FunctionContent, Among}
 use Rattle.ebpf_linker.specs.Numbered.{functions_by_number}
-use Rattle.ebpf_linker.specs.Steps.{Advanced, Search, search_at, checked_calls, call_target}
-use Rattle.ebpf_linker.proofs.Searched.{State, advanced, started}
+use Rattle.ebpf_linker.specs.Search.{Advanced, Search, search_at, checked_calls}
+use Rattle.ebpf_linker.proofs.Searched.{State, step_of, advanced, started, less_left, left_in, unfound}
 use Rattle.ebpf_linker.proofs.Counted.{counted, refused, found_all, counted_first}
-use Rattle.ebpf_linker.proofs.Ends.{less_left, left_in, unfound}
 use Rattle.ebpf_linker.proofs.Checked.{are_sorted, finds, content_read}
 use Rattle.ebpf_linker.proofs.Unmarked.{found_within, set_among, stands_still}
 use Rattle.ebpf_linker.proofs.search.search.Goals as goal
@@ -26,8 +24,8 @@ loop-top-init c =
       counted = counted_first (functions_by_number B C) c.args.start _ c.push.new.self.items o (ap (λ (u : FunctionContent). length u.slots) (sym (content_read B c.args.start _ c.requires.start)));
     }
 
-pub finish-order-requires-clause-within : goal.finish-order-requires-clause-within
-finish-order-requires-clause-within c =
+pub finish-order-requires : goal.finish-order-requires
+finish-order-requires c =
     let B = c.args.bodies.now in
     let C = c.args.calls.now in
     let p = c.args.start in
@@ -35,28 +33,15 @@ finish-order-requires-clause-within c =
     let s = search_at c.loop-top.progress.order.items c.loop-top.progress.is_found.items c.pop.new.self.items c.loop-top.progress.used in
     let t = search_at c.advance.new.self.order.items c.advance.new.self.is_found.items c.advance.new.self.work_list.items c.advance.new.self.used in
     let top = c.in-Some.top in
-    let a = subst (λ (u : Option Fault). Advanced F (checked_calls B C p) top s t u) c.in-Some-step.is c.in_ok-step.ensures in
-    let same = stands_still F top s t c.in-Some-step.fault (call_target (slice_get (checked_calls B C p top.function) top.next)) a in
-    subst (λ (u : Search). All (λ k. k < length u.is_found) u.order) (sym same) (found_within c.loop-top.invariant.state)
+    let a = step_of F (checked_calls B C p) top s t (Some c.in-Some-step.fault) (subst (Advanced F (checked_calls B C p) top s t) c.in-Some-step.is c.in_ok-step.ensures) in
+    let same = stands_still F (checked_calls B C p) top s t c.in-Some-step.fault a in
+    record {
+      within = subst (λ (u : Search). All (λ k. k < length u.is_found) u.order) (sym same) (found_within c.loop-top.invariant.state);
+      marked = subst (λ (u : Search). (k : ℕ) → slice_index_or u.is_found k false ≡ true → Among u.order k) (sym same) (set_among c.loop-top.invariant.state);
+    }
 
-pub finish-order-requires-clause-marked : goal.finish-order-requires-clause-marked
-finish-order-requires-clause-marked c =
-    let B = c.args.bodies.now in
-    let C = c.args.calls.now in
-    let p = c.args.start in
-    let F = functions_by_number B C in
-    let s = search_at c.loop-top.progress.order.items c.loop-top.progress.is_found.items c.pop.new.self.items c.loop-top.progress.used in
-    let t = search_at c.advance.new.self.order.items c.advance.new.self.is_found.items c.advance.new.self.work_list.items c.advance.new.self.used in
-    let top = c.in-Some.top in
-    let a = subst (λ (u : Option Fault). Advanced F (checked_calls B C p) top s t u) c.in-Some-step.is c.in_ok-step.ensures in
-    let same = stands_still F top s t c.in-Some-step.fault (call_target (slice_get (checked_calls B C p top.function) top.next)) a in
-    subst (λ (u : Search). (k : ℕ) → slice_index_or u.is_found k false ≡ true → Among u.order k) (sym same) (set_among c.loop-top.invariant.state)
-
-pub finish-requires-clause-within : goal.finish-requires-clause-within
-finish-requires-clause-within c = found_within c.loop-top.invariant.state
-
-pub finish-requires-clause-marked : goal.finish-requires-clause-marked
-finish-requires-clause-marked c = set_among c.loop-top.invariant.state
+pub finish-requires : goal.finish-requires
+finish-requires c = record { within = found_within c.loop-top.invariant.state; marked = set_among c.loop-top.invariant.state }
 
 pub returns-in-Some-step : goal.returns-in-Some-step
 returns-in-Some-step c =
@@ -68,8 +53,8 @@ returns-in-Some-step c =
     let t = search_at c.advance.new.self.order.items c.advance.new.self.is_found.items c.advance.new.self.work_list.items c.advance.new.self.used in
     let top = c.in-Some.top in
     let st = subst (State (length B) (checked_calls B C p) p c.loop-top.progress.order.items c.loop-top.progress.is_found.items) c.in-Some.ensures.items c.loop-top.invariant.state in
-    let a = subst (λ (u : Option Fault). Advanced F (checked_calls B C p) top s t u) c.in-Some-step.is c.in_ok-step.ensures in
-    finds B C p (Err c.in-Some-step.fault) (refused F (length B) (checked_calls B C p) p (are_sorted B p (length B) C c.requires.sound) s t top c.in-Some-step.fault st c.loop-top.invariant.counted (slice_get (checked_calls B C p top.function) top.next) refl a)
+    let a = step_of F (checked_calls B C p) top s t (Some c.in-Some-step.fault) (subst (Advanced F (checked_calls B C p) top s t) c.in-Some-step.is c.in_ok-step.ensures) in
+    finds B C p (Err c.in-Some-step.fault) (refused F (length B) (checked_calls B C p) p (are_sorted B p (length B) C c.requires.sound) s t top c.in-Some-step.fault st c.loop-top.invariant.counted a)
 
 pub loop-top-smaller : goal.loop-top-smaller
 loop-top-smaller c =
@@ -80,7 +65,7 @@ loop-top-smaller c =
     let s = search_at c.loop-top.progress.order.items c.loop-top.progress.is_found.items c.pop.new.self.items c.loop-top.progress.used in
     let t = search_at c.advance.new.self.order.items c.advance.new.self.is_found.items c.advance.new.self.work_list.items c.advance.new.self.used in
     let top = c.in-Some.top in
-    let a = subst (λ (u : Option Fault). Advanced F (checked_calls B C p) top s t u) c.in_default-step.is c.in_ok-step.ensures in
+    let a = step_of F (checked_calls B C p) top s t None (subst (Advanced F (checked_calls B C p) top s t) c.in_default-step.is c.in_ok-step.ensures) in
     let less = less_left F (length B) (checked_calls B C p) top s t (are_sorted B p (length B) C c.requires.sound) c.loop-top.invariant.state.flags a in
     subst (λ (u : List Open). unfound c.advance.new.self.is_found.items (checked_calls B C p) 0 + left_in (checked_calls B C p) c.advance.new.self.work_list.items < unfound c.loop-top.progress.is_found.items (checked_calls B C p) 0 + left_in (checked_calls B C p) u) (sym c.in-Some.ensures.items) less
 
@@ -94,10 +79,10 @@ loop-top-preserved c =
     let t = search_at c.advance.new.self.order.items c.advance.new.self.is_found.items c.advance.new.self.work_list.items c.advance.new.self.used in
     let top = c.in-Some.top in
     let st = subst (State (length B) (checked_calls B C p) p c.loop-top.progress.order.items c.loop-top.progress.is_found.items) c.in-Some.ensures.items c.loop-top.invariant.state in
-    let a = subst (λ (u : Option Fault). Advanced F (checked_calls B C p) top s t u) c.in_default-step.is c.in_ok-step.ensures in
+    let a = step_of F (checked_calls B C p) top s t None (subst (Advanced F (checked_calls B C p) top s t) c.in_default-step.is c.in_ok-step.ensures) in
     record {
       state = advanced (length B) (checked_calls B C p) p F (are_sorted B p (length B) C c.requires.sound) s t top st a;
-      counted = counted F (length B) (checked_calls B C p) p s t top c.loop-top.invariant.counted (call_target (slice_get (checked_calls B C p top.function) top.next)) a;
+      counted = counted F (length B) (checked_calls B C p) p s t top c.loop-top.invariant.counted a;
     }
 
 pub returns : goal.returns

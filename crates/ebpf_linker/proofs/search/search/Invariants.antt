@@ -1,8 +1,7 @@
 use Rattle.ebpf_linker.specs.Numbered.{functions_by_number}
-use Rattle.ebpf_linker.specs.Steps.{checked_calls, search_at}
-use Rattle.ebpf_linker.proofs.Searched.{State}
+use Rattle.ebpf_linker.specs.Search.{checked_calls, search_at}
+use Rattle.ebpf_linker.proofs.Searched.{State, left_of}
 use Rattle.ebpf_linker.proofs.Counted.{Counted}
-use Rattle.ebpf_linker.proofs.Ends.{left_of}
 use Rattle.std.proofs.Common.{length}
 use Rattle.ebpf_linker.proofs.search.search.Given as goal
 

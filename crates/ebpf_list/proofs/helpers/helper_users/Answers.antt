@@ -1,4 +1,4 @@
-use Rattle.std.proofs.Common.{◌≡◌, ap, ◌∙◌, subst, sym}
+use Rattle.std.proofs.Common.{ap, ◌∙◌, subst, sym}
 use Rattle.std.specs.FinMap.{empty}
 use Rattle.ebpf_list.proofs.Using.{helper_users_stand}
 use Rattle.ebpf_list.specs.PrivateContracts.{helpers_of, users_from}

@@ -1,5 +1,5 @@
 use Rattle.std.proofs.Common.{◌+◌, ◌≤◌, length, rules, subst, sym}
-use Rattle.ebpf_list.proofs.Zipped.{Completes, none_left, one_more}
+use Rattle.ebpf_list.proofs.ReachedKeys.{Completes, none_left, one_more}
 use Rattle.ebpf_list.specs.Layouts.{IsLayout}
 use Rattle.ebpf_list.proofs.layout.layouts_in.Goals as goal
 

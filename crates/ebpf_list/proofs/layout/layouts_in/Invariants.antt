@@ -1,4 +1,4 @@
-use Rattle.ebpf_list.proofs.Zipped.{Completes}
+use Rattle.ebpf_list.proofs.ReachedKeys.{Completes}
 use Rattle.ebpf_list.specs.Layouts.{IsLayout}
 use Rattle.ebpf_list.proofs.layout.layouts_in.Given as goal
 

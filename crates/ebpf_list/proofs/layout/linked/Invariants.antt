@@ -1,7 +1,7 @@
 use Rattle.std.proofs.Common.{◌≡◌, ◌<◌, ◌+◌, ◌-◌, ◌^◌, ◌++◌, drop, map}
 use Rattle.std.specs.Prelude.{min}
-use Rattle.ebpf_linker.specs.LinkMapLaws.{copied_slot_count}
-use Rattle.ebpf_reloc.specs.LinkMapLaws.{copy_of}
+use Rattle.ebpf_linker.specs.LinkMap.{copied_slot_count}
+use Rattle.ebpf_reloc.specs.Laws.{copy_of}
 use Rattle.ebpf_list.proofs.layout.linked.Given as goal
 
 -- with the copies that are left, all are there

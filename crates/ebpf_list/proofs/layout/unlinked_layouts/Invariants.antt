@@ -1,4 +1,4 @@
-use Rattle.ebpf_list.proofs.Zipped.{Completes}
+use Rattle.ebpf_list.proofs.ReachedKeys.{Completes}
 use Rattle.ebpf_list.specs.Layouts.{IsOfOne}
 use Rattle.ebpf_list.proofs.layout.unlinked_layouts.Given as goal
 

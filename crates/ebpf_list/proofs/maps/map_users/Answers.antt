@@ -1,4 +1,4 @@
-use Rattle.std.proofs.Common.{◌≡◌, subst, sym}
+use Rattle.std.proofs.Common.{subst, sym}
 use Rattle.ebpf_list.proofs.Using.{map_users_stand}
 use Rattle.ebpf_list.specs.Users.{AreUsers, uses_map}
 use Rattle.ebpf_object.proofs.Staging.{of_prepared}

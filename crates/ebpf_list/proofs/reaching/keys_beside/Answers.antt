@@ -4,7 +4,7 @@ use Rattle.std.specs.List.{filter}
 use Rattle.std.specs.Map.{keys_of}
 use Rattle.ebpf_base.specs.Keys.{key_cmp}
 use Rattle.ebpf_list.proofs.ReachedKeys.{kept_more}
-use Rattle.ebpf_model.specs.Keys.{FunctionKey}
+use Rattle.ebpf_model.specs.Symbols.{FunctionKey}
 use Rattle.ebpf_list.proofs.reaching.keys_beside.Goals as goal
 
 pub loop-key-preserved : goal.loop-key-preserved

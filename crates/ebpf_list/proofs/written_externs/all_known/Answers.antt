@@ -6,8 +6,8 @@ use Rattle.ebpf_base.specs.Mapped.{mapped_entries}
 use Rattle.ebpf_base.proofs.TextMaps.{text_exact}
 use Rattle.ebpf_model.specs.declared.extern_desc.ExternDesc.{ExternDesc}
 use Rattle.ebpf_report.proofs.FirstEntries.{put_firsts-map_values}
-use Rattle.ebpf_report.specs.FirstEntries.{put_firsts}
-use Rattle.ebpf_report.specs.KnownExterns.{settings_named, unknown}
+use Rattle.ebpf_report.specs.HelperCalls.{put_firsts}
+use Rattle.ebpf_report.specs.ObjectPrograms.{settings_named, unknown}
 use Rattle.ebpf_list.proofs.written_externs.all_known.Goals as goal
 
 pub returns : goal.returns

@@ -1,4 +1,4 @@
-use Rattle.ebpf_loading.proofs.Prefixes.{strips_text}
+use Rattle.ebpf_loading.proofs.FirstFound.{strips_text}
 use Rattle.ebpf_loading.proofs.texts.without_prefix.Goals as goal
 
 pub returns : goal.returns

@@ -6,8 +6,8 @@ use Rattle.std.proofs.Common.{map}
 use Rattle.ebpf_base.specs.Keys.{lent_bytes, text_cmp, text_total}
 use Rattle.ebpf_base.proofs.Sorted.{sorted_keys, sorted_map}
 use Rattle.ebpf_base.proofs.TextMaps.{text_exact}
-use Rattle.ebpf_object.specs.PatchValues.{global_of}
-use Rattle.ebpf_object.proofs.GivenValues.{keys_given, distinct_given}
+use Rattle.ebpf_object.specs.Patches.{global_of}
+use Rattle.ebpf_object.proofs.Values.{keys_given, distinct_given}
 use Rattle.ebpf_object.proofs.globals.names_of.Goals as goal
 
 pub returns : goal.returns

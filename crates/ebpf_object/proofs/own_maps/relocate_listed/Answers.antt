@@ -5,8 +5,8 @@ use Rattle.ebpf_object.specs.WrittenSlots.{with_maps, maps_fault}
 use Rattle.ebpf_passes.specs.Maps.{GivenMap}
 use Rattle.ebpf_passes.specs.Relocated.{out_of_memory}
 use Rattle.ebpf_model.specs.Memory.{is_memory_at}
-use Rattle.ebpf_model.specs.TextSections.{text_sections_in}
-use Rattle.ebpf_object.proofs.GivenMaps.{first_ok, given_ok, given_err, second_ok}
+use Rattle.ebpf_model.specs.Symbols.{text_sections_in}
+use Rattle.ebpf_object.proofs.Values.{first_ok, given_ok, given_err, second_ok}
 use Rattle.ebpf_object.proofs.own_maps.relocate_listed.Goals as goal
 
 pub returns-clause-ok : goal.returns-clause-ok

@@ -3,10 +3,8 @@ use Rattle.std.specs.Prelude.{◌≡◌, Some, IfErr}
 use Rattle.std.specs.FinMap.{FinMap}
 use Rattle.ebpf_base.specs.Keys.{text_cmp}
 use Rattle.ebpf_object.specs.Prepared.{RefusesPreparing}
-use Rattle.ebpf_object.specs.StageFaults.{Wrapped}
-use Rattle.ebpf_object.specs.Stages.{own_maps}
-use Rattle.ebpf_object.specs.Steps.{descriptor_of}
-use Rattle.ebpf_object.specs.TextSections.{has_function_in}
+use Rattle.ebpf_object.specs.Stages.{Wrapped, own_maps, descriptor_of}
+use Rattle.ebpf_object.specs.Names.{has_function_in}
 use Rattle.ebpf_object.specs.WrittenSlots.{maps_fault}
 use Rattle.ebpf_object.specs.declared.prepare_error.PrepareError.TheVariants.{Maps}
 use Rattle.ebpf_parts.specs.declared.maps.either.Map.{Map}

@@ -1,6 +1,6 @@
 use Rattle.std.proofs.Common.{◌≡◌, drop}
 use Rattle.ebpf_base.specs.Keys.{lent_bytes}
-use Rattle.ebpf_object.specs.MapNames.{with_map_names}
+use Rattle.ebpf_object.specs.Names.{with_map_names}
 use Rattle.ebpf_object.proofs.patch.put_maps.Given as goal
 
 -- what is left to put from here is what was to put from the start

@@ -2,7 +2,7 @@ use Rattle.std.proofs.Common.{◌≡◌, subst}
 use Rattle.std.specs.FinMap.{insert}
 use Rattle.std.specs.Option.{OnSome}
 use Rattle.ebpf_object.specs.PrivateContracts.{value_of}
-use Rattle.ebpf_object.proofs.Patching.{written}
+use Rattle.ebpf_object.proofs.Patches.{written}
 use Rattle.ebpf_object.proofs.patch.write_patch.Goals as goal
 
 pub returns : goal.returns

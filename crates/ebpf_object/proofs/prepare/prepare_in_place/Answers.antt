@@ -1,4 +1,4 @@
-use Rattle.ebpf_object.specs.Steps.{chosen}
+use Rattle.ebpf_object.specs.Stages.{chosen}
 use Rattle.ebpf_object.proofs.Headline.{headline}
 use Rattle.ebpf_object.proofs.Staging.{file_refused, prepared_file}
 use Rattle.ebpf_object.proofs.prepare.prepare_in_place.Goals as goal

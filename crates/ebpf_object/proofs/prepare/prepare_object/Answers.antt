@@ -1,4 +1,4 @@
-use Rattle.ebpf_object.specs.Steps.{chosen}
+use Rattle.ebpf_object.specs.Stages.{chosen}
 use Rattle.ebpf_object.proofs.Headline.{headline}
 use Rattle.ebpf_object.proofs.Staging.{of_error, of_prepared, file_refused, prepared_file}
 use Rattle.ebpf_object.proofs.prepare.prepare_object.Goals as goal

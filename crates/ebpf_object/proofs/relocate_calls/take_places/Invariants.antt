@@ -4,7 +4,7 @@ use Rattle.std.specs.List.Sorted.{IsStrictlySortedBy}
 use Rattle.std.specs.Map.{keys_of}
 use Rattle.ebpf_base.specs.Keys.{key_cmp}
 use Rattle.ebpf_object.specs.PrivateContracts.{replaced}
-use Rattle.ebpf_model.specs.Keys.{FunctionKey}
+use Rattle.ebpf_model.specs.Symbols.{FunctionKey}
 use Rattle.ebpf_object.proofs.relocate_calls.take_places.Given as goal
 
 -- with the functions that are left in their places, all are

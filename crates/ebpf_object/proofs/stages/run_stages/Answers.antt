@@ -1,6 +1,5 @@
-use Rattle.ebpf_object.specs.Steps.{chosen}
-use Rattle.ebpf_object.proofs.UnchangedFields.{kept_twice, kept_thrice, kept_four_times}
-use Rattle.ebpf_object.proofs.Staging.{relocating_refused, after_calls, fds_refused, linking_refused, writing_externs_refused, of_error, of_ok, passed_on, resolving_refused}
+use Rattle.ebpf_object.specs.Stages.{chosen}
+use Rattle.ebpf_object.proofs.Staging.{kept_twice, kept_thrice, kept_four_times, relocating_refused, after_calls, fds_refused, linking_refused, writing_externs_refused, of_error, of_ok, passed_on, resolving_refused}
 use Rattle.ebpf_object.proofs.stages.run_stages.Goals as goal
 
 pub returns-in_err-relocate_types-clause-fault : goal.returns-in_err-relocate_types-clause-fault

@@ -1,4 +1,4 @@
-use Rattle.ebpf_parsing.proofs.MapSymbols.{maps_have_symbols, others_of_data}
+use Rattle.ebpf_parsing.proofs.TableKeys.{maps_have_symbols, others_of_data}
 use Rattle.ebpf_parsing.proofs.laws.maps_have_their_symbols.Goals as goal
 
 pub returns-clause-symbols : goal.returns-clause-symbols

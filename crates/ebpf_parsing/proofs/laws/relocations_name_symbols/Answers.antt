@@ -1,4 +1,4 @@
-use Rattle.ebpf_parsing.proofs.CodeTables as tables
+use Rattle.ebpf_parsing.proofs.TableKeys as tables
 use Rattle.ebpf_parsing.proofs.laws.relocations_name_symbols.Goals as goal
 
 pub returns : goal.returns

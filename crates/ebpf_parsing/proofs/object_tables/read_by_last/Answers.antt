@@ -1,24 +1,22 @@
 use Rattle.std.proofs.Common.{◌≡◌, ◌∷◌, rules, sym, ap, subst, ◌∙◌, None, false, map, filter}
 use Rattle.std.specs.Prelude.{◌==◌, Some, Err, MatchBool, ⊤}
 use Rattle.ebpf_base.specs.Faults.{Refuses, first_some, or_else}
+use Rattle.ebpf_base.specs.Keys.{text_total}
 use Rattle.ebpf_elf.specs.Relocations.{relocation_sections, relocated_section}
 use Rattle.ebpf_elf.specs.Sections.{sections}
-use Rattle.ebpf_parsing.specs.FileContents.{read_fault, sections_fault, is_type_information, map_entries, program_entries, function_entries, relocation_entries, name_entries}
-use Rattle.ebpf_parsing.specs.FileSymbols.{file_symbols}
-use Rattle.ebpf_parsing.specs.OfSection.{fault_in}
-use Rattle.ebpf_parsing.specs.ObjectTables.{all_added, added, object_tables_from}
-use Rattle.ebpf_parsing.specs.Symbols.{section_symbols}
-use Rattle.ebpf_parsing.proofs.AddedLemmas.{others, kept, one_more, fault_more, refused_first}
-use Rattle.ebpf_parsing.specs.LastData.{data_row, last_data, added_last}
-use Rattle.ebpf_base.specs.Keys.{text_total}
-use Rattle.ebpf_parsing.proofs.LastData.{DataLasts, same_added}
-use Rattle.ebpf_parsing.proofs.Lasts.{all_lasts, fewer_lasts}
-use Rattle.ebpf_parsing.proofs.FromFile.{all_from}
-use Rattle.ebpf_parsing.specs.PrivateContracts.{AreOf}
-use Rattle.ebpf_parsing.proofs.object_tables.read_by_last.Goals as goal
 use Rattle.ebpf_parts.specs.Memory.{is_parse_memory}
-use Rattle.ebpf_parts.specs.declared.error.ParseError.{ParseError}
 use Rattle.ebpf_parts.specs.Sections.{section_of, section_fault}
+use Rattle.ebpf_parts.specs.declared.error.ParseError.{ParseError}
+use Rattle.ebpf_parsing.specs.FileContents.{read_fault, sections_fault, map_entries, program_entries, function_entries, relocation_entries, name_entries}
+use Rattle.ebpf_parsing.specs.ObjectTables.{all_added, added, object_tables_from, added_last}
+use Rattle.ebpf_parsing.specs.OfSection.{fault_in}
+use Rattle.ebpf_parsing.specs.Relocations.{AreOf}
+use Rattle.ebpf_parsing.specs.Sections.{is_type_information, data_row, last_data}
+use Rattle.ebpf_parsing.specs.Symbols.{file_symbols, section_symbols}
+use Rattle.ebpf_parsing.proofs.Added.{others, kept, one_more, fault_more, refused_first}
+use Rattle.ebpf_parsing.proofs.Lasts.{DataLasts, same_added, all_lasts, fewer_lasts}
+use Rattle.ebpf_parsing.proofs.RelocationTables.{all_from}
+use Rattle.ebpf_parsing.proofs.object_tables.read_by_last.Goals as goal
 
 pub loop-section-init : goal.loop-section-init
 unfolding sections_fault map_entries program_entries function_entries relocation_entries name_entries

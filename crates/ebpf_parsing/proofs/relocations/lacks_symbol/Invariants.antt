@@ -1,6 +1,6 @@
 use Rattle.std.proofs.Common.{◌≡◌}
 use Rattle.ebpf_elf.specs.Relocations.{table_entries}
-use Rattle.ebpf_parsing.specs.PrivateContracts.{lacks_symbol}
+use Rattle.ebpf_parsing.specs.Relocations.{lacks_symbol}
 use Rattle.ebpf_parsing.proofs.relocations.lacks_symbol.Given as goal
 
 -- what is left to do from here is what was to do from the start

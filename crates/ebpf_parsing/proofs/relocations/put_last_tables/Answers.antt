@@ -5,11 +5,10 @@ use Rattle.std.specs.Prelude.{slice_index_or}
 use Rattle.ebpf_base.proofs.Keyed.{put_all-append}
 use Rattle.ebpf_base.specs.Keyed.{put_all}
 use Rattle.ebpf_elf.specs.Relocations.{table_entries}
+use Rattle.ebpf_parsing.specs.Relocations.{file_of_tables, entry_range_of, entry_range_total, table_row, offset_of}
+use Rattle.ebpf_parsing.specs.Sections.{is_index}
 use Rattle.ebpf_parsing.proofs.Lasts.{all_lasts}
-use Rattle.ebpf_parsing.proofs.TableRanges.{fewer, rest_of, put_more, put_passed}
-use Rattle.ebpf_parsing.specs.PrivateContracts.{file_of_tables, entry_range_of, entry_range_total, table_row}
-use Rattle.ebpf_parsing.specs.LastData.{is_index}
-use Rattle.ebpf_parsing.specs.Relocations.{offset_of}
+use Rattle.ebpf_parsing.proofs.RelocationTables.{fewer, rest_of, put_more, put_passed}
 use Rattle.ebpf_parsing.proofs.relocations.put_last_tables.Goals as goal
 
 pub loop-table-init : goal.loop-table-init

@@ -3,9 +3,8 @@ use Rattle.std.specs.FinMap.{empty}
 use Rattle.std.specs.List.{flat_map}
 use Rattle.ebpf_base.specs.Keyed.{put_all}
 use Rattle.ebpf_elf.specs.Relocations.{table_entries}
-use Rattle.ebpf_parsing.specs.PrivateContracts.{AreOf, file_of_tables}
-use Rattle.ebpf_parsing.specs.Relocations.{relocations_by_offset, offset_of}
-use Rattle.ebpf_parsing.proofs.TableRanges.{TableLasts}
+use Rattle.ebpf_parsing.specs.Relocations.{AreOf, file_of_tables, relocations_by_offset, offset_of}
+use Rattle.ebpf_parsing.proofs.RelocationTables.{TableLasts}
 use Rattle.ebpf_parsing.proofs.relocations.put_last_tables.Given as goal
 
 -- what is left to do from here is what was to do from the start

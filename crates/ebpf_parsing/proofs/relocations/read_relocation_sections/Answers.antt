@@ -1,11 +1,10 @@
 use Rattle.std.proofs.Common.{◌≡◌, ◌∷◌, ◌++◌, [], filter, rules, sym, ap, subst, ◌∙◌}
 use Rattle.std.specs.Prelude.{◌==◌, if◌then◌else◌}
 use Rattle.ebpf_elf.specs.Relocations.{relocation_sections, relocated_section}
-use Rattle.ebpf_parsing.proofs.FromFile.{tables_from}
-use Rattle.ebpf_parsing.proofs.Grouped.{target_more}
-use Rattle.ebpf_parsing.proofs.TableRanges.{none_cached}
-use Rattle.ebpf_parsing.specs.PrivateContracts.{EntryRangesAreCached, AreOf}
-use Rattle.ebpf_parsing.specs.Groups.{group_at}
+use Rattle.ebpf_parsing.specs.Relocations.{EntryRangesAreCached, AreOf}
+use Rattle.ebpf_parsing.specs.Sections.{group_at}
+use Rattle.ebpf_parsing.proofs.NamedSymbols.{target_more}
+use Rattle.ebpf_parsing.proofs.RelocationTables.{tables_from, none_cached}
 use Rattle.ebpf_parsing.proofs.relocations.read_relocation_sections.Goals as goal
 
 pub loop-section-init : goal.loop-section-init

@@ -1,8 +1,8 @@
 use Rattle.std.proofs.Common.{◌≡◌, ◌++◌, ℕ, filter}
 use Rattle.std.specs.Prelude.{◌==◌}
 use Rattle.ebpf_elf.specs.Relocations.{relocation_sections, relocated_section}
-use Rattle.ebpf_parsing.specs.PrivateContracts.{EntryRangesAreCached, AreOf}
-use Rattle.ebpf_parsing.specs.Groups.{group_at}
+use Rattle.ebpf_parsing.specs.Relocations.{EntryRangesAreCached, AreOf}
+use Rattle.ebpf_parsing.specs.Sections.{group_at}
 use Rattle.ebpf_parsing.proofs.relocations.read_relocation_sections.Given as goal
 
 -- what is left to do from here is what was to do from the start

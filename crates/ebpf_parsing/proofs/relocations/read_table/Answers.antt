@@ -1,6 +1,6 @@
 use Rattle.std.proofs.Common.{sym, subst}
-use Rattle.ebpf_parsing.proofs.TableRanges.{cached_more}
-use Rattle.ebpf_parsing.specs.PrivateContracts.{EntryRangesAreCached}
+use Rattle.ebpf_parsing.specs.Relocations.{EntryRangesAreCached}
+use Rattle.ebpf_parsing.proofs.RelocationTables.{cached_more}
 use Rattle.ebpf_parsing.proofs.relocations.read_table.Goals as goal
 
 pub returns-clause-cached : goal.returns-clause-cached

@@ -1,11 +1,11 @@
 use Rattle.std.proofs.Common.{◌∙◌, rules}
-use Rattle.std.specs.Prelude.{IfOk}
-use Rattle.std.specs.BTreeMap.{IsFromIterResult}
 use Rattle.std.proofs.lemmas.Iterator.Adapters.{YieldsList-from_vec, fact_from_collect}
+use Rattle.std.specs.BTreeMap.{IsFromIterResult}
 use Rattle.std.specs.Cmp.{nat_cmp_total}
 use Rattle.std.specs.FinMap.{nat_cmp-IsAntisymmetric}
 use Rattle.std.specs.Ordering.{nat_cmp}
-use Rattle.ebpf_parsing.proofs.BuiltTables.{built}
+use Rattle.std.specs.Prelude.{IfOk}
+use Rattle.ebpf_parsing.proofs.Entries.{built}
 use Rattle.ebpf_parsing.proofs.relocations.table_of.Goals as goal
 
 pub returns : goal.returns

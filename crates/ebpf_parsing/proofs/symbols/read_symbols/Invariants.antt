@@ -1,10 +1,8 @@
 use Rattle.std.proofs.Common.{◌≡◌, ◌++◌, ℕ, map}
 use Rattle.ebpf_base.specs.Faults.{first_some}
 use Rattle.ebpf_base.specs.Keys.{lent_bytes}
-use Rattle.ebpf_parsing.specs.FileSymbols.{symbol_of, symbol_fault, symbols_fault, file_symbols}
-use Rattle.ebpf_parsing.specs.PrivateContracts.{names_of}
-use Rattle.ebpf_parsing.specs.Groups.{group_at}
-use Rattle.ebpf_parsing.specs.Symbols.{section_symbols}
+use Rattle.ebpf_parsing.specs.Sections.{group_at}
+use Rattle.ebpf_parsing.specs.Symbols.{symbol_of, symbol_fault, symbols_fault, file_symbols, names_of, section_symbols}
 use Rattle.ebpf_parsing.proofs.symbols.read_symbols.Given as goal
 
 -- what is left to do from here is what was to do from the start

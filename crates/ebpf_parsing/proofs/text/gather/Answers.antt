@@ -1,7 +1,7 @@
 use Rattle.std.proofs.Common.{◌≡◌, ◌<◌, ◌≤◌, ◌∷◌, ◌+◌, [], ◌++◌, rules, arith, length, None}
-use Rattle.ebpf_parsing.specs.Texts.{function_at, size_at, text_fault_at}
 use Rattle.std.proofs.lemmas.Grind.{common_steps}
-use Rattle.ebpf_parsing.proofs.Walked.{more, fault_here, none_left, all_kept}
+use Rattle.ebpf_parsing.specs.Texts.{function_at, size_at, text_fault_at}
+use Rattle.ebpf_parsing.proofs.Tiles.{more, fault_here, none_left, all_kept}
 use Rattle.ebpf_parsing.proofs.text.gather.Goals as goal
 
 pub loop-offset-preserved : goal.loop-offset-preserved

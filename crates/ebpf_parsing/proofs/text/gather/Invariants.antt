@@ -1,5 +1,5 @@
 use Rattle.std.proofs.Common.{◌-◌, length}
-use Rattle.ebpf_parsing.proofs.Walked.{IsWalked}
+use Rattle.ebpf_parsing.proofs.Tiles.{IsWalked}
 use Rattle.ebpf_parsing.proofs.text.gather.Given as goal
 
 -- what is gathered, then what is left from here, is what there was from the start

@@ -1,10 +1,10 @@
 use Rattle.std.proofs.Common.{◌∙◌, rules}
-use Rattle.std.specs.Prelude.{IfOk}
-use Rattle.std.specs.BTreeMap.{IsFromIterResult}
 use Rattle.std.proofs.lemmas.Iterator.Adapters.{YieldsList-from_vec, fact_from_collect}
+use Rattle.std.specs.BTreeMap.{IsFromIterResult}
+use Rattle.std.specs.Prelude.{IfOk}
 use Rattle.ebpf_base.proofs.Maps.{key_exact}
 use Rattle.ebpf_base.specs.Keys.{key_cmp, key_total}
-use Rattle.ebpf_parsing.proofs.BuiltTables.{built}
+use Rattle.ebpf_parsing.proofs.Entries.{built}
 use Rattle.ebpf_parsing.proofs.text.table_of.Goals as goal
 
 pub returns : goal.returns

@@ -1,4 +1,4 @@
-use Rattle.ebpf_parts.proofs.KindTypes.{types_agree}
+use Rattle.ebpf_parts.proofs.ProgramKinds.{types_agree}
 use Rattle.ebpf_parts.proofs.laws.kinds_of_names_agree.Goals as goal
 
 pub returns : goal.returns

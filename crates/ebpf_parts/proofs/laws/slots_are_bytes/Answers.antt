@@ -1,4 +1,4 @@
-use Rattle.ebpf_parts.proofs.SlotWords as words
+use Rattle.ebpf_parts.proofs.Slots as words
 use Rattle.ebpf_parts.proofs.laws.slots_are_bytes.Goals as goal
 
 pub returns-clause-one : goal.returns-clause-one

@@ -1,4 +1,4 @@
-use Rattle.std.proofs.Common.{rules, None, arith}
+use Rattle.std.proofs.Common.{None, arith}
 use Rattle.std.proofs.lemmas.Str.Pattern.{strip_prefix_char}
 use Rattle.ebpf_parts.proofs.NamesRead.{unmarked_plain}
 use Rattle.ebpf_parts.proofs.program_section.unmarked.Goals as goal

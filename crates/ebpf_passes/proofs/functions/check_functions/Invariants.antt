@@ -4,7 +4,7 @@ use Rattle.ebpf_base.specs.Faults.{first_some}
 use Rattle.ebpf_base.specs.Mapped.{mapped_entries}
 use Rattle.ebpf_model.specs.Walks.{IsWithinFunction}
 use Rattle.ebpf_passes.specs.Relocated.{function_fault, first_fault, relocated}
-use Rattle.ebpf_passes.specs.Rules.{rule_edit_of, rule_symbols}
+use Rattle.ebpf_passes.specs.Passes.{rule_edit_of, rule_symbols}
 use Rattle.ebpf_passes.proofs.functions.check_functions.Given as goal
 
 -- the functions that are left have the first fault that all had at the start, and where none was edited and they stay,

@@ -4,11 +4,9 @@ use Rattle.std.specs.FinMap.{empty, entries}
 use Rattle.ebpf_base.specs.EntriesFrom.{entries_from}
 use Rattle.ebpf_model.specs.Walks.{walked_relocations, left_in, ahead_in}
 use Rattle.ebpf_model.proofs.InStep.{first_passed, later}
-use Rattle.ebpf_passes.specs.Relocated.{first_refusal}
-use Rattle.ebpf_passes.specs.Rules.{rule_edit_of}
-use Rattle.ebpf_passes.specs.InPlaceEdits.{scan, tried, slots_after_relocations}
-use Rattle.ebpf_passes.proofs.Scans.{finds_first}
-use Rattle.ebpf_passes.proofs.Walking.{entries_kept, tried_on, before_end}
+use Rattle.ebpf_passes.specs.Relocated.{first_refusal, scan, tried, slots_after_relocations}
+use Rattle.ebpf_passes.specs.Passes.{rule_edit_of}
+use Rattle.ebpf_passes.proofs.Scans.{finds_first, entries_kept, tried_on, before_end}
 use Rattle.ebpf_passes.proofs.search.edits_or_refusal.Goals as goal
 
 pub loop-offset-init : goal.loop-offset-init

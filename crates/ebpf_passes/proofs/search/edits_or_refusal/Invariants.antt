@@ -3,8 +3,8 @@ use Rattle.std.specs.Prelude.{unwrap_or}
 use Rattle.std.specs.FinMap.{empty, entries}
 use Rattle.ebpf_base.specs.EntriesFrom.{entries_from}
 use Rattle.ebpf_model.specs.Walks.{walked_relocations, left_in, IsBefore}
-use Rattle.ebpf_passes.specs.Rules.{rule_edit_of}
-use Rattle.ebpf_passes.specs.InPlaceEdits.{scan, slots_after_relocations}
+use Rattle.ebpf_passes.specs.Passes.{rule_edit_of}
+use Rattle.ebpf_passes.specs.Relocated.{scan, slots_after_relocations}
 use Rattle.ebpf_passes.proofs.search.edits_or_refusal.Given as goal
 
 -- what is left to try gives what all gave at the start, and makes of the slots what all make as long as none edits; the

@@ -1,6 +1,6 @@
 use Rattle.std.proofs.Common.{subst}
-use Rattle.ebpf_reach.specs.Searched.{Searched}
-use Rattle.ebpf_reach.proofs.Searching.{searched_on}
+use Rattle.ebpf_reach.specs.Reached.{Searched}
+use Rattle.ebpf_reach.proofs.Visiting.{searched_on}
 use Rattle.ebpf_reach.proofs.search.searched.Goals as goal
 
 pub loop-place-preserved : goal.loop-place-preserved

@@ -1,4 +1,4 @@
-use Rattle.ebpf_reach.specs.Searched.{Searched, work_left}
+use Rattle.ebpf_reach.specs.Reached.{Searched, work_left}
 use Rattle.ebpf_reach.proofs.search.searched.Given as goal
 
 abbrev pub invariant-loop-place : goal.invariant-loop-place

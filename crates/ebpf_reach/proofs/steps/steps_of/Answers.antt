@@ -6,8 +6,7 @@ use Rattle.std.proofs.lemmas.Int.{to_z-of_z}
 use Rattle.ebpf_parts.specs.Slots.{dst_of}
 use Rattle.ebpf_reach.specs.declared.registers.Registers.{Registers}
 use Rattle.ebpf_reach.specs.declared.steps.SlotState.{SlotState}
-use Rattle.ebpf_reach.specs.Registers.{unknown, learned, called}
-use Rattle.ebpf_reach.specs.Effects.{after, wide_load_result}
+use Rattle.ebpf_reach.specs.Effects.{unknown, learned, called, after, wide_load_result}
 use Rattle.ebpf_reach.specs.Steps.{next_index, steps_by_flow, target_index, steps_to}
 use Rattle.ebpf_reach.proofs.Flows as flows
 use Rattle.ebpf_reach.proofs.steps.steps_of.Goals as goal

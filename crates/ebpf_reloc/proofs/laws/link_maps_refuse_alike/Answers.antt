@@ -1,4 +1,4 @@
-use Rattle.ebpf_reloc.proofs.OneLinkMap as map
+use Rattle.ebpf_reloc.proofs.OneResult as map
 use Rattle.ebpf_reloc.proofs.laws.link_maps_refuse_alike.Goals as goal
 
 pub returns-clause-first : goal.returns-clause-first

@@ -1,4 +1,4 @@
-use Rattle.ebpf_reloc.proofs.OneLinkMap as map
+use Rattle.ebpf_reloc.proofs.OneResult as map
 use Rattle.ebpf_reloc.proofs.laws.one_link_map.Goals as goal
 
 pub returns-clause-map : goal.returns-clause-map

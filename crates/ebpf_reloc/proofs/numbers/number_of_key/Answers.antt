@@ -1,4 +1,4 @@
-use Rattle.ebpf_reloc.proofs.Searched.{found_key, no_key}
+use Rattle.ebpf_reloc.proofs.Keys.{found_key, no_key}
 use Rattle.ebpf_reloc.proofs.numbers.number_of_key.Goals as goal
 
 pub returns-in-Ok : goal.returns-in-Ok

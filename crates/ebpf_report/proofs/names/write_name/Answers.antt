@@ -1,4 +1,4 @@
-use Rattle.std.proofs.Common.{◌≡◌, [], ◌∷◌, ◌++◌, flat_map, sym, ap, ◌∙◌, map-id, subst, append-nil, rules}
+use Rattle.std.proofs.Common.{[], ◌∷◌, ◌++◌, flat_map, sym, ap, ◌∙◌, map-id, subst, append-nil, rules}
 use Rattle.std.proofs.lemmas.Grind.{flat_map-append, put_two}
 use Rattle.std.proofs.lemmas.Iterator.{YieldsList-from_chars}
 use Rattle.std.proofs.lemmas.Iterator.Consumers.{YieldsList-end}

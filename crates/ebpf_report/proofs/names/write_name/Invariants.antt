@@ -1,4 +1,4 @@
-use Rattle.std.proofs.Common.{ℕ, List, flat_map}
+use Rattle.std.proofs.Common.{flat_map}
 use Rattle.std.specs.Fmt.{HasWritten, IsPlainFormatter}
 use Rattle.ebpf_report.specs.Shown.{shown_char}
 use Rattle.ebpf_report.proofs.names.write_name.Given as goal

@@ -1,5 +1,5 @@
 use Rattle.std.proofs.Common.{◌≡◌, ◌++◌}
-use Rattle.ebpf_report.specs.ObjectSettings.{setting_names}
+use Rattle.ebpf_report.specs.ObjectPrograms.{setting_names}
 use Rattle.ebpf_report.proofs.settings.setting_names.Given as goal
 
 -- with the names of the entries that are left, all are there

@@ -1,4 +1,4 @@
-use Rattle.ebpf_rows.proofs.ValueRows.{put_over as put_over_entries}
+use Rattle.ebpf_rows.proofs.Rows.{put_over as put_over_entries}
 use Rattle.ebpf_rows.proofs.value_rows.put_over.Goals as goal
 
 pub returns : goal.returns

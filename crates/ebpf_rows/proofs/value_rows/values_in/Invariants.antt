@@ -1,8 +1,8 @@
 use Rattle.std.proofs.Common.{◌≡◌, drop}
 use Rattle.std.specs.List.{filter_map}
 use Rattle.ebpf_base.specs.Keyed.{put_all}
-use Rattle.ebpf_object.specs.PatchValues.{globals_of}
-use Rattle.ebpf_rows.specs.Values.{value_of_row, values_in}
+use Rattle.ebpf_object.specs.Patches.{globals_of}
+use Rattle.ebpf_rows.specs.Variables.{value_of_row, values_in}
 use Rattle.ebpf_rows.proofs.value_rows.values_in.Given as goal
 
 -- with those of the rows that are left put over them, all are there

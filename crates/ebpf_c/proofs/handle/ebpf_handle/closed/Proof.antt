@@ -10,7 +10,7 @@ use denote.RawPtr.{Ptr, null_ptr}
 use denote.Steps.{nothing}
 use denote.Triple.Entry.{on_entry}
 use denote.Triple.Walked.{walk_of, says, ends_at}
-use Rattle.ebpf_c.proofs.HandleWords.{word, handle_in}
+use Rattle.ebpf_c.proofs.Handles.{word, handle_in}
 use Rattle.ebpf_c.specs.contracts.handle.ebpf_handle.closed as f
 use Rattle.ebpf_c.proofs.handle.ebpf_handle.closed.Statement.{statement}
 use Rattle.ebpf_c.proofs.handle.ebpf_handle.closed.Code as code

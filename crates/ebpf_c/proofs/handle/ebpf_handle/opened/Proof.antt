@@ -22,9 +22,8 @@ use Rattle.core.specs.contracts.option.Option as option
 use Rattle.std_alloc.proofs.ResultValues.{and_tt}
 use Rattle.core.proofs.option.Made.{Some-of, none_of}
 use Rattle.std.specs.contracts.alloc.Global as heap
-use Rattle.ebpf_c.proofs.HandleWords.{Handle, word, handle_out, held_out}
-use Rattle.ebpf_c.proofs.LooseWords.{Apart, pair, pair_fits, apart_in, freeing_of}
-use Rattle.ebpf_c.proofs.Objects.{object_types}
+use Rattle.ebpf_c.proofs.Handles.{Handle, word, handle_out, held_out, object_types}
+use Rattle.ebpf_c.proofs.Texts.{Apart, pair, pair_fits, apart_in, freeing_of}
 use Rattle.ebpf_c.specs.contracts.handle.ebpf_handle.opened as f
 use Rattle.ebpf_c.proofs.handle.ebpf_handle.opened.Statement.{statement}
 use Rattle.ebpf_c.proofs.handle.ebpf_handle.opened.Code as code

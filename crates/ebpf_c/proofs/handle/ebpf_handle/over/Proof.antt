@@ -17,9 +17,8 @@ use denote.Signature.{plain, types_at}
 use denote.Steps.{nothing}
 use denote.Triple.Walked.{Stays, stay_dropped, walk_of, says, ends_at}
 use Rattle.core.proofs.alloc.Calls.{Goes-blank}
-use Rattle.ebpf_c.proofs.HandleWords.{word, handle_in}
-use Rattle.ebpf_c.proofs.LooseWords.{Apart, pair, pair_fits, apart_out}
-use Rattle.ebpf_c.proofs.Objects.{object_types}
+use Rattle.ebpf_c.proofs.Handles.{word, handle_in, object_types}
+use Rattle.ebpf_c.proofs.Texts.{Apart, pair, pair_fits, apart_out}
 use Rattle.ebpf_c.specs.contracts.handle.ebpf_handle.over as f
 use Rattle.ebpf_c.proofs.handle.ebpf_handle.over.Statement.{statement}
 use Rattle.ebpf_c.proofs.handle.ebpf_handle.over.Code as code

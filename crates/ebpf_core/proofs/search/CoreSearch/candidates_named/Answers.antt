@@ -1,8 +1,7 @@
 use Rattle.std.proofs.Common.{◌≡◌, ap}
 use Rattle.std.specs.Prelude.{All}
-use Rattle.ebpf_core.specs.Sides.{Sides}
-use Rattle.ebpf_core.proofs.SearchedKinds.{has_searched}
-use Rattle.ebpf_core.proofs.Searching.{over_index}
+use Rattle.ebpf_core.specs.Searches.{Sides}
+use Rattle.ebpf_core.proofs.Searching.{has_searched, over_index}
 use Rattle.ebpf_core.proofs.search.CoreSearch.candidates_named.Goals as goal
 
 pub returns-in-Some-clause-ids : goal.returns-in-Some-clause-ids

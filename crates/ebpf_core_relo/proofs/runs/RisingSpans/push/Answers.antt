@@ -1,5 +1,5 @@
 use Rattle.std.proofs.Common.{List, ◌≤◌, sym, subst}
-use Rattle.ebpf_core_relo.specs.SpanLists.{last_start}
+use Rattle.ebpf_core_relo.specs.Spans.{last_start}
 use Rattle.ebpf_core_relo.specs.declared.spans.Span.{Span}
 use Rattle.ebpf_core_relo.proofs.Tops.{topped_by}
 use Rattle.ebpf_core_relo.proofs.runs.RisingSpans.push.Goals as goal

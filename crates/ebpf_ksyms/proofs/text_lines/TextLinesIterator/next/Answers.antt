@@ -1,5 +1,5 @@
 use Rattle.std.proofs.Common.{ap, sym, subst, ◌∙◌}
-use Rattle.ebpf_ksyms.specs.TextLines.{IsItem, lines_left}
+use Rattle.ebpf_ksyms.specs.Sources.{IsItem, lines_left}
 use Rattle.ebpf_ksyms.proofs.text_lines.TextLinesIterator.next.Goals as goal
 
 pub returns-clause-steps : goal.returns-clause-steps

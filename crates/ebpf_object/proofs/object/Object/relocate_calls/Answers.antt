@@ -1,5 +1,5 @@
 use Rattle.ebpf_object.proofs.Replaced.{are_linked}
-use Rattle.ebpf_model.specs.TextSections.{text_sections_in}
+use Rattle.ebpf_model.specs.Symbols.{text_sections_in}
 use Rattle.ebpf_object.specs.LinkedPrograms.{linkable_of, programs_in_order}
 use Rattle.ebpf_object.proofs.object.Object.relocate_calls.Goals as goal
 

@@ -1,7 +1,7 @@
 use Rattle.std.proofs.Common.{codes, ap, ◌∙◌}
 use Rattle.std.specs.FinMap.{contains_key}
 use Rattle.ebpf_object.specs.declared.object.Object.{Object}
-use Rattle.ebpf_object.proofs.StatedLicense.{stated_license}
+use Rattle.ebpf_object.proofs.Readings.{stated_license}
 use Rattle.ebpf_object.proofs.object.Object.states_license.Goals as goal
 
 pub returns-clause-stated : goal.returns-clause-stated

@@ -1,8 +1,8 @@
 use Rattle.std.proofs.Common.{◌≡◌, ℕ, Bool, true, false, List, refl, sym, ap, ◌∙◌}
 use Rattle.std.specs.Prelude.{◌||◌, ◌==◌}
 use Rattle.std.specs.List.{list_any}
-use Rattle.ebpf_object.specs.TextSections.{has_function_in}
-use Rattle.ebpf_model.specs.TextSections.{text_sections_in}
+use Rattle.ebpf_object.specs.Names.{has_function_in}
+use Rattle.ebpf_model.specs.Symbols.{text_sections_in}
 use Rattle.ebpf_model.specs.declared.function.Function.{Function}
 use Rattle.ebpf_object.proofs.object.Object.text_sections.Goals as goal
 

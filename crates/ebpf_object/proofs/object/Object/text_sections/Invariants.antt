@@ -1,8 +1,8 @@
 use Rattle.std.proofs.Common.{◌≡◌, ℕ}
 use Rattle.std.specs.Prelude.{◌||◌, ◌==◌}
 use Rattle.std.specs.List.{list_any}
-use Rattle.ebpf_object.specs.TextSections.{has_function_in}
-use Rattle.ebpf_model.specs.TextSections.{text_sections_in}
+use Rattle.ebpf_object.specs.Names.{has_function_in}
+use Rattle.ebpf_model.specs.Symbols.{text_sections_in}
 use Rattle.ebpf_object.proofs.object.Object.text_sections.Given as goal
 
 -- the sections so far, and those of the functions that are left

@@ -1,6 +1,6 @@
 use Rattle.std.proofs.Common.{ℕ, ◌<◌, List, All, map, filter, length, get_or, ap, sym, subst, ◌∙◌}
-use Rattle.ebpf_parsing.specs.RecordsBySlot.{is_among_slots}
-use Rattle.ebpf_parsing.proofs.RecordIndices.{records_found, records_inside}
+use Rattle.ebpf_parsing.specs.Records.{is_among_slots}
+use Rattle.ebpf_parsing.proofs.Records.{records_found, records_inside}
 use Rattle.ebpf_parsing.proofs.info_records.InfoRecords.counted_from.Goals as goal
 
 pub those_counted_from-requires : goal.those_counted_from-requires

@@ -1,5 +1,5 @@
 use Rattle.std.proofs.Common.{sym, ◌∙◌}
-use Rattle.ebpf_parsing.proofs.Rising.{in_order}
+use Rattle.ebpf_parsing.proofs.InOrder.{in_order}
 use Rattle.ebpf_parsing.proofs.info_records.InfoRecords.new.Goals as goal
 
 pub invariant_of-result : goal.invariant_of-result

@@ -2,7 +2,7 @@ use Rattle.std.proofs.Common.{◌≡◌, drop}
 use Rattle.std.specs.Prelude.{filter}
 use Rattle.std.specs.List.{fold}
 use Rattle.std.specs.Option.{option_copied}
-use Rattle.ebpf_parts.specs.ProgramKinds.{name_fits, longer, longest_fit}
+use Rattle.ebpf_parts.specs.ProgramTypes.{name_fits, longer, longest_fit}
 use Rattle.ebpf_parts.proofs.programs.kind.longest_fit.Given as goal
 
 -- the row so far and those left to see come to the row of all

@@ -1,4 +1,4 @@
-use Rattle.ebpf_parts.specs.ProgramKinds.{program_kind}
+use Rattle.ebpf_parts.specs.ProgramTypes.{program_kind}
 use Rattle.ebpf_parts.proofs.programs.kind.program_kind.Goals as goal
 
 pub returns : goal.returns

@@ -1,7 +1,7 @@
 use Rattle.std.proofs.Common.{rules, sym, ap, ◌∙◌, ◌≡◌}
 use Rattle.std.proofs.lemmas.Int.{to_z-of_z}
-use Rattle.ebpf_passes.specs.PrivateContracts.{with_map_target}
-use Rattle.ebpf_passes.proofs.Tables.{tables_next, tables_none}
+use Rattle.ebpf_passes.specs.Maps.{with_map_target}
+use Rattle.ebpf_passes.proofs.MapChains.{tables_next, tables_none}
 use Rattle.ebpf_passes.proofs.map_tables.MapTables.gather.Goals as goal
 use mir.Syntax.{w32}
 use mir.Val.{SFits}

@@ -1,7 +1,7 @@
 use Rattle.std.proofs.Common.{◌≡◌, ℕ, List, length, Option, ap, arith}
 use Rattle.ebpf_reach.specs.declared.registers.Registers.{Registers}
 use Rattle.ebpf_reach.specs.PrivateContracts.{commons}
-use Rattle.ebpf_reach.proofs.Meeting.{commons_filled}
+use Rattle.ebpf_reach.proofs.Monotone.{commons_filled}
 use Rattle.ebpf_reach.proofs.registers.Registers.least_upper_bound.Goals as goal
 
 pub returns : goal.returns

@@ -2,8 +2,8 @@ use Rattle.std.proofs.Common.{◌≡◌, ◌≢◌, ◌<◌, length, Some, arith
 use Rattle.ebpf_reach.specs.declared.registers.Registers.{Registers}
 use Rattle.ebpf_reach.specs.PrivateContracts.{least_upper_bound}
 use Rattle.std.proofs.Common.{set}
-use Rattle.ebpf_reach.proofs.Sameness.{registers_same, registers_apart, on_ok_both}
-use Rattle.ebpf_reach.proofs.Intake.{met_taken, same_taken, taken_as}
+use Rattle.ebpf_reach.proofs.Order.{registers_same, registers_apart, on_ok_both}
+use Rattle.ebpf_reach.proofs.Visiting.{met_taken, same_taken, taken_as}
 use Rattle.ebpf_reach.proofs.search.Search.join_state.Goals as goal
 
 pub returns-then-eq : goal.returns-then-eq

@@ -1,8 +1,8 @@
 use Rattle.std.proofs.Common.{◌≡◌, ◌<◌, length, get_or, Option, None, arith, subst, sym}
 use Rattle.ebpf_reach.specs.declared.registers.Registers.{Registers}
 use Rattle.ebpf_reach.specs.Reached.{state_at}
-use Rattle.ebpf_reach.proofs.Sameness.{on_ok_both}
-use Rattle.ebpf_reach.proofs.Intake.{new_taken, taken_as}
+use Rattle.ebpf_reach.proofs.Order.{on_ok_both}
+use Rattle.ebpf_reach.proofs.Visiting.{new_taken, taken_as}
 use Rattle.ebpf_reach.proofs.search.Search.reach.Goals as goal
 
 pub returns-in-None : goal.returns-in-None

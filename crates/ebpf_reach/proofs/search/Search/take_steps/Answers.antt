@@ -1,8 +1,8 @@
 use Rattle.std.proofs.Common.{List, subst}
 use Rattle.std.proofs.lemmas.Result.{on_ok_weaker}
 use Rattle.ebpf_reach.specs.declared.steps.SlotState.{SlotState}
-use Rattle.ebpf_reach.specs.Searched.{TakesIn}
-use Rattle.ebpf_reach.proofs.Intake.{taken_then}
+use Rattle.ebpf_reach.specs.Reached.{TakesIn}
+use Rattle.ebpf_reach.proofs.Visiting.{taken_then}
 use Rattle.ebpf_reach.proofs.search.Search.take_steps.Goals as goal
 
 pub returns : goal.returns

@@ -3,7 +3,7 @@ use Rattle.std.specs.Prelude.{⊤}
 use Rattle.std.specs.List.Sorted.{IsStrictlySortedBy}
 use Rattle.ebpf_base.proofs.Sorted.{entries_rise}
 use Rattle.ebpf_base.specs.Keys.{key_cmp}
-use Rattle.ebpf_reloc.proofs.Finished.{no_program}
+use Rattle.ebpf_reloc.proofs.SoFar.{no_program}
 use Rattle.ebpf_reloc.proofs.Keys.{number_names}
 use Rattle.ebpf_reloc.specs.Linking.{IsProgramFault}
 use Rattle.ebpf_model.specs.Memory.{is_slot_memory}

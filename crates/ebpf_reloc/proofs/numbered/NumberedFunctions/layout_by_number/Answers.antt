@@ -1,11 +1,11 @@
 use Rattle.std.proofs.Common.{ℕ, List, map, subst, sym, ap, ◌∙◌}
 use Rattle.ebpf_linker.specs.Numbered.{body_content, Sound}
 use Rattle.ebpf_linker.specs.Faults.{LeastFault, checked_references}
-use Rattle.ebpf_linker.specs.Ready.{IsLayoutAnswer}
+use Rattle.ebpf_linker.specs.Copies.{IsLayoutAnswer}
 use Rattle.ebpf_model.specs.Memory.{is_slot_memory}
 use Rattle.ebpf_model.specs.declared.function.Function.{Function}
-use Rattle.ebpf_reloc.proofs.Finished.{is_fault, unless_memory}
-use Rattle.ebpf_reloc.proofs.NumberedKeys.{calls_sound, count_bodies, count_calls, fault_by_key}
+use Rattle.ebpf_reloc.proofs.SoFar.{is_fault, unless_memory}
+use Rattle.ebpf_reloc.proofs.Keys.{calls_sound, count_bodies, count_calls, fault_by_key}
 use Rattle.ebpf_reloc.specs.Numbers.{function_keys, key_in, with_function_names}
 use Rattle.ebpf_reloc.specs.References.{functions_of}
 use Rattle.ebpf_reloc.specs.SlotTargets.{read}

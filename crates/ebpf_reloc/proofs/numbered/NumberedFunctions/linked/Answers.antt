@@ -1,7 +1,7 @@
 use Rattle.std.proofs.Common.{ℕ, map, subst, sym, ap, ◌∙◌}
 use Rattle.ebpf_linker.specs.Numbered.{body_content, Sound}
-use Rattle.ebpf_reloc.proofs.Finished.{is_linked}
-use Rattle.ebpf_reloc.proofs.NumberedKeys.{calls_sound, count_bodies, count_calls, program_by_key}
+use Rattle.ebpf_reloc.proofs.SoFar.{is_linked}
+use Rattle.ebpf_reloc.proofs.Keys.{calls_sound, count_bodies, count_calls, program_by_key}
 use Rattle.ebpf_reloc.specs.Numbers.{function_keys, key_in}
 use Rattle.ebpf_reloc.specs.SlotTargets.{read}
 use Rattle.ebpf_reloc.proofs.numbered.NumberedFunctions.linked.Goals as goal

@@ -1,8 +1,7 @@
 use Rattle.std.proofs.Common.{ℕ, List, map, subst, refl, sym, ap, ◌∙◌}
 use Rattle.ebpf_linker.specs.Numbered.{body_content, Sound}
 use Rattle.ebpf_model.specs.declared.function.Function.{Function}
-use Rattle.ebpf_reloc.proofs.KeyedLinkMaps.{is_mapped}
-use Rattle.ebpf_reloc.proofs.NumberedKeys.{calls_sound, count_bodies, count_calls}
+use Rattle.ebpf_reloc.proofs.Keys.{is_mapped, calls_sound, count_bodies, count_calls}
 use Rattle.ebpf_reloc.specs.Numbers.{function_keys, function_list}
 use Rattle.ebpf_reloc.specs.PrivateContracts.{named_copy}
 use Rattle.ebpf_reloc.specs.SlotTargets.{read}

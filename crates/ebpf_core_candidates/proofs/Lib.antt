@@ -1,0 +1,14 @@
+pub mod BytesLooks
+pub mod CandidateLaws
+pub mod CandidateRows
+pub mod Comparing
+pub mod Fields
+pub mod FoundPairs
+pub mod Heads
+pub mod NameMarks
+pub mod OddTexts
+pub mod Refusals
+pub mod RowRange
+pub mod Unions
+pub mod UnreadNames
+pub mod WithoutNames

@@ -1,0 +1,172 @@
+//! The names of types without their flavor, by the types' ids.
+
+ghost use Rattle.std.specs.Prelude.{◌≡◌, ◌<◌, ℕ, All, Some, IfOk, option_map, slice_get, true};
+ghost use Rattle.std.specs.Bool.{OnTrue};
+ghost use Rattle.std.specs.FinMap.{get};
+ghost use Rattle.std.specs.Option.{option_copied};
+ghost use Rattle.ebpf_btf.specs.Types.{kind_of, name_off};
+ghost use Rattle.ebpf_btf.specs.declared.types.BtfType.{BtfType};
+ghost use Rattle.ebpf_core_candidates.specs.OddNames.{odd_at};
+ghost use Rattle.ebpf_core_candidates.specs.PrivateContracts.{odd_text_at, readable_at};
+ghost use Rattle.ebpf_core_candidates.specs.TypeRows.{type_key_at};
+
+use crate::kinds::kind_number;
+use crate::name_looks::essential_at;
+use ebpf_base::{ByOffset, Text};
+use ebpf_btf::{Btf, essential_name};
+use std::alloc::{AllocError, Global};
+use std::marker::Model;
+
+/// Whether all bytes are below 128. The greatest is looked for, which takes less time than a test of each.
+fn is_ascii(bytes: &[u8]) -> bool
+    ensures { OnTrue result (All (λ b. b < 128) bytes.now) }
+{
+    let mut greatest = 0u8;
+    for byte in bytes {
+        if *byte > greatest {
+            greatest = *byte;
+        }
+    }
+    greatest < 128
+}
+
+/// The text that the name at an offset is read as, where it is not UTF-8.
+#[tactic(auto, using(crate::proofs::OddTexts::odd_utf8, crate::proofs::OddTexts::odd_other))]
+fn odd_text_at(alloc: Global, btf: &Btf, offset: u32) -> Result<Option<Text>, AllocError>
+    ensures { IfOk result (λ name. name ≡ odd_text_at btf.now.strings offset) }
+{
+    let Ok(bytes) = btf.bytes_at(offset) else {
+        return Ok(None);
+    };
+    match str::from_utf8(bytes) {
+        Ok(_) => Ok(None),
+        Err(_) => {
+            let text = String::from_utf8_lossy(alloc, bytes)?;
+            Ok(Some(Text::from_string(text)))
+        }
+    }
+}
+
+/// That of the name of the type with an id.
+#[tactic(auto, using(crate::proofs::Heads::odd_headed, crate::proofs::Heads::odd_headless))]
+fn odd_at(alloc: Global, btf: &Btf, id: usize) -> Result<Option<Text>, AllocError>
+    ensures { IfOk result (λ name. name ≡ odd_at btf.now id) }
+{
+    match btf.head(id) {
+        Some(head) => odd_text_at(alloc, btf, head.name_offset),
+        None => Ok(None),
+    }
+}
+
+/// These texts by the types' ids.
+fn gather_odd_names(alloc: Global, btf: &Btf) -> Result<ByOffset<Text>, AllocError>
+    ensures { IfOk result (λ odd. (id : ℕ) → get odd id ≡ odd_at btf.now id) }
+{
+    let mut odd = ByOffset::new(alloc);
+    for id in 0..btf.len() {
+        let Some(name) = odd_at(alloc, btf, id)? else {
+            continue;
+        };
+        odd.insert(id as u64, name)?;
+    }
+    Ok(odd)
+}
+
+/// The texts of the names that are not UTF-8, by the types' ids. Where all strings are ASCII no name is looked at.
+#[tactic(auto, using(crate::proofs::OddTexts::odd_ascii))]
+fn odd_names(alloc: Global, btf: &Btf) -> Result<ByOffset<Text>, AllocError>
+    ensures { IfOk result (λ odd. (id : ℕ) → get odd id ≡ odd_at btf.now id) }
+{
+    if is_ascii(btf.strings()) {
+        return Ok(ByOffset::new(alloc));
+    }
+    gather_odd_names(alloc, btf)
+}
+
+/// The names of some types without their flavor, copies of those that are not UTF-8.
+///
+/// Contracts see the type information that it was made for.
+#[derive(Drop)]
+pub struct TypeNames<'a> {
+    btf: &'a Btf,
+    odd: ByOffset<Text>,
+}
+
+impl<'a> Model for TypeNames<'a> {
+    ghost use Rattle.std.specs.Prelude.{◌≡◌, ℕ};
+    ghost use Rattle.std.specs.FinMap.{get};
+    ghost use Rattle.ebpf_core_candidates.specs.OddNames.{odd_at};
+    ghost use Rattle.ebpf_btf.specs.TypeInfo.{TypeInfo};
+
+    ghost Value = { TypeInfo };
+
+    ghost view = { λ x. x.btf.now };
+
+    ghost invariant = { λ x. (id : ℕ) → get x.odd id ≡ odd_at x.btf.now id };
+}
+
+impl<'a> TypeNames<'a> {
+    /// The names of some types.
+    pub fn new(alloc: Global, btf: &'a Btf) -> Result<TypeNames<'a>, AllocError>
+        ensures { IfOk result (λ names. names ≡ btf.now) }
+    {
+        let odd = odd_names(alloc, btf)?;
+        Ok(TypeNames { btf, odd })
+    }
+
+    /// The types.
+    pub fn btf(&self) -> &'a Btf
+        ensures { result.now ≡ self.now }
+    {
+        self.btf
+    }
+
+    /// The essential name of the type with an id, whose name is at an offset. None where it can't be read.
+    #[tactic(auto, using(crate::proofs::OddTexts::odd_some, crate::proofs::OddTexts::odd_none, crate::proofs::Heads::odd_headed))]
+    pub fn name(&self, id: usize, offset: u32) -> Option<&[u8]>
+        requires { option_map name_off (slice_get self.now.types id) ≡ Some offset }
+        ensures { option_copied result ≡ readable_at self.now.strings offset }
+    {
+        if self.odd.is_empty() {
+            return essential_at(self.btf.strings(), offset);
+        }
+        let Ok(bytes) = self.btf.bytes_at(offset) else {
+            return None;
+        };
+        match self.odd.get(id as u64) {
+            Some(text) => Some(essential_name(text.as_str().as_bytes())),
+            None => Some(essential_name(bytes)),
+        }
+    }
+
+    /// The number of the kind and the essential name of the type with an id.
+    #[tactic(auto, using(crate::proofs::Heads::key_headed, crate::proofs::Heads::key_headless))]
+    pub fn type_key(&self, id: u32) -> (u8, &[u8])
+        ensures kind { result.0 ≡ (type_key_at self.now id).kind }
+        ensures name { result.1.now ≡ (type_key_at self.now id).name }
+    {
+        let Some(head) = self.btf.head(id as usize) else {
+            return (0, &[]);
+        };
+        let kind = kind_number(head.kind);
+        match self.name(id as usize, head.name_offset) {
+            Some(name) => (kind, name),
+            None => (kind, &[]),
+        }
+    }
+
+    /// Whether the types with two ids are of one kind and have their names at one offset: then no name need be
+    /// compared.
+    #[tactic(auto, using(crate::proofs::Heads::same_key))]
+    pub fn is_one_name(&self, left: u32, right: u32) -> bool
+        ensures one { OnTrue result (type_key_at self.now left ≡ type_key_at self.now right) }
+        ensures told { (one other : BtfType) → slice_get self.now.types left ≡ Some one → slice_get self.now.types right ≡ Some other
+            → kind_of one ≡ kind_of other → name_off one ≡ name_off other → result ≡ true }
+    {
+        let (left, right) = (self.btf.head(left as usize), self.btf.head(right as usize));
+        let (Some(left), Some(right)) = (left, right) else {
+            return false;
+        };
+        left.name_offset == right.name_offset && left.kind == right.kind
+    }
+}

@@ -1,0 +1,158 @@
+-- Where a named path leads in a target type (the kernel's tools/lib/bpf/relo_core.c, bpf_core_spec_match).
+use Rattle.std.specs.Prelude.{ℕ, ◌+◌, ◌*◌, ◌^◌, ◌==◌, ◌&&◌, ◌||◌, nat_lt, if◌then◌else◌, Bool, false, List, [], ◌∷◌, length, slice_get, Option, Some, None, Result, Ok, Err, option_and_then, ◌≡◌, ◌<◌}
+use Rattle.ebpf_base.specs.Results.{if_ok}
+use Rattle.ebpf_btf.specs.Steps.{resolved, size_of}
+use Rattle.ebpf_btf.specs.TypeInfo.{TypeInfo}
+use Rattle.ebpf_btf.specs.Types.{array_of}
+use Rattle.ebpf_btf.specs.declared.array.BtfArray.{BtfArray}
+use Rattle.ebpf_btf.specs.declared.error.BtfError.{BtfError}
+use Rattle.ebpf_btf.specs.declared.error.BtfError.TheVariants.{InvalidTypeInfo}
+use Rattle.ebpf_btf.specs.declared.types.BtfType.{BtfType}
+use Rattle.ebpf_btf.specs.declared.types.BtfType.TheVariants.{Struct}
+use Rattle.ebpf_core_places.specs.MemberViews.{IsEntry, ViewEntry}
+use Rattle.ebpf_core_places.specs.Members.{if_read, member_search, members_in, MemberSearch}
+use Rattle.ebpf_core_places.specs.Searches.{search_entries, first_fitting, stop}
+use Rattle.ebpf_core_places.specs.declared.fault.PlaceFault.{PlaceFault}
+use Rattle.ebpf_core_places.specs.declared.fault.PlaceFault.TheVariants.{NestingLevel}
+use Rattle.ebpf_core_places.specs.declared.places.Place.{Place}
+use Rattle.ebpf_core_places.specs.declared.places.PlaceEnd.{PlaceEnd}
+use Rattle.ebpf_core_places.specs.declared.places.PlaceEnd.TheVariants.{Element, Member}
+use Rattle.ebpf_core_places.specs.declared.search.Answer.{Answer}
+use Rattle.ebpf_core_places.specs.declared.search.Answer.TheVariants.{Found}
+use Rattle.ebpf_core_places.specs.declared.search.FoundMember.{FoundMember}
+use Rattle.ebpf_core_places.specs.declared.steps.Step.{Step}
+use Rattle.ebpf_core_places.specs.declared.steps.Step.TheVariants.{Name, Index}
+use Rattle.ebpf_core_places.specs.declared.walk.Spot.{Spot}
+
+-- how many parts a path may have before a step: a part is a step, or an anonymous member that a step passes
+abbrev pub path_parts : ℕ
+path_parts = 64
+
+-- a place so many bits from the start of the root type, if they fit 32 bits
+abbrev pub checked_place : ℕ → PlaceEnd → Result Place BtfError
+checked_place bits end = if nat_lt bits (2 ^ 32) then Ok (record { bits = bits; end = end }) else Err InvalidTypeInfo
+
+-- a spot at a place, where a type begins, after so many parts
+abbrev pub spot_at : Result Place BtfError → ℕ → ℕ → Result Spot PlaceFault
+spot_at checked type_id parts = if_read checked (λ place. Ok (record { place = place; type_id = type_id; parts = parts }))
+
+-- where a spot is reached, a step leads there
+abbrev pub led : Result Spot PlaceFault → Result (Option Spot) PlaceFault
+led answer = if_ok answer (λ s. Ok (Some s))
+
+-- ---- to an element
+
+-- whether a member is the last one of a STRUCT
+unfoldable pub is_last_of : ℕ → BtfType → Bool
+is_last_of index (Struct _ _ _ members) = index + 1 == length members
+is_last_of index _ = false
+
+abbrev pub is_last_at : ℕ → Option BtfType → Bool
+is_last_at index (Some t) = is_last_of index t
+is_last_at index None = false
+
+-- an element that is itself an ARRAY is no STRUCT's member
+abbrev pub ends_in_last_member : List BtfType → PlaceEnd → Bool
+ends_in_last_member types (Member parent index) = is_last_at index (slice_get types parent)
+ends_in_last_member types (Element id) = false
+
+-- an index has to be below the number of elements; an ARRAY of none that is the last member of a STRUCT has as many as
+-- there is room for
+abbrev pub is_accepted : List BtfType → PlaceEnd → ℕ → ℕ → Bool
+is_accepted types end count index = nat_lt index count || (count == 0 && ends_in_last_member types end)
+
+-- the element with an index, of a type of which the first begins so many bits from the start
+abbrev pub element_place : List BtfType → ℕ → ℕ → ℕ → Result Place BtfError
+element_place types bits type_id index = if_ok (size_of types type_id) (λ size. checked_place (bits + index * size * 8) (Element type_id))
+
+abbrev pub element_spot : TypeInfo → ℕ → ℕ → ℕ → ℕ → Result Spot PlaceFault
+element_spot target bits parts type_id index = spot_at (element_place target.types bits type_id index) type_id parts
+
+abbrev pub by_array : TypeInfo → Spot → ℕ → Option BtfArray → Result (Option Spot) PlaceFault
+by_array target from index None = Ok None
+by_array target from index (Some array) =
+    if is_accepted target.types from.place.end array.len index
+    then led (element_spot target from.place.bits (from.parts + 1) array.element_type index)
+    else Ok None
+
+-- where an index leads in the type with an id
+abbrev pub by_index : TypeInfo → Spot → ℕ → ℕ → Result (Option Spot) PlaceFault
+by_index target from id index = by_array target from index (option_and_then array_of (slice_get target.types id))
+
+-- ---- to a member
+
+abbrev pub member_spot : Spot → FoundMember → Result Spot PlaceFault
+member_spot from m = spot_at (checked_place (from.place.bits + m.bits) (Member m.parent m.index)) m.type_id (from.parts + m.inside + 1)
+
+abbrev pub by_found : Spot → Option FoundMember → Result (Option Spot) PlaceFault
+by_found from None = Ok None
+by_found from (Some m) = led (member_spot from m)
+
+-- where a name leads in the type with an id
+abbrev pub by_name : TypeInfo → TypeInfo → Spot → ℕ → List ℕ → ℕ → Result (Option Spot) PlaceFault
+by_name local target from id name local_type =
+    if_ok (first_fitting (member_search local target name local_type) search_entries (members_in target.types id)) (by_found from)
+
+-- ---- along a path
+
+-- where a step leads in the type with an id
+abbrev pub by_step : TypeInfo → TypeInfo → Spot → ℕ → Step → Result (Option Spot) PlaceFault
+by_step local target from id (Name name local_type) = by_name local target from id name local_type
+by_step local target from id (Index index) = by_index target from id index
+
+-- where a step leads from a spot
+abbrev pub stepped : TypeInfo → TypeInfo → Spot → Step → Result (Option Spot) PlaceFault
+stepped local target from by =
+    if nat_lt from.parts path_parts then if_read (resolved target.types from.type_id) (λ id. by_step local target from id by)
+    else Err NestingLevel
+
+-- where more steps lead, once one has led to a spot
+abbrev pub onward : Option Spot → (Spot → Result (Option Place) PlaceFault) → Result (Option Place) PlaceFault
+onward None next = Ok None
+onward (Some s) next = next s
+
+-- where some steps lead from a spot
+unfoldable pub followed : TypeInfo → TypeInfo → List Step → Spot → Result (Option Place) PlaceFault
+followed local target [] from = Ok (Some from.place)
+followed local target (by ∷ path) from = if_ok (stepped local target from by) (λ led_to. onward led_to (followed local target path))
+
+-- the root index counts in the type that the root stands for
+abbrev pub root_spot : TypeInfo → ℕ → ℕ → Result Spot PlaceFault
+root_spot target root index = if_read (resolved target.types root) (λ id. element_spot target 0 1 id index)
+
+-- where a path leads whose first step is the root index; another path leads nowhere
+unfoldable pub place_of : TypeInfo → TypeInfo → ℕ → List Step → Result (Option Place) PlaceFault
+place_of local target root [] = Ok None
+place_of local target root (Name name local_type ∷ path) = Ok None
+place_of local target root (Index index ∷ path) = if_ok (root_spot target root index) (followed local target path)
+
+-- ---- the first entry at which a search stops, by its index
+
+-- what a search of at most so many entries does at the entry with an index, from 0
+abbrev pub stop_at : MemberSearch → ℕ → ℕ → ViewEntry → Option (Result Answer PlaceFault)
+stop_at member_search limit index e = if nat_lt index limit then stop member_search e else Some (Err NestingLevel)
+
+-- among entries by their indices, the search stops so at one, and at none before it
+pub record StopsFirst (member_search : MemberSearch) (limit : ℕ) (At : ℕ → ViewEntry → Type 0) (answer : Result Answer PlaceFault) : Type 0 where
+  pub index : ℕ
+  pub view_entry : ViewEntry
+  pub stands : At index view_entry
+  pub stops : stop_at member_search limit index view_entry ≡ Some answer
+  pub before : (j : ℕ) (e : ViewEntry) → j < index → At j e → stop_at member_search limit j e ≡ None
+
+-- the search stops at no entry
+abbrev pub NeverStops : MemberSearch → ℕ → (ℕ → ViewEntry → Type 0) → Type 0
+NeverStops member_search limit At = (j : ℕ) (e : ViewEntry) → At j e → stop_at member_search limit j e ≡ None
+
+-- the first entry that fits, unless one up to it is faulty
+abbrev pub IsFirst : MemberSearch → ℕ → (ℕ → ViewEntry → Type 0) → Result (Option FoundMember) PlaceFault → Type 0
+IsFirst member_search limit At (Ok (Some member)) = StopsFirst member_search limit At (Ok (Found member))
+IsFirst member_search limit At (Ok None) = NeverStops member_search limit At
+IsFirst member_search limit At (Err fault) = StopsFirst member_search limit At (Err fault)
+
+-- The first member of a name whose type fits the local one, in the view of the target type with an id. A fault stands
+-- instead where an entry up to it has one, or the view is too long.
+abbrev pub IsFirstMember : TypeInfo → TypeInfo → List ℕ → ℕ → ℕ → Result (Option FoundMember) PlaceFault → Type 0
+IsFirstMember local target name local_type parent answer =
+    let name_search = member_search local target name local_type in
+    IsFirst name_search search_entries (IsEntry name_search 0 0 (members_in target.types parent)) answer
