@@ -35,7 +35,7 @@ TYPES = {
     "elf::ElfReadError": ("ebpf_elf/src/error.rt", "A file's tables, in `ParseError::ElfError` and `SectionError`."),
     "obj::ParseError": ("ebpf_parts/src/error.rt", "What `Object::parse` and `parse_as` give, and `patch_map_data` (stage `parse`)."),
     "obj::BtfError": ("ebpf_btf/src/error.rt", "Type information, in each other error's `BtfError`, and what `Btf::parse` gives (stage `btf`)."),
-    "maps::PinningError": ("ebpf_parts/src/maps/pinning.rt", "What `PinningType::try_from` gives."),
+    "maps::PinningError": ("ebpf_parts/src/maps/definition.rt", "What `PinningType::try_from` gives."),
     "core_relo::BtfRelocationError": (None, "What `relocate_btf` gives (stage `types`): the section and the error."),
     "core_relo::RelocationError": ("ebpf_core/src/error.rt", "Why a CO-RE relocation can't be applied."),
     "relocation::EbpfRelocationError": (

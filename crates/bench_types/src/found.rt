@@ -1,7 +1,7 @@
 //! What type information answers.
 
 use crate::error::BenchError;
-use ebpf_btf::{Btf, BtfError, BtfKind, BtfType};
+use ebpf_btf::{Btf, BtfError, BtfType};
 use ebpf_core_candidates::TypeIndex;
 use std::alloc::{AllocError, Global};
 
@@ -50,35 +50,6 @@ fn put_number(text: &mut String, answer: Result<u32, BtfError>) -> Result<(), Al
     }
 }
 
-/// Adds a type's size, the id that it stands for, and the lowest id of its kind and name.
-fn put_numbers(
-    text: &mut String,
-    btf: &Btf,
-    id: u32,
-    kind: BtfKind,
-    name: &str,
-) -> Result<(), AllocError> {
-    write!(text, "size ")?;
-    put_number(text, btf.type_size(id))?;
-    write!(text, ", stands for ")?;
-    put_number(text, btf.resolve_type(id))?;
-    write!(text, ", first ")?;
-    put_number(text, btf.id_by_type_name_kind(name, kind))
-}
-
-/// Adds how many candidates there are, and whether they are in order.
-fn put_candidates(
-    text: &mut String,
-    index: &TypeIndex,
-    kind: BtfKind,
-    name: &str,
-) -> Result<(), BtfError> {
-    let candidates = index.candidates(kind, name)?;
-    let (count, sorted) = (candidates.len(), candidates.is_sorted());
-    write!(text, ", candidates {count} in order {sorted}, ")?;
-    Ok(())
-}
-
 /// Adds what there is to tell of a type with a name.
 fn put_named(
     text: &mut String,
@@ -88,10 +59,15 @@ fn put_named(
     ty: &BtfType<'_>,
     name: &str,
 ) -> Result<(), BtfError> {
-    write!(text, "{id} {name}: ")?;
-    put_numbers(text, btf, id, ty.kind(), name)?;
-    put_candidates(text, index, ty.kind(), name)?;
-    write!(text, "{ty:?}")?;
+    write!(text, "{id} {name}: size ")?;
+    put_number(text, btf.type_size(id))?;
+    write!(text, ", stands for ")?;
+    put_number(text, btf.resolve_type(id))?;
+    write!(text, ", first ")?;
+    put_number(text, btf.id_by_type_name_kind(name, ty.kind()))?;
+    let candidates = index.candidates(ty.kind(), name)?;
+    let (count, sorted) = (candidates.len(), candidates.is_sorted());
+    write!(text, ", candidates {count} in order {sorted}, {ty:?}")?;
     Ok(())
 }
 

@@ -66,86 +66,34 @@ fn put_names(strings: &mut String, group: u32) -> Result<Names, AllocError> {
 
 /// The words of an INT, a STRUCT with six members, PTR and CONST to it, and PTR to that, from id `first` on.
 fn structure_words(names: &Names, first: u32) -> [u32; 34] {
+    let name = names.structure;
     let structure = first.wrapping_add(1);
     let pointer = first.wrapping_add(2);
     let constant = first.wrapping_add(3);
     [
-        1,
-        0x0100_0000,
-        4,
-        32, //
-        names.structure,
-        0x0400_0006,
-        32,
-        5,
-        first,
-        0,
-        5,
-        first,
-        32,
-        5,
-        pointer,
-        64,
-        5,
-        pointer,
-        128,
-        5,
-        first,
-        192,
-        5,
-        first,
-        224, //
-        0,
-        0x0200_0000,
-        structure, //
-        0,
-        0x0a00_0000,
-        structure, //
-        0,
-        0x0200_0000,
-        constant, //
+        1, 0x1000000, 4, 32, //
+        name, 0x4000006, 32, //
+        5, first, 0, 5, first, 32, 5, pointer, 64, //
+        5, pointer, 128, 5, first, 192, 5, first, 224, //
+        0, 0x2000000, structure, //
+        0, 0xa000000, structure, //
+        0, 0x2000000, constant, //
     ]
 }
 
 /// The words of a TYPEDEF of the STRUCT, an ARRAY, an ENUM with four variants, a FUNC_PROTO and a FUNC, after the
 /// five types from id `first` on.
 fn function_words(names: &Names, first: u32) -> [u32; 32] {
+    let (alias, variants, function) = (names.alias, names.variants, names.function);
     let structure = first.wrapping_add(1);
-    let constant_pointer = first.wrapping_add(4);
+    let pointer = first.wrapping_add(4);
     let prototype = first.wrapping_add(8);
     [
-        names.alias,
-        0x0800_0000,
-        structure, //
-        0,
-        0x0300_0000,
-        0,
-        structure,
-        first,
-        16, //
-        names.variants,
-        0x0600_0004,
-        4,
-        5,
-        0,
-        5,
-        1,
-        5,
-        2,
-        5,
-        3, //
-        0,
-        0x0d00_0003,
-        first,
-        5,
-        constant_pointer,
-        5,
-        first,
-        5,
-        first, //
-        names.function,
-        0x0c00_0001,
-        prototype, //
+        alias, 0x8000000, structure, //
+        0, 0x3000000, 0, structure, first, 16, //
+        variants, 0x6000004, 4, 5, 0, 5, 1, 5, 2, 5, 3, //
+        0, 0xd000003, first, 5, pointer, 5, first, 5, first, //
+        function, 0xc000001, prototype, //
     ]
 }
 

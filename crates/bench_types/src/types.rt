@@ -62,27 +62,6 @@ fn run(rt: &HostRuntime, word: &str, made: &[u8], clock: &mut Clock) -> Result<(
     indexed
 }
 
-/// All runs.
-fn run_each(
-    rt: &HostRuntime,
-    word: &str,
-    made: &[u8],
-    clock: &mut Clock,
-) -> Result<(), BenchError> {
-    for _run in 0..RUNS {
-        run(rt, word, made, clock)?;
-    }
-    Ok(())
-}
-
-/// Copies the types out of bytes as often.
-fn parse_each(rt: &HostRuntime, bytes: &[u8], clock: &mut Clock) -> Result<(), BenchError> {
-    for _run in 0..RUNS {
-        parse(rt, bytes, clock)?;
-    }
-    Ok(())
-}
-
 /// Prints what an index of types answers.
 fn ask(
     rt: &HostRuntime,
@@ -110,35 +89,25 @@ fn ask_bytes(rt: &HostRuntime, bytes: Vec<u8>, clock: &mut Clock) -> Result<(), 
     ask_index(rt, &types, clock)
 }
 
-/// Copies the types, and asks them.
-fn parse_and_ask(rt: &HostRuntime, bytes: Vec<u8>, clock: &mut Clock) -> Result<(), BenchError> {
-    parse_each(rt, &bytes, clock)?;
-    ask_bytes(rt, bytes, clock)
-}
-
-/// Takes the steps with a clock.
+/// Takes the steps with a clock: all runs, as many copies of the types, and what the types answer.
 fn measure(rt: &HostRuntime, word: &str, made: &[u8], clock: &mut Clock) -> Result<(), BenchError> {
-    run_each(rt, word, made, clock)?;
-    parse_and_ask(rt, bytes_of(rt, word, made)?, clock)
-}
-
-/// Prints what a clock tells.
-fn print_clock(rt: &HostRuntime, clock: &Clock) -> Result<(), BenchError> {
-    let text = clock.text()?;
-    eprint!(rt; "{text}")?;
-    Ok(())
-}
-
-/// Takes the steps, and prints how long each took.
-fn measure_made(rt: &HostRuntime, word: &str, made: &[u8]) -> Result<(), BenchError> {
-    let mut clock = Clock::start(rt)?;
-    measure(rt, word, made, &mut clock)?;
-    print_clock(rt, &clock)
+    for _run in 0..RUNS {
+        run(rt, word, made, clock)?;
+    }
+    let bytes = bytes_of(rt, word, made)?;
+    for _run in 0..RUNS {
+        parse(rt, &bytes, clock)?;
+    }
+    ask_bytes(rt, bytes, clock)
 }
 
 /// Takes the steps on the `.BTF` of a file, or on bytes that are made. It prints what it found, and on the standard
 /// error how long each step took, in microseconds.
 pub fn measure_types(rt: &HostRuntime, word: &str) -> Result<(), BenchError> {
     let made = made_bytes(rt, word)?;
-    measure_made(rt, word, &made)
+    let mut clock = Clock::start(rt)?;
+    measure(rt, word, &made, &mut clock)?;
+    let text = clock.text()?;
+    eprint!(rt; "{text}")?;
+    Ok(())
 }

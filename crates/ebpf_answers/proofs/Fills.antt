@@ -1,13 +1,17 @@
--- What a call leaves that takes no memory.
-use Rattle.std.proofs.Common.{◌≡◌, ℕ, ◌==◌, Bool, true, false, List, length, refl, sym, ap, ◌∙◌, subst, ◌+◌, ◌<◌, ◌++◌, drop}
+-- What a call leaves that takes no memory, and things by bytes that are a text or none.
+use Rattle.std.proofs.Common.{◌≡◌, ℕ, ◌==◌, Bool, true, false, List, length, refl, sym, ap, ◌∙◌, subst, ◌+◌, ◌<◌, ◌++◌, drop, None}
 use Rattle.std.specs.Prelude.{Result, Ok, Err, nat_le, if◌then◌else◌, slice_index_or}
 use Rattle.std.proofs.lemmas.Bool.{eqb-true}
 use Rattle.std.specs.List.{flat_map}
 use Rattle.std.proofs.lemmas.List.{append_assoc, length-append}
+use Rattle.std.specs.FinMap.{FinMap, get}
+use Rattle.std.specs.Str.{is_utf8, IsUtf8}
+use Rattle.std.proofs.lemmas.Str.{is_utf8-from_IsUtf8, IsUtf8-from_is_utf8}
+use Rattle.ebpf_base.proofs.Lists.{rest_more}
+use Rattle.ebpf_base.specs.Maps.{text_cmp}
 use Rattle.ebpf_answers.specs.Answers.{FillsList, answer, done_or_room, or_memory}
-use Rattle.ebpf_answers.specs.Listing.{rows_by}
+use Rattle.ebpf_answers.specs.Listing.{rows_by, value_by_bytes}
 use Rattle.ebpf_answers.specs.declared.codes.TheConstants.{MEMORY}
-use Rattle.ebpf_base.proofs.Walks.{rest_more}
 
 module _ {X : Type 0} where
   abbrev memory_if : Bool → Result (List X) ℕ → Result (List X) ℕ
@@ -45,3 +49,17 @@ pub one_text : {V : Type 0} (text_of : V → List ℕ) (text : List ℕ) (values
     → (text ++ text_of v) ++ flat_map text_of (drop (i + 1) values) ≡ text ++ flat_map text_of (drop i values)
 one_text text_of text values i v below here =
     append_assoc text (text_of v) _ ∙ ap (λ rest. text ++ flat_map text_of rest) (sym (rest_more values i v below here))
+
+-- ---- things by bytes that are a text, and by bytes that are none
+
+pub named_by_text : {V : Type 0} (m : FinMap text_cmp V) (name : List ℕ) → IsUtf8 name → value_by_bytes m name ≡ get m name
+unfolding value_by_bytes
+named_by_text m name utf8 = rw (is_utf8-from_IsUtf8 name utf8) refl
+
+pub named_by_none : {V : Type 0} (m : FinMap text_cmp V) (name : List ℕ) → ¬ (IsUtf8 name) → value_by_bytes m name ≡ None
+unfolding value_by_bytes
+named_by_none m name broken =
+    elim (is_utf8 name) as (λ b. is_utf8 name ≡ b → value_by_bytes m name ≡ None) [
+      | true ↦ λ e. absurd (broken (IsUtf8-from_is_utf8 name e))
+      | false ↦ λ e. rw e refl
+    ] refl

@@ -1,12 +1,5 @@
 pub mod Answers
-pub mod Details
-pub mod Entries
-pub mod ObjectRows
-pub mod Flags
-pub mod LentResults
+pub mod Refusals
 pub mod Listing
 pub mod Loading
 pub mod Numbers
-pub mod ProgramKinds
-pub mod Refusals
-pub mod Told

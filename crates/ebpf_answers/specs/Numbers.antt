@@ -9,10 +9,9 @@ use Rattle.ebpf_parts.specs.declared.error.ParseError.TheVariants as parse
 use Rattle.ebpf_model.specs.declared.error.EbpfRelocationError.{EbpfRelocationError}
 use Rattle.ebpf_model.specs.declared.error.RelocationError.{RelocationError}
 use Rattle.ebpf_model.specs.declared.error.RelocationError.TheVariants as slot
-use Rattle.ebpf_answers.specs.Details.{at_address, at_offset, at_section, no_details, of_index, of_kind, of_relocation, of_size, of_symbol, of_type, two_sizes}
-use Rattle.ebpf_answers.specs.Refusals.{detailed, detailed_with_name, plain, refusal_with_name}
+use Rattle.ebpf_answers.specs.Refusals.{at_address, at_offset, at_section, no_details, of_index, of_kind, of_relocation, of_size, of_symbol, of_type, two_sizes, detailed, detailed_with_name, plain, refusal_with_name}
 use Rattle.ebpf_answers.specs.declared.codes.TheConstants.{MEMORY}
-use Rattle.ebpf_answers.specs.declared.details.Details.{Details}
+use Rattle.ebpf_answers.specs.declared.refusal.Details.{Details}
 use Rattle.ebpf_answers.specs.declared.refusal.Refusal.{Refusal}
 
 -- why a file, or a part of it, can't be read

@@ -1,7 +1,7 @@
-//! The numbers that calls answer.
+//! The numbers that calls answer, and what they say.
 
 ghost use Rattle.std.specs.Prelude.{◌≡◌};
-ghost use Rattle.ebpf_answers.specs.Flags.{flag};
+ghost use Rattle.ebpf_answers.specs.Refusals.{flag};
 
 /// All is done and written.
 pub const DONE: u32 = 0;
@@ -31,4 +31,195 @@ pub fn flag(is_true: bool) -> u32
     ensures { result ≡ flag is_true }
 {
     if is_true { 1 } else { 0 }
+}
+
+/// What is of no stage.
+const GENERAL: [&str; 11] = [
+    "Done",
+    "Room",
+    "OutOfMemory",
+    "Closed",
+    "NoProgram",
+    "NoMap",
+    "BadName",
+    "BadValue",
+    "NoExtern",
+    "WrongLength",
+    "NoVariable",
+];
+
+/// Faults of files.
+const FILE_FAULTS: [&str; 10] = [
+    "TooShort",
+    "BadMagic",
+    "NotElf64",
+    "BadByteOrder",
+    "BadSectionTable",
+    "BadSectionRange",
+    "BadStringTable",
+    "BadSymbolTable",
+    "BadRelocationTable",
+    "ExtendedNumbering",
+];
+
+/// Faults of types.
+const TYPE_FAULTS: [&str; 15] = [
+    "InvalidHeader",
+    "InvalidTypeInfo",
+    "InvalidInfo",
+    "InvalidStringOffset",
+    "InvalidRelocationKind",
+    "UnexpectedBtfType",
+    "UnknownBtfType",
+    "UnknownBtfTypeName",
+    "MaximumTypeDepth",
+    "InvalidDatasec",
+    "InvalidSymbolName",
+    "InnerMapCannotBePinned",
+    "MultiLevelMapInMapNotSupported",
+    "InvalidValuesSpec",
+    "TooLarge",
+];
+
+/// Other faults of parsing.
+const PARSE_FAULTS: [&str; 18] = [
+    "MissingLicenseNullTerminator",
+    "InvalidLicense",
+    "InvalidKernelVersion",
+    "UnsupportedRelocationTarget",
+    "InvalidProgramSection",
+    "InvalidProgramCode",
+    "InvalidMapDefinition",
+    "SymbolTableConflict",
+    "UnknownSymbol",
+    "InvalidSymbol",
+    "InvalidGlobalData",
+    "SymbolNotFound",
+    "MapNotFound",
+    "MapSymbolNameNotFound",
+    "NoSymbolsForSection",
+    "NoBTF",
+    "BigEndianCode",
+    "TooLarge",
+];
+
+/// Faults of a record on types.
+const RECORD_FAULTS: [&str; 10] = [
+    "SectionNotFound",
+    "FunctionNotFound",
+    "InvalidAccessString",
+    "InvalidInstructionIndex",
+    "ConflictingCandidates",
+    "MaximumNestingLevelReached",
+    "InvalidAccessIndex",
+    "InvalidRelocationKindForType",
+    "InvalidInstruction",
+    "MissingTargetDefinition",
+];
+
+/// Faults of slots.
+const SLOT_FAULTS: [&str; 12] = [
+    "UnknownSymbol",
+    "SectionNotFound",
+    "UnknownFunction",
+    "FunctionInfoMismatch",
+    "UnknownProgram",
+    "InvalidRelocationOffset",
+    "ExternNotFound",
+    "UnresolvableSymbol",
+    "UnsupportedTextSymbol",
+    "InvalidLineInfo",
+    "ProgramTooLong",
+    "MapAddressOverflow",
+];
+
+/// Faults of finding externs.
+const EXTERN_FAULTS: [&str; 9] = [
+    "TypedKsymRequiresKernelBtf",
+    "VariableNotFound",
+    "IncompatibleFunctionSignature",
+    "IncompatibleVariableType",
+    "InvalidExternType",
+    "AmbiguousResolution",
+    "KallsymsAccessError",
+    "KallsymsParseError",
+    "FunctionNotFound",
+];
+
+/// Faults of a file's types for the kernel.
+const KERNEL_TYPES_FAULTS: [&str; 5] = [
+    "NoSectionSize",
+    "NotAVariable",
+    "NoSymbol",
+    "UnsupportedExtern",
+    "TooLarge",
+];
+
+/// Faults of the initial values of maps.
+const INITIAL_SLOT_FAULTS: [&str; 11] = [
+    "UnknownSymbol",
+    "OutsideMaps",
+    "UnsupportedMapType",
+    "NotInMaps",
+    "UnsupportedKeySize",
+    "UnknownMap",
+    "UnknownProgram",
+    "NotAnEntryPoint",
+    "NoValues",
+    "OutsideValues",
+    "Misaligned",
+];
+
+/// Faults of externs that the kernel's configuration gives.
+const KCONFIG_FAULTS: [&str; 9] = [
+    "NotAVariable",
+    "UnreadableName",
+    "UnknownName",
+    "UnsupportedType",
+    "NoValue",
+    "WrongSize",
+    "TooLarge",
+    "UnsuitedValue",
+    "ValueOutOfRange",
+];
+
+/// The first number of a stage's faults, the stage, and the names of the faults.
+type Stage = (u32, &'static str, &'static [&'static str]);
+
+/// The stages in the order of their numbers.
+const STAGES: [Stage; 19] = [
+    (0, "", &GENERAL),
+    (100, "parse: ", &FILE_FAULTS),
+    (110, "parse: SectionError ", &FILE_FAULTS),
+    (120, "parse: BtfError ", &TYPE_FAULTS),
+    (140, "parse: ", &PARSE_FAULTS),
+    (200, "btf: ", &TYPE_FAULTS),
+    (220, "types: BtfError ", &TYPE_FAULTS),
+    (240, "types: ", &RECORD_FAULTS),
+    (300, "maps: ", &SLOT_FAULTS),
+    (400, "ksyms: ", &EXTERN_FAULTS),
+    (420, "ksyms: BtfError ", &TYPE_FAULTS),
+    (500, "externs: ", &SLOT_FAULTS),
+    (600, "calls: ", &SLOT_FAULTS),
+    (700, "kernel types: ", &FILE_FAULTS),
+    (720, "kernel types: BtfError ", &TYPE_FAULTS),
+    (740, "kernel types: ", &KERNEL_TYPES_FAULTS),
+    (800, "initial slots: ", &FILE_FAULTS),
+    (820, "initial slots: ", &INITIAL_SLOT_FAULTS),
+    (900, "kconfig: ", &KCONFIG_FAULTS),
+];
+
+/// What a number says: the stage that answers it and the fault. Both are empty where it says nothing.
+pub fn name_of(number: u32) -> (&'static str, &'static str) {
+    let mut name = ("", "");
+    for (first, stage, faults) in &STAGES {
+        if *first > number {
+            continue;
+        }
+        name = match faults.get((number - *first) as usize) {
+            Some(fault) => (*stage, *fault),
+            None => ("", ""),
+        };
+    }
+    name
 }

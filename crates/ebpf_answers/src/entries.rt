@@ -2,13 +2,11 @@
 
 ghost use Rattle.std.specs.Prelude.{◌≡◌, IfOk, ◌∷◌, []};
 ghost use Rattle.std.specs.FinMap.{entries};
-ghost use Rattle.ebpf_answers.specs.Entries.{value_by_bytes};
+ghost use Rattle.ebpf_answers.specs.Listing.{value_by_bytes, extern_row, section_row, zero_terminated};
 ghost use Rattle.std.specs.Option.{option_copied};
-ghost use Rattle.ebpf_answers.specs.ObjectRows.{extern_row, section_row};
-ghost use Rattle.ebpf_answers.specs.Listing.{zero_terminated};
 
+use crate::buffers::{Listing, Rows, add_row};
 use crate::codes::flag;
-use crate::listing::{Listing, Rows, add_row};
 use ebpf_base::ByName;
 use ebpf_elf::SectionIndex;
 use ebpf_model::ExternDesc;
@@ -27,7 +25,7 @@ pub struct Entry<'a, V> {
 impl<'a, V> Model for Entry<'a, V> {
     ghost use Rattle.std.specs.Prelude.{ℕ, List};
     ghost use Rattle.std.specs.Coded.{coded×};
-    ghost use Rattle.ebpf_base.specs.Keys.{coded_text};
+    ghost use Rattle.ebpf_base.specs.Maps.{coded_text};
 
     ghost Value = { List ℕ × V };
 

@@ -1,16 +1,7 @@
-pub mod Agreement
-pub mod Copies
 pub mod Faults
-pub mod FirstFaults
-pub mod Keyed
 pub mod Lists
 pub mod Mapped
 pub mod Maps
-pub mod Orderings
-pub mod EntriesFrom
-pub mod Pointwise
-pub mod Ranges
-pub mod Sorted
+pub mod SameMaps
 pub mod TextMaps
-pub mod Walks
 pub mod ZeroBytes

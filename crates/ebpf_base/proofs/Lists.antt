@@ -1,7 +1,12 @@
--- One list operation after another, in one.
-use Rattle.std.proofs.Common.{◌≡◌, Bool, true, false, ◌&&◌, cond, List, [], ◌∷◌, ◌++◌, map, Some, refl, ap, ◌≢◌, ℕ, ◌<◌, zero, suc, length, arith}
-use Rattle.std.specs.List.{slice_get, filter, flat_map, find, slice_set}
+-- One list operation after another, in one; places; steps of a walk over a slice.
+use Rattle.std.proofs.Common.{◌≡◌, Bool, true, false, ◌&&◌, cond, List, [], ◌∷◌, ◌++◌, map, Some, refl, ap, ◌≢◌, ℕ, ◌<◌, zero, suc, length, arith, ◌+◌, ◌-◌, ◌≤◌, drop, Option, sym, ◌∙◌}
+use Rattle.std.specs.List.{slice_get, filter, flat_map, find, slice_set, range_with_len}
 use Rattle.std.specs.Option.{option_map}
+pub use Rattle.std.proofs.lemmas.List.FromFn.{length-range_with_len as length-range, length-map-range_with_len as length-map-range}
+use Rattle.std.specs.Prelude.{if◌then◌else◌, slice_index_or}
+use Rattle.std.proofs.Math.Seq.{drop-cons}
+use Rattle.std.proofs.lemmas.List.{drop_all}
+use Rattle.ebpf_base.specs.Faults.{or_else, first_some}
 
 module _ {A B C : Type 0} where
   pub map-map : (g : B → C) (f : A → B) (xs : List A) → map g (map f xs) ≡ map (λ x. g (f x)) xs
@@ -19,8 +24,7 @@ module _ {A B : Type 0} where
 
   -- the same at each item
   pub flat_map-same : (f g : A → List B) (xs : List A) → ((x : A) → f x ≡ g x) → flat_map f xs ≡ flat_map g xs
-  flat_map-same f g [] h = refl
-  flat_map-same f g (x ∷ xs) h = λ i. h x i ++ flat_map-same f g xs h i
+  flat_map-same f g xs h = λ i. flat_map (λ x. h x i) xs
 
   pub find-map : (p : B → Bool) (f : A → B) (xs : List A) → find p (map f xs) ≡ option_map f (find (λ x. p (f x)) xs)
   find-map p f [] = refl
@@ -40,8 +44,7 @@ module _ {A : Type 0} where
       ]
 
   pub filter-same : (p q : A → Bool) (xs : List A) → ((x : A) → p x ≡ q x) → filter p xs ≡ filter q xs
-  filter-same p q [] h = refl
-  filter-same p q (x ∷ xs) h = λ i. cond (h x i) (x ∷ filter-same p q xs h i) (filter-same p q xs h i)
+  filter-same p q xs h = λ i. filter (λ x. h x i) xs
 
   -- the head of those that pass is the first that passes
   pub first-filter : (p : A → Bool) (xs : List A) → slice_get (filter p xs) 0 ≡ find p xs
@@ -83,3 +86,44 @@ set_other (x ∷ xs) (suc i) (suc k) a h = set_other xs i k a (λ e. h (ap suc e
 pub get_end : {X : Type 0} (xs : List X) (x : X) → slice_get (xs ++ x ∷ []) (length xs) ≡ Some x
 get_end [] x = refl
 get_end (y ∷ xs) x = get_end xs x
+
+-- ---- numbers in a row
+
+-- the first of them, and the others, where they end before n
+pub range_more : (a n : ℕ) → a < n → range_with_len a (n - a) ≡ a ∷ range_with_len (a + 1) (n - (a + 1))
+range_more a n below =
+    let e : n - a ≡ suc (n - (a + 1)) = omega arith in
+    rw e refl
+
+-- ---- one step of a walk over a slice, of which all items or some count
+
+-- what is left from an item on
+pub rest_more : {X : Type 0} (xs : List X) (i : ℕ) (x : X) → i < length xs → x ≡ slice_index_or xs i x → drop i xs ≡ x ∷ drop (i + 1) xs
+rest_more xs i x below here =
+    let on : suc i ≡ i + 1 = omega arith in
+    drop-cons xs i x below ∙ ap (λ y. y ∷ drop (suc i) xs) (sym here) ∙ ap (λ n. x ∷ drop n xs) on
+
+-- at the end nothing is left
+pub rest_none : {X : Type 0} (xs : List X) (i : ℕ) → length xs ≤ i → drop i xs ≡ []
+rest_none xs i past = drop_all i xs past
+
+module _ {X Y E : Type 0} (f : X → Y) (g : X → Option E) (p : X → Bool) where
+  -- an item that counts
+  pub kept_more : (xs : List X) (i : ℕ) (x : X) → i < length xs → x ≡ slice_index_or xs i x → p x ≡ true
+      → map f (filter p (drop i xs)) ≡ f x ∷ map f (filter p (drop (i + 1) xs))
+  kept_more xs i x below here kept = ap (λ l. map f (filter p l)) (rest_more xs i x below here) ∙ ap (λ b. map f (if b then x ∷ filter p (drop (i + 1) xs) else filter p (drop (i + 1) xs))) kept
+
+  -- an item that does not
+  pub passed_more : (xs : List X) (i : ℕ) (x : X) → i < length xs → x ≡ slice_index_or xs i x → p x ≡ false
+      → filter p (drop i xs) ≡ filter p (drop (i + 1) xs)
+  passed_more xs i x below here passed = ap (filter p) (rest_more xs i x below here) ∙ ap (λ b. if b then x ∷ filter p (drop (i + 1) xs) else filter p (drop (i + 1) xs)) passed
+
+  -- the fault of an item that counts, then those of the others
+  pub fault_here : (xs : List X) (i : ℕ) (x : X) → i < length xs → x ≡ slice_index_or xs i x → p x ≡ true
+      → first_some g (filter p (drop i xs)) ≡ or_else (g x) (first_some g (filter p (drop (i + 1) xs)))
+  fault_here xs i x below here kept = ap (λ l. first_some g (filter p l)) (rest_more xs i x below here) ∙ ap (λ b. first_some g (if b then x ∷ filter p (drop (i + 1) xs) else filter p (drop (i + 1) xs))) kept
+
+-- a list for each item
+pub lists_more : {X Y : Type 0} (f : X → List Y) (xs : List X) (i : ℕ) (x : X) → i < length xs → x ≡ slice_index_or xs i x
+    → flat_map f (drop i xs) ≡ f x ++ flat_map f (drop (i + 1) xs)
+lists_more f xs i x below here = ap (flat_map f) (rest_more xs i x below here)

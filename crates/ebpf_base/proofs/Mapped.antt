@@ -1,19 +1,44 @@
--- Maps of which each value is made anew: their entries, what they answer, and the laws of `map`.
-use Rattle.std.proofs.Common.{◌≡◌, ◌&&◌, T, Bool, cond, true, false, suc, List, [], ◌∷◌, map, length, Option, Some, None, refl, sym, ap, subst, ◌∙◌}
+-- Entries put into a map, and maps of which each value is made anew.
+use Rattle.std.proofs.Common.{◌≡◌, List, [], ◌∷◌, ◌++◌, refl, ap, ◌∙◌, ◌&&◌, T, Bool, cond, true, false, map, Option, Some, None, sym, subst}
 use Rattle.std.specs.declared.cmp.Ordering.{Ordering}
-use Rattle.std.specs.List.{IsDistinct, AllByRecursion}
-use Rattle.std.specs.Option.{option_map, option_or, is_some}
-use Rattle.std.specs.Ordering.{is_lt, eq_by_cmp}
-use Rattle.std.specs.Cmp.{IsTotalOrder}
+use Rattle.std.specs.FinMap.{FinMap, insert, get-insert, IsAntisymmetric, from_entries, empty, entries, entries_sorted, entries-from_sorted, get, get-entries, find, is_sorted, same_map, same_entries_map, get-from_entries, get-empty}
+use Rattle.std.specs.Cmp.{IsTotalOrder, nat_cmp_total}
+use Rattle.std.specs.Ordering.{nat_cmp, is_lt, eq_by_cmp}
+use Rattle.std.specs.List.{flat_map, IsDistinct, AllByRecursion}
+use Rattle.std.specs.Option.{option_map, option_or}
 use Rattle.std.specs.Map.{keys_of}
-use Rattle.std.specs.FinMap.{FinMap, IsAntisymmetric, from_entries, from_sorted, empty, entries, entries_sorted, entries-from_sorted, get, get-entries, find, is_sorted, same_map, same_entries_map, get-from_entries, insert, get-insert, get-empty}
 use Rattle.std.specs.FinMap.Entries.{below_all}
 use Rattle.std.proofs.lemmas.Map.Keys.{IsDistinct-from_sorted}
-use Rattle.ebpf_base.specs.Keyed.{put_all, last_at}
-use Rattle.ebpf_base.specs.Mapped.{mapped_entries, map_values}
-use Rattle.ebpf_base.proofs.Keyed.{later_stands}
-use Rattle.ebpf_base.proofs.Orderings.{is_equal}
-use Rattle.ebpf_base.proofs.Sorted.{entries_rise}
+use Rattle.ebpf_base.specs.Maps.{text_cmp, text_total, key_cmp, key_total, put_all, last_at, LaterStands, mapped_entries, map_values}
+use Rattle.ebpf_base.proofs.Maps.{is_equal, entries_rise}
+
+module _ {K X : Type 0} {R : K → K → Ordering} where
+  -- the entries of two lists, one after the other
+  pub put_all-append : (m : FinMap R X) (es fs : List (K × X)) → put_all m (es ++ fs) ≡ put_all (put_all m es) fs
+  put_all-append m [] fs = refl
+  put_all-append m (e ∷ es) fs = put_all-append (insert m e.0 e.1) es fs
+
+  -- the entries of the first item, then those of the others
+  pub put_all-flat_map : {A : Type 0} (f : A → List (K × X)) (m : FinMap R X) (x : A) (xs : List A) → put_all m (flat_map f (x ∷ xs)) ≡ put_all (put_all m (f x)) (flat_map f xs)
+  put_all-flat_map f m x xs = put_all-append m (f x) (flat_map f xs)
+
+-- at each total order of the keys
+pub later_stands : {K X : Type 0} {R : K → K → Ordering} → IsTotalOrder R → LaterStands R X
+later_stands o m [] q = refl
+later_stands {R = R} o m (e ∷ es) q =
+    later_stands o (insert m e.0 e.1) es q
+    ∙ ap (λ v. last_at R q v es) (get-insert o m e.0 e.1 q)
+
+pub later_text_stands : {X : Type 0} → LaterStands text_cmp X
+later_text_stands = later_stands text_total
+
+pub later_number_stands : {X : Type 0} → LaterStands nat_cmp X
+later_number_stands = later_stands nat_cmp_total
+
+pub later_key_stands : {X : Type 0} → LaterStands key_cmp X
+later_key_stands = later_stands key_total
+
+-- ---- maps of which each value is made anew: their entries, what they answer, and the laws of `map`
 
 module _ {K V W : Type 0} (R : K → K → Ordering) (f : V → W) where
   below_all-mapped_entries : (k : K) (es : List (K × V)) → below_all R k (mapped_entries f es) ≡ below_all R k es
@@ -36,16 +61,6 @@ module _ {K V W : Type 0} where
   pub keys_of-mapped_entries : (f : V → W) (es : List (K × V)) → keys_of (mapped_entries f es) ≡ keys_of es
   keys_of-mapped_entries f [] = refl
   keys_of-mapped_entries f (e ∷ es) = ap (λ ks. e.0 ∷ ks) (keys_of-mapped_entries f es)
-
-module _ {V W : Type 0} (f : V → W) where
-  is_some-option_map : (o : Option V) → is_some (option_map f o) ≡ is_some o
-  is_some-option_map None = refl
-  is_some-option_map (Some v) = refl
-
-module _ {K V W : Type 0} (f : V → W) where
-  length-mapped_entries : (es : List (K × V)) → length (mapped_entries f es) ≡ length es
-  length-mapped_entries [] = refl
-  length-mapped_entries (e ∷ es) = ap suc (length-mapped_entries es)
 
 module _ {K V W : Type 0} {R : K → K → Ordering} (f : V → W) where
   -- the same keys in the same order, each with its value made anew
@@ -102,7 +117,7 @@ module _ {K V : Type 0} {R : K → K → Ordering} where
 
 -- entries of which no two have one key, put into a map
 module _ {K X : Type 0} {R : K → K → Ordering} (o : IsTotalOrder R) (exact : IsAntisymmetric R) where
-  find-apart : (q k : K) → eq_by_cmp R q k ≡ true → (es : List (K × X)) → AllByRecursion (λ y. eq_by_cmp R k y ≡ false) (keys_of es) → find R q es ≡ None
+  pub find-apart : (q k : K) → eq_by_cmp R q k ≡ true → (es : List (K × X)) → AllByRecursion (λ y. eq_by_cmp R k y ≡ false) (keys_of es) → find R q es ≡ None
   find-apart q k at [] h = refl
   find-apart q k at (e ∷ es) h =
       let is : q ≡ k = exact q k (is_equal (R q k) at) in

@@ -1,18 +1,27 @@
--- What a finite map made of a map's entries answers, and what a change of the entries makes of it.
-use Rattle.std.proofs.Common.{◌≡◌, nat_eq, ℕ, false, cond, List, [], ◌∷◌, length, Option, Some, None, IsSome, refl, sym, ap, subst, ◌∙◌, ◌↔◌, arith}
+-- What a finite map made of a map's entries answers, what a change of the entries makes of it, and its keys in order.
+use Rattle.std.proofs.Common.{◌≡◌, nat_eq, ℕ, false, cond, List, [], ◌∷◌, length, Option, Some, None, IsSome, refl, sym, ap, subst, ◌∙◌, ◌↔◌, arith, true, nat_le, ◌<◌, ◌+◌, Bool, ◌&&◌, T, map}
 use Rattle.std.specs.declared.cmp.Ordering.{Ordering}
-use Rattle.std.specs.Option.{OnSome, option_copied_mut}
-use Rattle.std.specs.Ordering.{nat_cmp, eq_by_cmp}
+use Rattle.std.specs.Option.{OnSome, option_copied_mut, is_some}
+use Rattle.std.specs.Ordering.{nat_cmp, eq_by_cmp, is_eq, is_lt, ordering_reverse}
 use Rattle.std.specs.Cmp.{IsTotalOrder, eq_by_cmp_equiv, nat_cmp_total}
-use Rattle.std.specs.List.{IsDistinct, AllByRecursion}
-use Rattle.std.specs.List.Sorted.{IsStrictlySortedBy}
+use Rattle.std.specs.List.{IsDistinct, AllByRecursion, list_any}
+use Rattle.std.specs.List.Sorted.{IsStrictlySortedBy, IsSorted, IsPermutation}
 use Rattle.std.specs.Map.{lookup, keys_of}
 use Rattle.std.specs.BTreeMap.{is_at}
-use Rattle.std.specs.FinMap.{IsAntisymmetric, from_entries, get, insert, remove, entries, empty, len, find, put, get-empty, get-from_entries, get-insert, get-remove, entries-insert, same_map, len-entries, len-empty, len-insert, nat_cmp-IsAntisymmetric}
+use Rattle.std.specs.FinMap.{IsAntisymmetric, from_entries, get, insert, remove, entries, empty, len, find, put, get-empty, get-from_entries, get-insert, get-remove, entries-insert, same_map, len-entries, len-empty, len-insert, nat_cmp-IsAntisymmetric, FinMap, entries_sorted, is_sorted, contains_key-keys}
 use Rattle.std.proofs.lemmas.Map.Lookups.{exact_pairs, exact_unsigned}
 use Rattle.std.proofs.lemmas.Bool.Decides.{nat_tests}
-use Rattle.ebpf_base.specs.Keys.{key_cmp}
 use denote.MutBor.{MutBor}
+use Rattle.std.specs.declared.cmp.Ordering.TheVariants.{Less, Equal, Greater}
+use Rattle.std.specs.declared.ops.Bound.TheVariants.{Included, Unbounded}
+use Rattle.std.specs.BTreeMap.Range.{entries_between, range_contains}
+use Rattle.std.specs.FinMap.Entries.{below_all}
+use Rattle.std.proofs.lemmas.List.{get_or-map, length-map}
+use Rattle.std.proofs.lemmas.List.Sorted.{list_any-IsPermutation}
+use Rattle.std.proofs.lemmas.Map.Keys.{sorted_from_all_adjacent, apart_from_distinct, IsDistinct-IsPermutation}
+use Rattle.std.proofs.lemmas.Map.Made.{is_some-lookup}
+use Rattle.ebpf_base.specs.Maps.{key_cmp, key_total, entries_from}
+use Rattle.ebpf_base.proofs.Lists.{filter-same}
 
 pub key_exact : IsAntisymmetric key_cmp
 key_exact = exact_pairs nat_cmp nat_cmp exact_unsigned exact_unsigned
@@ -123,3 +132,114 @@ module _ {X : Type 0} where
 
   pub len-number : (es : List (ℕ × X)) → IsDistinct nat_eq (keys_of es) → len (from_entries {R = nat_cmp} es) ≡ length es
   len-number es h = len_distinct nat_cmp_total _ (distinct_numbers es h)
+
+-- an answer that says equal is Equal
+pub is_equal : (r : Ordering) → is_eq r ≡ true → r ≡ Equal
+is_equal Less h = cc
+is_equal Equal h = refl
+is_equal Greater h = cc
+
+-- ---- the entries from a key on are those that a test takes
+
+from_on : (from q : ℕ) → range_contains nat_cmp (Included from) Unbounded q ≡ nat_le from q
+from_on from q = grind (arith, nat_tests)
+
+pub from-view : {X : Type 0} (from : ℕ) (es : List (ℕ × X)) → IsStrictlySortedBy nat_cmp (keys_of es) → entries_between nat_cmp (Included from) Unbounded es ≡ entries_from from (entries (from_entries {R = nat_cmp} es))
+from-view from es up = filter-same _ _ es (λ e. from_on from e.0) ∙ ap (entries_from from) (sym (entries-view nat_cmp_total es up))
+
+-- ---- the lemmas by which the maps of this crate are finite maps
+
+-- in the order of numbers
+pub ruleset numbered = (get-view, one_set, one_removed, len-view, empty-view, entries-view, nat_cmp_total, nat_cmp-IsAntisymmetric)
+
+-- in the order of pairs of numbers
+pub ruleset keyed = (get-view, len-view, empty-view, entries-view, key_total)
+
+-- hashed by numbers
+pub ruleset hashed = (get-number, one_set_number, one_removed_number, len-number, empty-view, nat_cmp_total)
+
+-- ---- keys in order: those of a finite map, and a sorted list of the same keys
+
+both_hold : (a b : Bool) → T (a && b) → T a × T b
+both_hold true b p = (tt, p)
+both_hold false b p = absurd p
+
+below : (r : Ordering) → T (is_lt r) → r ≡ Less
+below Less p = refl
+below Equal p = absurd p
+below Greater p = absurd p
+
+-- not above and not equal
+is_less : (r s : Ordering) → s ≡ ordering_reverse r → is_lt s ≡ false → is_eq r ≡ false → r ≡ Less
+is_less Less s e a b = refl
+is_less Equal s e a b = cc
+is_less Greater s e a b = absurd (subst (λ x. T x) (ap is_lt (sym e) ∙ a) tt)
+
+module _ {K X : Type 0} (R : K → K → Ordering) where
+  all_below : (k : K) (es : List (K × X)) → T (below_all R k es) → AllByRecursion (λ y. R k y ≡ Less) (keys_of es)
+  all_below k [] h = tt
+  all_below k (e ∷ es) h =
+      let p = both_hold (is_lt (R k e.0)) (below_all R k es) h in
+      (below (R k e.0) p.0, all_below k es p.1)
+
+  rising_keys : (es : List (K × X)) → T (is_sorted R es) → IsStrictlySortedBy R (keys_of es)
+  unfolding IsStrictlySortedBy
+  rising_keys [] h = tt
+  rising_keys (e ∷ es) h =
+      let p = both_hold (below_all R e.0 es) (is_sorted R es) h in
+      (all_below e.0 es p.0, rising_keys es p.1)
+
+-- the keys of a map's entries rise
+pub entries_rise : {K X : Type 0} {R : K → K → Ordering} (m : FinMap R X) → IsStrictlySortedBy R (keys_of (entries m))
+entries_rise {R = R} m = rising_keys R (entries m) (entries_sorted m)
+
+-- items in the order of a key of theirs: the keys are in order
+pub sorted_map : {A K : Type 0} (R : K → K → Ordering) (f : A → K) (xs : List A) → IsSorted (λ x y. R (f x) (f y)) xs → IsSorted R (map f xs)
+sorted_map R f [] up = λ k d low inside. absurd (omega arith)
+sorted_map R f (x ∷ xs) up = λ k d low inside.
+    let short : k + 1 < length (x ∷ xs) = omega (arith, length-map (x ∷ xs) f) in
+    rw (get_or-map f (x ∷ xs) (k + 1) x d short, get_or-map f (x ∷ xs) k x d (omega arith)) (up k x low short)
+
+module _ {K : Type 0} {R : K → K → Ordering} (o : IsTotalOrder R) where
+  -- keys in order, of which no two are equal, rise
+  pub strictly_sorted : (ks : List K) → IsSorted R ks → IsDistinct (eq_by_cmp R) ks → IsStrictlySortedBy R ks
+  unfolding IsStrictlySortedBy
+  strictly_sorted [] up apart = tt
+  strictly_sorted (x ∷ ks) up apart = sorted_from_all_adjacent o (x ∷ ks) x (λ k inside.
+      is_less _ _ (o.antisymm _ _) (up k x (omega arith) inside) (apart_from_distinct (eq_by_cmp R) (x ∷ ks) k (k + 1) x apart (omega arith) inside))
+
+  units : List K → List (K × Unit {0})
+  units ks = map (λ k. (k, tt)) ks
+
+  keys_of-units : (ks : List K) → keys_of (units ks) ≡ ks
+  unfolding units
+  keys_of-units [] = refl
+  keys_of-units (k ∷ ks) = λ i. k ∷ keys_of-units ks i
+
+  same_unit : (a b : Option (Unit {0})) → is_some a ≡ is_some b → a ≡ b
+  same_unit None None e = refl
+  same_unit None (Some y) e = cc
+  same_unit (Some x) None e = cc
+  same_unit (Some x) (Some y) e = refl
+
+  has-units : (ks : List K) (q : K) → is_some (get (from_entries {R = R} (units ks)) q) ≡ list_any (eq_by_cmp R q) ks
+  has-units ks q = ap is_some (get-view o (units ks) q) ∙ is_some-lookup (is_at (R q)) (units ks) ∙ ap (list_any (eq_by_cmp R q)) (keys_of-units ks)
+
+  -- rising keys are known by which keys are among them
+  pub same_keys : IsAntisymmetric R → (ks ls : List K) → IsStrictlySortedBy R ks → IsStrictlySortedBy R ls → ((q : K) → list_any (eq_by_cmp R q) ks ≡ list_any (eq_by_cmp R q) ls) → ks ≡ ls
+  same_keys exact ks ls up vp h =
+      let same : from_entries {R = R} (units ks) ≡ from_entries (units ls) = same_map o exact _ _ (λ q. same_unit _ _ (has-units ks q ∙ h q ∙ sym (has-units ls q))) in
+      let left : entries (from_entries {R = R} (units ks)) ≡ units ks = entries-view o (units ks) (rw keys_of-units up) in
+      let right : entries (from_entries {R = R} (units ls)) ≡ units ls = entries-view o (units ls) (rw keys_of-units vp) in
+      sym (keys_of-units ks) ∙ ap keys_of (sym left ∙ ap entries same ∙ right) ∙ keys_of-units ls
+
+  module _ {X : Type 0} where
+    keys-view : (es : List (K × X)) (q : K) → list_any (eq_by_cmp R q) (keys_of (entries (from_entries {R = R} es))) ≡ list_any (eq_by_cmp R q) (keys_of es)
+    keys-view es q = sym (contains_key-keys (from_entries {R = R} es) q) ∙ ap is_some (get-view o es q) ∙ is_some-lookup (is_at (R q)) es
+
+    -- the keys of some entries, sorted, are those of the map
+    pub sorted_keys : IsAntisymmetric R → (es : List (K × X)) (ks : List K) → IsDistinct (eq_by_cmp R) (keys_of es) → IsPermutation (keys_of es) ks → IsSorted R ks → ks ≡ keys_of (entries (from_entries {R = R} es))
+    sorted_keys exact es ks apart moved up =
+        let flips : (x y : K) → eq_by_cmp R x y ≡ eq_by_cmp R y x = λ x y. (eq_by_cmp_equiv o).symm x y in
+        same_keys exact ks _ (strictly_sorted ks up (IsDistinct-IsPermutation (eq_by_cmp R) flips _ _ moved apart)) (entries_rise _)
+        (λ q. sym (list_any-IsPermutation (eq_by_cmp R q) _ _ moved) ∙ sym (keys-view es q))

@@ -14,11 +14,9 @@ use Rattle.std.specs.FinMap.{IsAntisymmetric, from_entries, get, insert, remove,
 use Rattle.std.specs.Cmp.{eq_by_cmp_equiv}
 use Rattle.std.proofs.lemmas.Map.Text.{is_eq-slice_cmp}
 use Rattle.std.proofs.lemmas.Slice.Eq.{bytes_eq-Decides}
-use Rattle.ebpf_base.specs.Copies.{maps_eq}
-use Rattle.ebpf_base.specs.Keys.{text_cmp, text_total, by_bytes}
-use Rattle.ebpf_base.proofs.Maps.{get-view, one_set, one_removed, len-view, empty-view, entries-view}
-use Rattle.ebpf_base.proofs.Pointwise.{same_maps}
-use Rattle.ebpf_base.proofs.Orderings.{is_equal}
+use Rattle.ebpf_base.specs.Maps.{maps_eq, text_cmp, text_total, by_bytes}
+use Rattle.ebpf_base.proofs.Maps.{get-view, one_set, one_removed, len-view, empty-view, entries-view, is_equal}
+use Rattle.ebpf_base.proofs.SameMaps.{same_maps}
 
 pub text_exact : IsAntisymmetric text_cmp
 text_exact = slice_cmp-IsAntisymmetric nat_cmp-IsAntisymmetric
@@ -102,3 +100,6 @@ module _ {X Y : Type 0} where
   -- entries in order are equal as the maps are
   pub same_texts : (eq : X → X → Bool) (es fs : List (String Y × X)) → IsStrictlySortedBy string_cmp (keys_of es) → IsStrictlySortedBy string_cmp (keys_of fs) → pointwise (λ p q. string_eq p.0 q.0 && eq p.1 q.1) es fs ≡ maps_eq {R = text_cmp} eq (from_entries (by_bytes es)) (from_entries (by_bytes fs))
   same_texts eq es fs up vp = pointwise-by_bytes eq es fs ∙ same_maps text_total bytes_eq text_agrees eq (by_bytes es) (by_bytes fs) (rising_bytes es up) (rising_bytes fs vp)
+
+-- the lemmas by which a map by names is a finite map
+pub ruleset named = (get-text, entries-text, rising_bytes, len-text, empty-text)

@@ -1,5 +1,6 @@
--- Faults in order, and what a call may answer for want of memory.
-use Rattle.std.specs.Prelude.{◌≡◌, Bool, List, [], ◌∷◌, ⊤, Option, Some, None, Result, Ok, Err, MatchBool, if◌then◌else◌}
+-- Faults in order, what a call may answer for want of memory, and what follows an answer or an option.
+use Rattle.std.specs.Prelude.{◌≡◌, Bool, List, [], ◌∷◌, ⊤, Option, Some, None, Result, Ok, Err, MatchBool, if◌then◌else◌, ◌<◌, ℕ, true, false, slice_get}
+use Rattle.std.specs.List.{flat_map}
 
 -- a row of a table of faults: whether the fault stands, and its error
 abbrev pub Row : Type 0 → Type 0
@@ -39,3 +40,31 @@ Gives memory (Err e) stated = MatchBool (memory e) ⊤ (stated ≡ Err e)
 abbrev pub Refuses : {X E : Type 0} → (E → Bool) → Result X E → Option E → Type 0
 Refuses memory (Ok x) fault = fault ≡ None
 Refuses memory (Err e) fault = MatchBool (memory e) ⊤ (fault ≡ Some e)
+
+-- ---- the first fault of a table, as a relation
+
+-- all rows of some tables, in order
+abbrev pub rows_of : {E : Type 0} → List (List (Bool × E)) → List (Bool × E)
+rows_of stages = flat_map (λ stage. stage) stages
+
+-- the error is that of a row that stands, and no row stands before it
+pub record IsFirstFault {E : Type 0} (table : List (Bool × E)) (error : E) : Type 0 where
+  pub index : ℕ
+  pub stands : slice_get table index ≡ Some (true, error)
+  pub none_before : (k : ℕ) (row : Bool × E) → k < index → slice_get table k ≡ Some row → row.0 ≡ false
+
+-- no row stands
+pub record IsClear {E : Type 0} (table : List (Bool × E)) : Type 0 where
+  pub none : (k : ℕ) (row : Bool × E) → slice_get table k ≡ Some row → row.0 ≡ false
+
+-- ---- what follows
+
+-- what follows an answer that is no fault
+abbrev pub if_ok : {A X E : Type 0} → Result A E → (A → Result X E) → Result X E
+if_ok (Ok x) next = next x
+if_ok (Err e) next = Err e
+
+-- what an option leads to, or else what stands without it
+abbrev pub if_some : {A X : Type 0} → Option A → (A → X) → X → X
+if_some None next other = other
+if_some (Some x) next other = next x

@@ -1,9 +1,3 @@
-pub mod Copies
 pub mod Faults
-pub mod FirstFault
-pub mod Keyed
-pub mod Keys
-pub mod Mapped
+pub mod Maps
 pub mod Numbers
-pub mod EntriesFrom
-pub mod Results

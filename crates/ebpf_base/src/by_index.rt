@@ -1,10 +1,11 @@
 //! Values by index, seen as a finite map.
+#![tactic(auto, using(crate::proofs::Maps::hashed))]
 
-ghost use Rattle.std.specs.Prelude.{◌≡◌, ℕ, ◌<◌, ◌^◌, ◌↔◌, length, OnOk, OnErr, OnSome, IfOk, IsTrue, MatchOption, Ok, Err, nat_eq};
+ghost use Rattle.std.specs.Prelude.{◌≡◌, ◌<◌, ◌^◌, ◌↔◌, length, OnOk, OnErr, OnSome, IfOk, IsTrue, MatchOption, Ok, Err, nat_eq};
 ghost use Rattle.std.specs.Option.{option_copied, option_copied_mut};
 ghost use Rattle.std.specs.Borrow.{LendsSo, sem};
 ghost use Rattle.std.specs.FinMap as map;
-ghost use Rattle.ebpf_base.specs.Copies.{AreCopies, maps_eq, maps_eq_laws};
+ghost use Rattle.ebpf_base.specs.Maps.{AreCopies, maps_eq, maps_eq_laws};
 ghost use Rattle.std.specs.Coded.{coded_ℕ};
 ghost use Rattle.std.specs.Ordering.{nat_cmp};
 ghost use Rattle.std.specs.Cmp.{nat_cmp_total};
@@ -131,9 +132,7 @@ impl<V> ByIndex<V> {
     {
         self.entries.remove(&index)
     }
-}
 
-impl<V> ByIndex<V> {
     /// The indices in increasing order.
     pub fn indices(&self, alloc: Global) -> Result<Vec<usize>, AllocError>
         ensures { IfOk result (λ indices. indices.items ≡ keys_of (map.entries self.now)) }

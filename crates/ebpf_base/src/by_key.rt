@@ -1,14 +1,13 @@
 //! Values by the index of a section and an address in it, in bytes, in order, seen as a finite map.
+#![tactic(auto, using(crate::proofs::Maps::keyed))]
 
 ghost use Rattle.std.specs.Prelude.{◌≡◌, ◌<◌, ◌^◌, ◌↔◌, length, OnOk, OnErr, OnSome, IfOk, IsTrue, MatchOption, Ok, Err, true};
 ghost use Rattle.std.specs.Option.{option_copied, option_copied_mut};
 ghost use Rattle.std.specs.Borrow.{LendsSo, sem};
 ghost use Rattle.std.specs.FinMap as map;
-ghost use Rattle.ebpf_base.specs.Copies.{AreCopies, maps_eq, maps_eq_laws};
+ghost use Rattle.ebpf_base.specs.Maps.{AreCopies, maps_eq, maps_eq_laws, key_cmp, coded_key, key_total, map_values, Writes, WritesBy};
 ghost use Rattle.std.specs.List.Sorted.{IsStrictlySortedBy};
 ghost use Rattle.std.specs.Map.{keys_of};
-ghost use Rattle.ebpf_base.specs.Keys.{key_cmp, coded_key, key_total};
-ghost use Rattle.ebpf_base.specs.Mapped.{map_values, Writes, WritesBy};
 ghost use Rattle.ebpf_base.specs.contracts.by_key.ByKey.{the_row};
 
 use std::alloc::{AllocError, Global};
@@ -24,7 +23,7 @@ pub struct ByKey<V> {
 
 impl<V> Model for ByKey<V> {
     ghost use Rattle.std.specs.FinMap as map;
-    ghost use Rattle.ebpf_base.specs.Keys.{key_cmp, coded_key};
+    ghost use Rattle.ebpf_base.specs.Maps.{key_cmp, coded_key};
 
     ghost Value = { map.FinMap key_cmp V };
 

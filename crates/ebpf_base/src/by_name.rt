@@ -1,11 +1,11 @@
 //! Values by name, seen as a finite map.
+#![tactic(auto, using(crate::proofs::TextMaps::named))]
 
 ghost use Rattle.std.specs.Prelude.{◌≡◌, ◌<◌, ◌^◌, ◌↔◌, length, OnOk, OnErr, OnSome, IfOk, IsTrue, MatchOption, Ok, Err, string_bytes};
 ghost use Rattle.std.specs.Option.{option_copied, option_copied_mut};
 ghost use Rattle.std.specs.Borrow.{LendsSo, sem};
 ghost use Rattle.std.specs.FinMap as map;
-ghost use Rattle.ebpf_base.specs.Copies.{AreCopies, maps_eq, maps_eq_laws};
-ghost use Rattle.ebpf_base.specs.Keys.{text_cmp, coded_text, by_bytes, lent_bytes, text_total};
+ghost use Rattle.ebpf_base.specs.Maps.{AreCopies, maps_eq, maps_eq_laws, text_cmp, coded_text, by_bytes, lent_bytes, text_total};
 ghost use Rattle.std.specs.List.Sorted.{IsStrictlySortedBy};
 ghost use Rattle.std.specs.Map.{keys_of};
 ghost use Rattle.ebpf_base.specs.contracts.by_name.ByName.{the_row};
@@ -24,7 +24,7 @@ pub struct ByName<V> {
 
 impl<V> Model for ByName<V> {
     ghost use Rattle.std.specs.FinMap as map;
-    ghost use Rattle.ebpf_base.specs.Keys.{text_cmp, coded_text, by_bytes};
+    ghost use Rattle.ebpf_base.specs.Maps.{text_cmp, coded_text, by_bytes};
 
     ghost Value = { map.FinMap text_cmp V };
 
@@ -127,9 +127,7 @@ impl<V> ByName<V> {
     {
         self.entries.remove(name)
     }
-}
 
-impl<V> ByName<V> {
     /// The names in the order of their bytes.
     pub fn names(&self, alloc: Global) -> Result<Vec<&str>, AllocError>
         ensures { IfOk result (λ names. lent_bytes names.items ≡ keys_of (map.entries self.now)) }

@@ -1,4 +1,5 @@
 //! Values by number, in order, seen as a finite map.
+#![tactic(auto, using(crate::proofs::Maps::numbered))]
 
 ghost use Rattle.std.specs.Prelude.{◌≡◌, ◌<◌, ◌^◌, length, OnOk, OnErr, OnSome};
 ghost use Rattle.std.specs.Option.{option_copied_mut};

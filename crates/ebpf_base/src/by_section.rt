@@ -1,10 +1,11 @@
 //! Values by the index of a section, in order, seen as a finite map.
+#![tactic(auto, using(crate::proofs::Maps::numbered))]
 
-ghost use Rattle.std.specs.Prelude.{◌≡◌, ℕ, ◌<◌, ◌^◌, ◌↔◌, length, OnOk, OnErr, OnSome, IfOk, IsTrue, MatchOption, Ok, Err};
+ghost use Rattle.std.specs.Prelude.{◌≡◌, ◌<◌, ◌^◌, ◌↔◌, length, OnOk, OnErr, OnSome, IfOk, IsTrue, MatchOption, Ok, Err};
 ghost use Rattle.std.specs.Option.{option_copied, option_copied_mut};
 ghost use Rattle.std.specs.Borrow.{LendsSo, sem};
 ghost use Rattle.std.specs.FinMap as map;
-ghost use Rattle.ebpf_base.specs.Copies.{AreCopies, maps_eq, maps_eq_laws};
+ghost use Rattle.ebpf_base.specs.Maps.{AreCopies, maps_eq, maps_eq_laws};
 ghost use Rattle.std.specs.Cmp.{nat_cmp_total};
 ghost use Rattle.std.specs.List.Sorted.{IsStrictlySortedBy};
 ghost use Rattle.std.specs.Map.{keys_of};

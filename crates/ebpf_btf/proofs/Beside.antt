@@ -11,7 +11,7 @@ use Rattle.ebpf_btf.specs.declared.fallback.Enum64Fallback.{Enum64Fallback}
 use Rattle.ebpf_btf.specs.declared.fallback.OffsetFallback.{OffsetFallback}
 use Rattle.ebpf_btf.specs.declared.members.BtfMember.{BtfMember}
 use Rattle.ebpf_btf.specs.declared.types.BtfType.{BtfType}
-use Rattle.ebpf_btf.specs.declared.types.BtfType.TheVariants.{Unknown, Fwd, Const, Volatile, Restrict, Ptr, Typedef, Func, Int, Float, Enum, Array, Struct, Union, FuncProto, Var, DataSec, DeclTag, TypeTag, Enum64}
+use Rattle.ebpf_btf.specs.declared.types.BtfType.TheVariants.{Union}
 use Rattle.ebpf_btf.specs.Offsets.{AreBeside, beside, fallback_at, with_fallback, without_fallback}
 use Rattle.ebpf_btf.specs.Types.{kind_of, name_off}
 use Rattle.ebpf_btf.specs.Words.{count_of, fallback_of, has_fallback, type_length}
@@ -21,27 +21,8 @@ pub by_union : (P : BtfType → Type 0) (r : Option Enum64Fallback) (t : BtfType
     → ((n s : ℕ) (k : Bool) (m : List BtfMember) (g : Option Enum64Fallback) (f : Enum64Fallback) → P (Union n s k m g) → P (Union n s k m (Some f)))
     → P (with_fallback r t)
 unfolding with_fallback
-by_union P None t here union = here
 by_union P (Some f) (Union n s k m g) here union = union n s k m g f here
-by_union P (Some f) Unknown here union = here
-by_union P (Some f) (Fwd x0 x1) here union = here
-by_union P (Some f) (Const x0 x1) here union = here
-by_union P (Some f) (Volatile x0 x1) here union = here
-by_union P (Some f) (Restrict x0 x1) here union = here
-by_union P (Some f) (Ptr x0 x1) here union = here
-by_union P (Some f) (Typedef x0 x1) here union = here
-by_union P (Some f) (Func x0 x1) here union = here
-by_union P (Some f) (Int x0 x1 x2) here union = here
-by_union P (Some f) (Float x0 x1) here union = here
-by_union P (Some f) (Enum x0 x1 x2 x3) here union = here
-by_union P (Some f) (Array x0 x1 x2 x3) here union = here
-by_union P (Some f) (Struct x0 x1 x2 x3) here union = here
-by_union P (Some f) (FuncProto x0 x1 x2) here union = here
-by_union P (Some f) (Var x0 x1 x2) here union = here
-by_union P (Some f) (DataSec x0 x1 x2) here union = here
-by_union P (Some f) (DeclTag x0 x1 x2) here union = here
-by_union P (Some f) (TypeTag x0 x1) here union = here
-by_union P (Some f) (Enum64 x0 x1 x2 x3) here union = here
+by_union P r t here union = here
 
 pub kind_with : (r : Option Enum64Fallback) (t : BtfType) → kind_of (with_fallback r t) ≡ kind_of t
 unfolding kind_of
@@ -65,72 +46,18 @@ plain_with r t = by_union (λ u. has_fallback u ≡ false → u ≡ t) r t (λ n
 pub kind_without : (t : BtfType) → kind_of (without_fallback t) ≡ kind_of t
 unfolding without_fallback kind_of
 kind_without (Union x0 x1 x2 x3 x4) = refl
-kind_without Unknown = refl
-kind_without (Fwd x0 x1) = refl
-kind_without (Const x0 x1) = refl
-kind_without (Volatile x0 x1) = refl
-kind_without (Restrict x0 x1) = refl
-kind_without (Ptr x0 x1) = refl
-kind_without (Typedef x0 x1) = refl
-kind_without (Func x0 x1) = refl
-kind_without (Int x0 x1 x2) = refl
-kind_without (Float x0 x1) = refl
-kind_without (Enum x0 x1 x2 x3) = refl
-kind_without (Array x0 x1 x2 x3) = refl
-kind_without (Struct x0 x1 x2 x3) = refl
-kind_without (FuncProto x0 x1 x2) = refl
-kind_without (Var x0 x1 x2) = refl
-kind_without (DataSec x0 x1 x2) = refl
-kind_without (DeclTag x0 x1 x2) = refl
-kind_without (TypeTag x0 x1) = refl
-kind_without (Enum64 x0 x1 x2 x3) = refl
+kind_without _ = refl
 
 pub length_without : (t : BtfType) → type_length (without_fallback t) ≡ type_length t
 unfolding without_fallback type_length kind_of count_of
 length_without (Union x0 x1 x2 x3 x4) = refl
-length_without Unknown = refl
-length_without (Fwd x0 x1) = refl
-length_without (Const x0 x1) = refl
-length_without (Volatile x0 x1) = refl
-length_without (Restrict x0 x1) = refl
-length_without (Ptr x0 x1) = refl
-length_without (Typedef x0 x1) = refl
-length_without (Func x0 x1) = refl
-length_without (Int x0 x1 x2) = refl
-length_without (Float x0 x1) = refl
-length_without (Enum x0 x1 x2 x3) = refl
-length_without (Array x0 x1 x2 x3) = refl
-length_without (Struct x0 x1 x2 x3) = refl
-length_without (FuncProto x0 x1 x2) = refl
-length_without (Var x0 x1 x2) = refl
-length_without (DataSec x0 x1 x2) = refl
-length_without (DeclTag x0 x1 x2) = refl
-length_without (TypeTag x0 x1) = refl
-length_without (Enum64 x0 x1 x2 x3) = refl
+length_without _ = refl
 
 pub with_again : (t : BtfType) → with_fallback (fallback_of t) (without_fallback t) ≡ t
 unfolding with_fallback without_fallback fallback_of
 with_again (Union x0 x1 x2 x3 None) = refl
 with_again (Union x0 x1 x2 x3 (Some f)) = refl
-with_again Unknown = refl
-with_again (Fwd x0 x1) = refl
-with_again (Const x0 x1) = refl
-with_again (Volatile x0 x1) = refl
-with_again (Restrict x0 x1) = refl
-with_again (Ptr x0 x1) = refl
-with_again (Typedef x0 x1) = refl
-with_again (Func x0 x1) = refl
-with_again (Int x0 x1 x2) = refl
-with_again (Float x0 x1) = refl
-with_again (Enum x0 x1 x2 x3) = refl
-with_again (Array x0 x1 x2 x3) = refl
-with_again (Struct x0 x1 x2 x3) = refl
-with_again (FuncProto x0 x1 x2) = refl
-with_again (Var x0 x1 x2) = refl
-with_again (DataSec x0 x1 x2) = refl
-with_again (DeclTag x0 x1 x2) = refl
-with_again (TypeTag x0 x1) = refl
-with_again (Enum64 x0 x1 x2 x3) = refl
+with_again _ = refl
 
 -- ---- by offsets
 

@@ -45,22 +45,4 @@ kinds_by_number info kind is =
 pub numbers_of_kinds : NumbersOfKinds
 unfolding info_kind kind_number
 numbers_of_kinds info kinds.Unknown some is = absurd (omega arith)
-numbers_of_kinds info kinds.Int some is = rw is refl
-numbers_of_kinds info kinds.Ptr some is = rw is refl
-numbers_of_kinds info kinds.Array some is = rw is refl
-numbers_of_kinds info kinds.Struct some is = rw is refl
-numbers_of_kinds info kinds.Union some is = rw is refl
-numbers_of_kinds info kinds.Enum some is = rw is refl
-numbers_of_kinds info kinds.Fwd some is = rw is refl
-numbers_of_kinds info kinds.Typedef some is = rw is refl
-numbers_of_kinds info kinds.Volatile some is = rw is refl
-numbers_of_kinds info kinds.Const some is = rw is refl
-numbers_of_kinds info kinds.Restrict some is = rw is refl
-numbers_of_kinds info kinds.Func some is = rw is refl
-numbers_of_kinds info kinds.FuncProto some is = rw is refl
-numbers_of_kinds info kinds.Var some is = rw is refl
-numbers_of_kinds info kinds.DataSec some is = rw is refl
-numbers_of_kinds info kinds.Float some is = rw is refl
-numbers_of_kinds info kinds.DeclTag some is = rw is refl
-numbers_of_kinds info kinds.TypeTag some is = rw is refl
-numbers_of_kinds info kinds.Enum64 some is = rw is refl
+numbers_of_kinds info _ some is = rw is refl

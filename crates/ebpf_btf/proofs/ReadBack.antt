@@ -1,5 +1,5 @@
 -- What is written is read back.
-use Rattle.std.proofs.Common.{◌≡◌, ◌+◌, ◌*◌, ◌/◌, ◌^◌, ◌<◌, ℕ, zero, suc, Bool, true, false, List, [], ◌∷◌, ◌++◌, length, get_or, None, Some, refl, sym, ap, ◌∙◌, arith, subst}
+use Rattle.std.proofs.Common.{◌≡◌, ◌+◌, ◌*◌, ◌/◌, ◌^◌, ◌<◌, ℕ, zero, suc, Bool, true, false, List, [], ◌∷◌, ◌++◌, length, get_or, Some, refl, sym, ap, ◌∙◌, arith, subst}
 use Rattle.std.specs.Prelude.{flat_map}
 use Rattle.std.proofs.lemmas.List.{length-append}
 use Rattle.byteorder.specs.Numbers.{little_number-reads_back, big_number-reads_back, length-bytes_low_first, length-bytes_high_first}
@@ -13,13 +13,13 @@ use Rattle.ebpf_btf.specs.declared.members.BtfEnum64.{BtfEnum64}
 use Rattle.ebpf_btf.specs.declared.members.BtfParam.{BtfParam}
 use Rattle.ebpf_btf.specs.declared.members.DataSecEntry.{DataSecEntry}
 use Rattle.ebpf_btf.specs.declared.types.BtfType.{BtfType}
-use Rattle.ebpf_btf.specs.declared.types.BtfType.TheVariants.{Unknown, Fwd, Const, Volatile, Restrict, Ptr, Typedef, Func, Int, Float, Enum, Array, Struct, Union, FuncProto, Var, DataSec, DeclTag, TypeTag, Enum64}
+use Rattle.ebpf_btf.specs.declared.types.BtfType.TheVariants.{Unknown, Int, Enum, Array, Struct, Union, FuncProto, Var, DataSec, DeclTag, Enum64}
 use Rattle.ebpf_base.specs.Numbers.{number_at}
 use Rattle.ebpf_btf.specs.Items.{items_at}
 use Rattle.ebpf_btf.specs.Offsets.{without_fallback}
 use Rattle.ebpf_btf.specs.Format.{end_of, IsTypeAt, word, info_vlen, info_kind_flag, info_kind_number, vlen_at, further_words, spelled, member_at, enum_at, enum64_at, param_at, entry_at}
 use Rattle.ebpf_btf.specs.Types.{kind_of, kind_number, name_off, size_word, type_word}
-use Rattle.ebpf_btf.specs.Words.{word_bytes, words_bytes, words_of, further_of, flag_of, count_of, info_word, type_length}
+use Rattle.ebpf_btf.specs.Words.{word_bytes, words_bytes, member_words, third_of, words_of, further_of, flag_of, count_of, info_word, type_length}
 use Rattle.ebpf_btf.proofs.InOrder.{items_more, items_none}
 use Rattle.ebpf_btf.proofs.Beside.{kind_without}
 use Rattle.ebpf_btf.proofs.KindRows.{numbers_of_kinds}
@@ -113,6 +113,9 @@ length_two : {X : Type 0} (a b : X → ℕ) (xs : List X) → length (flat_map (
 length_two a b [] = refl
 length_two a b (x ∷ xs) = let rest = length_two a b xs in omega arith
 
+length_members : (ms : List BtfMember) → length (flat_map member_words ms) ≡ 3 * length ms
+length_members ms = length_three (λ (r : BtfMember). r.name_offset) (λ (r : BtfMember). r.btf_type) (λ (r : BtfMember). r.offset) ms
+
 -- ---- the info word
 
 count_again : (kind count : ℕ) (flag : Bool) → count < 65536 → kind < 32 → info_vlen (info_word kind flag count) ≡ count
@@ -136,183 +139,88 @@ flag_again kind count false few low =
 low_kind : (kind : BtfKind) → kind_number kind < 32
 unfolding kind_number
 low_kind kinds.Unknown = omega arith
-low_kind kinds.Int = omega arith
-low_kind kinds.Ptr = omega arith
-low_kind kinds.Array = omega arith
-low_kind kinds.Struct = omega arith
-low_kind kinds.Union = omega arith
-low_kind kinds.Enum = omega arith
-low_kind kinds.Fwd = omega arith
-low_kind kinds.Typedef = omega arith
-low_kind kinds.Volatile = omega arith
-low_kind kinds.Const = omega arith
-low_kind kinds.Restrict = omega arith
-low_kind kinds.Func = omega arith
-low_kind kinds.FuncProto = omega arith
-low_kind kinds.Var = omega arith
-low_kind kinds.DataSec = omega arith
-low_kind kinds.Float = omega arith
-low_kind kinds.DeclTag = omega arith
-low_kind kinds.TypeTag = omega arith
-low_kind kinds.Enum64 = omega arith
+low_kind _ = omega arith
 
 -- ---- a type
 
 pub length_of_words : (t : BtfType) → 4 * length (words_of t) ≡ type_length t
 unfolding words_of type_length kind_of count_of further_of further_words
-length_of_words Unknown = omega arith
-length_of_words (Fwd x0 x1) = omega arith
-length_of_words (Const x0 x1) = omega arith
-length_of_words (Volatile x0 x1) = omega arith
-length_of_words (Restrict x0 x1) = omega arith
-length_of_words (Ptr x0 x1) = omega arith
-length_of_words (Typedef x0 x1) = omega arith
-length_of_words (Func x0 x1) = omega arith
-length_of_words (Int x0 x1 x2) = omega arith
-length_of_words (Float x0 x1) = omega arith
 length_of_words (Enum x0 x1 x2 x3) = omega (arith, length_two (λ (r : BtfEnum). r.name_offset) (λ (r : BtfEnum). r.value) x3)
-length_of_words (Array x0 x1 x2 x3) = omega arith
-length_of_words (Struct x0 x1 x2 x3) = omega (arith, length_three (λ (r : BtfMember). r.name_offset) (λ (r : BtfMember). r.btf_type) (λ (r : BtfMember). r.offset) x3)
-length_of_words (Union x0 x1 x2 x3 x4) = omega (arith, length_three (λ (r : BtfMember). r.name_offset) (λ (r : BtfMember). r.btf_type) (λ (r : BtfMember). r.offset) x3)
+length_of_words (Struct x0 x1 x2 x3) = omega (arith, length_members x3)
+length_of_words (Union x0 x1 x2 x3 x4) = omega (arith, length_members x3)
 length_of_words (FuncProto x0 x1 x2) = omega (arith, length_two (λ (r : BtfParam). r.name_offset) (λ (r : BtfParam). r.btf_type) x2)
-length_of_words (Var x0 x1 x2) = omega arith
 length_of_words (DataSec x0 x1 x2) = omega (arith, length_three (λ (r : DataSecEntry). r.btf_type) (λ (r : DataSecEntry). r.offset) (λ (r : DataSecEntry). r.size) x2)
-length_of_words (DeclTag x0 x1 x2) = omega arith
-length_of_words (TypeTag x0 x1) = omega arith
 length_of_words (Enum64 x0 x1 x2 x3) = omega (arith, length_three (λ (r : BtfEnum64). r.name_offset) (λ (r : BtfEnum64). r.value_low) (λ (r : BtfEnum64). r.value_high) x3)
+length_of_words _ = omega arith
 
-behind : (i : ℕ) → 12 + 4 * i ≡ 4 * suc (suc (suc i))
-behind i = omega arith
+behind : (o : Endianness) (bytes further : List ℕ) (a b c : ℕ) → HasWords o bytes (a ∷ b ∷ c ∷ further) → (i : ℕ) → i < length further → word o bytes (12 + 4 * i) ≡ get_or further i 0
+behind o bytes further a b c has i below = ap (word o bytes) (three_before i) ∙ has.word_is (suc (suc (suc i))) (omega arith)
+  where
+    three_before : (i : ℕ) → 12 + 4 * i ≡ 4 * suc (suc (suc i))
+    three_before i = omega arith
+
+three_again : {X : Type 0} (o : Endianness) (bytes : List ℕ) (make : ℕ → ℕ → ℕ → X) (a b c : X → ℕ) → ((x : X) → make (a x) (b x) (c x) ≡ x) → (xs : List X) (u v w : ℕ)
+    → HasWords o bytes (u ∷ v ∷ w ∷ flat_map (λ x. a x ∷ b x ∷ c x ∷ []) xs)
+    → items_at (λ p. make (word o bytes p) (word o bytes (p + 4)) (word o bytes (p + 8))) 12 12 (length xs) ≡ xs
+three_again o bytes make a b c same xs u v w has =
+    let all = length_three a b c xs in
+    three (word o bytes) make a b c same xs 12 (λ i below. behind o bytes _ u v w has i (omega arith))
+
+two_again : {X : Type 0} (o : Endianness) (bytes : List ℕ) (make : ℕ → ℕ → X) (a b : X → ℕ) → ((x : X) → make (a x) (b x) ≡ x) → (xs : List X) (u v w : ℕ)
+    → HasWords o bytes (u ∷ v ∷ w ∷ flat_map (λ x. a x ∷ b x ∷ []) xs)
+    → items_at (λ p. make (word o bytes p) (word o bytes (p + 4))) 8 12 (length xs) ≡ xs
+two_again o bytes make a b same xs u v w has =
+    let all = length_two a b xs in
+    two (word o bytes) make a b same xs 12 (λ i below. behind o bytes _ u v w has i (omega arith))
+
+-- the rows of a STRUCT and of a UNION
+members_again : (o : Endianness) (bytes : List ℕ) (ms : List BtfMember) (u v w : ℕ) → HasWords o bytes (u ∷ v ∷ w ∷ flat_map member_words ms)
+    → items_at (member_at o bytes) 12 12 (length ms) ≡ ms
+unfolding member_at
+members_again o bytes ms u v w has =
+    three_again o bytes (λ m0 m1 m2. record { name_offset = m0; btf_type = m1; offset = m2 }) (λ (r : BtfMember). r.name_offset) (λ (r : BtfMember). r.btf_type) (λ (r : BtfMember). r.offset) (λ x. refl) ms u v w has
 
 type_again : (o : Endianness) (bytes : List ℕ) (t : BtfType) → vlen_at o bytes 0 ≡ count_of t → info_kind_flag (word o bytes 4) ≡ flag_of t
-    → 0 < kind_number (kind_of t) → HasWords o bytes (words_of t) → spelled o bytes 0 (kind_of t) ≡ without_fallback t
-unfolding words_of name_off kind_of kind_number flag_of count_of size_word type_word further_of without_fallback spelled member_at enum_at enum64_at param_at entry_at
-type_again o bytes Unknown counted flagged some has = refl
-type_again o bytes (Fwd x0 x1) counted flagged some has =
-    let a = has.word_is 0 (omega arith) in
-    λ i. Fwd (a i) (flagged i)
-type_again o bytes (Const x0 x1) counted flagged some has =
-    let a = has.word_is 0 (omega arith) in
-    let b = has.word_is 2 (omega arith) in
-    λ i. Const (a i) (b i)
-type_again o bytes (Volatile x0 x1) counted flagged some has =
-    let a = has.word_is 0 (omega arith) in
-    let b = has.word_is 2 (omega arith) in
-    λ i. Volatile (a i) (b i)
-type_again o bytes (Restrict x0 x1) counted flagged some has =
-    let a = has.word_is 0 (omega arith) in
-    let b = has.word_is 2 (omega arith) in
-    λ i. Restrict (a i) (b i)
-type_again o bytes (Ptr x0 x1) counted flagged some has =
-    let a = has.word_is 0 (omega arith) in
-    let b = has.word_is 2 (omega arith) in
-    λ i. Ptr (a i) (b i)
-type_again o bytes (Typedef x0 x1) counted flagged some has =
-    let a = has.word_is 0 (omega arith) in
-    let b = has.word_is 2 (omega arith) in
-    λ i. Typedef (a i) (b i)
-type_again o bytes (Func x0 x1) counted flagged some has =
-    let a = has.word_is 0 (omega arith) in
-    let b = has.word_is 2 (omega arith) in
-    λ i. Func (a i) (b i)
-type_again o bytes (Int x0 x1 x2) counted flagged some has =
-    let a = has.word_is 0 (omega arith) in
-    let b = has.word_is 2 (omega arith) in
-    let c = has.word_is 3 (omega arith) in
-    λ i. Int (a i) (b i) (c i)
-type_again o bytes (Float x0 x1) counted flagged some has =
-    let a = has.word_is 0 (omega arith) in
-    let b = has.word_is 2 (omega arith) in
-    λ i. Float (a i) (b i)
-type_again o bytes (Enum x0 x1 x2 x3) counted flagged some has =
-    let a = has.word_is 0 (omega arith) in
-    let b = has.word_is 2 (omega arith) in
-    let all = length_two (λ (r : BtfEnum). r.name_offset) (λ (r : BtfEnum). r.value) x3 in
+    → HasWords o bytes (words_of t) → word o bytes 0 ≡ name_off t → word o bytes 8 ≡ third_of t → spelled o bytes 0 (kind_of t) ≡ without_fallback t
+unfolding words_of name_off kind_of kind_number flag_of count_of size_word type_word further_of without_fallback spelled enum_at enum64_at param_at entry_at
+type_again o bytes (Int x0 x1 x2) counted flagged has name third = cc (has.word_is 3 (omega arith))
+type_again o bytes (Enum x0 x1 x2 x3) counted flagged has name third =
     let rows : items_at (enum_at o bytes) 8 12 (length x3) ≡ x3 =
-    two (word o bytes) (λ m0 m1. record { name_offset = m0; value = m1 }) (λ (r : BtfEnum). r.name_offset) (λ (r : BtfEnum). r.value) (λ x. refl) x3 12 (λ i below. ap (word o bytes) (behind i) ∙ has.word_is (suc (suc (suc i))) (omega arith)) in
-    let counted_rows = ap (items_at (enum_at o bytes) 8 12) counted ∙ rows in
-    λ i. Enum (a i) (b i) (flagged i) (counted_rows i)
-type_again o bytes (Array x0 x1 x2 x3) counted flagged some has =
-    let a = has.word_is 0 (omega arith) in
-    let b = has.word_is 3 (omega arith) in
-    let c = has.word_is 4 (omega arith) in
-    let d = has.word_is 5 (omega arith) in
-    λ i. Array (a i) (b i) (c i) (d i)
-type_again o bytes (Struct x0 x1 x2 x3) counted flagged some has =
-    let a = has.word_is 0 (omega arith) in
-    let b = has.word_is 2 (omega arith) in
-    let all = length_three (λ (r : BtfMember). r.name_offset) (λ (r : BtfMember). r.btf_type) (λ (r : BtfMember). r.offset) x3 in
-    let rows : items_at (member_at o bytes) 12 12 (length x3) ≡ x3 =
-    three (word o bytes) (λ m0 m1 m2. record { name_offset = m0; btf_type = m1; offset = m2 }) (λ (r : BtfMember). r.name_offset) (λ (r : BtfMember). r.btf_type) (λ (r : BtfMember). r.offset) (λ x. refl) x3 12 (λ i below. ap (word o bytes) (behind i) ∙ has.word_is (suc (suc (suc i))) (omega arith)) in
-    let counted_rows = ap (items_at (member_at o bytes) 12 12) counted ∙ rows in
-    λ i. Struct (a i) (b i) (flagged i) (counted_rows i)
-type_again o bytes (Union x0 x1 x2 x3 x4) counted flagged some has =
-    let a = has.word_is 0 (omega arith) in
-    let b = has.word_is 2 (omega arith) in
-    let all = length_three (λ (r : BtfMember). r.name_offset) (λ (r : BtfMember). r.btf_type) (λ (r : BtfMember). r.offset) x3 in
-    let rows : items_at (member_at o bytes) 12 12 (length x3) ≡ x3 =
-    three (word o bytes) (λ m0 m1 m2. record { name_offset = m0; btf_type = m1; offset = m2 }) (λ (r : BtfMember). r.name_offset) (λ (r : BtfMember). r.btf_type) (λ (r : BtfMember). r.offset) (λ x. refl) x3 12 (λ i below. ap (word o bytes) (behind i) ∙ has.word_is (suc (suc (suc i))) (omega arith)) in
-    let counted_rows = ap (items_at (member_at o bytes) 12 12) counted ∙ rows in
-    λ i. Union (a i) (b i) (flagged i) (counted_rows i) None
-type_again o bytes (FuncProto x0 x1 x2) counted flagged some has =
-    let a = has.word_is 0 (omega arith) in
-    let b = has.word_is 2 (omega arith) in
-    let all = length_two (λ (r : BtfParam). r.name_offset) (λ (r : BtfParam). r.btf_type) x2 in
+    two_again o bytes (λ m0 m1. record { name_offset = m0; value = m1 }) (λ (r : BtfEnum). r.name_offset) (λ (r : BtfEnum). r.value) (λ x. refl) x3 _ _ _ has in
+    cc
+type_again o bytes (Array x0 x1 x2 x3) counted flagged has name third = cc (has.word_is 3 (omega arith), has.word_is 4 (omega arith), has.word_is 5 (omega arith))
+type_again o bytes (Struct x0 x1 x2 x3) counted flagged has name third = cc (members_again o bytes x3 _ _ _ has)
+type_again o bytes (Union x0 x1 x2 x3 x4) counted flagged has name third = cc (members_again o bytes x3 _ _ _ has)
+type_again o bytes (FuncProto x0 x1 x2) counted flagged has name third =
     let rows : items_at (param_at o bytes) 8 12 (length x2) ≡ x2 =
-    two (word o bytes) (λ m0 m1. record { name_offset = m0; btf_type = m1 }) (λ (r : BtfParam). r.name_offset) (λ (r : BtfParam). r.btf_type) (λ x. refl) x2 12 (λ i below. ap (word o bytes) (behind i) ∙ has.word_is (suc (suc (suc i))) (omega arith)) in
-    let counted_rows = ap (items_at (param_at o bytes) 8 12) counted ∙ rows in
-    λ i. FuncProto (a i) (b i) (counted_rows i)
-type_again o bytes (Var x0 x1 x2) counted flagged some has =
-    let a = has.word_is 0 (omega arith) in
-    let b = has.word_is 2 (omega arith) in
-    let c = has.word_is 3 (omega arith) in
-    λ i. Var (a i) (b i) (c i)
-type_again o bytes (DataSec x0 x1 x2) counted flagged some has =
-    let a = has.word_is 0 (omega arith) in
-    let b = has.word_is 2 (omega arith) in
-    let all = length_three (λ (r : DataSecEntry). r.btf_type) (λ (r : DataSecEntry). r.offset) (λ (r : DataSecEntry). r.size) x2 in
+    two_again o bytes (λ m0 m1. record { name_offset = m0; btf_type = m1 }) (λ (r : BtfParam). r.name_offset) (λ (r : BtfParam). r.btf_type) (λ x. refl) x2 _ _ _ has in
+    cc
+type_again o bytes (Var x0 x1 x2) counted flagged has name third = cc (has.word_is 3 (omega arith))
+type_again o bytes (DataSec x0 x1 x2) counted flagged has name third =
     let rows : items_at (entry_at o bytes) 12 12 (length x2) ≡ x2 =
-    three (word o bytes) (λ m0 m1 m2. record { btf_type = m0; offset = m1; size = m2 }) (λ (r : DataSecEntry). r.btf_type) (λ (r : DataSecEntry). r.offset) (λ (r : DataSecEntry). r.size) (λ x. refl) x2 12 (λ i below. ap (word o bytes) (behind i) ∙ has.word_is (suc (suc (suc i))) (omega arith)) in
-    let counted_rows = ap (items_at (entry_at o bytes) 12 12) counted ∙ rows in
-    λ i. DataSec (a i) (b i) (counted_rows i)
-type_again o bytes (DeclTag x0 x1 x2) counted flagged some has =
-    let a = has.word_is 0 (omega arith) in
-    let b = has.word_is 2 (omega arith) in
-    let c = has.word_is 3 (omega arith) in
-    λ i. DeclTag (a i) (b i) (c i)
-type_again o bytes (TypeTag x0 x1) counted flagged some has =
-    let a = has.word_is 0 (omega arith) in
-    let b = has.word_is 2 (omega arith) in
-    λ i. TypeTag (a i) (b i)
-type_again o bytes (Enum64 x0 x1 x2 x3) counted flagged some has =
-    let a = has.word_is 0 (omega arith) in
-    let b = has.word_is 2 (omega arith) in
-    let all = length_three (λ (r : BtfEnum64). r.name_offset) (λ (r : BtfEnum64). r.value_low) (λ (r : BtfEnum64). r.value_high) x3 in
+    three_again o bytes (λ m0 m1 m2. record { btf_type = m0; offset = m1; size = m2 }) (λ (r : DataSecEntry). r.btf_type) (λ (r : DataSecEntry). r.offset) (λ (r : DataSecEntry). r.size) (λ x. refl) x2 _ _ _ has in
+    cc
+type_again o bytes (DeclTag x0 x1 x2) counted flagged has name third = cc (has.word_is 3 (omega arith))
+type_again o bytes (Enum64 x0 x1 x2 x3) counted flagged has name third =
     let rows : items_at (enum64_at o bytes) 12 12 (length x3) ≡ x3 =
-    three (word o bytes) (λ m0 m1 m2. record { name_offset = m0; value_low = m1; value_high = m2 }) (λ (r : BtfEnum64). r.name_offset) (λ (r : BtfEnum64). r.value_low) (λ (r : BtfEnum64). r.value_high) (λ x. refl) x3 12 (λ i below. ap (word o bytes) (behind i) ∙ has.word_is (suc (suc (suc i))) (omega arith)) in
-    let counted_rows = ap (items_at (enum64_at o bytes) 12 12) counted ∙ rows in
-    λ i. Enum64 (a i) (b i) (flagged i) (counted_rows i)
-
-info_is : (o : Endianness) (bytes : List ℕ) (t : BtfType) → HasWords o bytes (words_of t) → word o bytes 4 ≡ info_word (kind_number (kind_of t)) (flag_of t) (count_of t)
-unfolding words_of
-info_is o bytes t has = has.word_is 1 (omega arith)
-
-ends_is : (o : Endianness) (bytes : List ℕ) (t : BtfType) → vlen_at o bytes 0 ≡ count_of t → type_length t ≡ 0 + 12 + 4 * further_words (kind_of t) (vlen_at o bytes 0)
-unfolding type_length
-ends_is o bytes t counted = let same = ap (further_words (kind_of t)) counted in omega arith
+    three_again o bytes (λ m0 m1 m2. record { name_offset = m0; value_low = m1; value_high = m2 }) (λ (r : BtfEnum64). r.name_offset) (λ (r : BtfEnum64). r.value_low) (λ (r : BtfEnum64). r.value_high) (λ x. refl) x3 _ _ _ has in
+    cc
+type_again o bytes _ counted flagged has name third = cc
 
 -- bytes with the words of a type are the type's
 pub written : (o : Endianness) (bytes : List ℕ) (t : BtfType) → count_of t < 65536 → 0 < kind_number (kind_of t) → HasWords o bytes (words_of t)
     → IsTypeAt o bytes 0 (type_length t) (without_fallback t)
+unfolding words_of type_length
 written o bytes t few some has =
     let kind : kind_of (without_fallback t) ≡ kind_of t = kind_without t in
     let low = low_kind (kind_of t) in
-    let info : word o bytes 4 ≡ info_word (kind_number (kind_of t)) (flag_of t) (count_of t) = info_is o bytes t has in
+    let info : word o bytes 4 ≡ info_word (kind_number (kind_of t)) (flag_of t) (count_of t) = has.word_is 1 (omega arith) in
     let counted : vlen_at o bytes 0 ≡ count_of t = ap info_vlen info ∙ count_again (kind_number (kind_of t)) (count_of t) (flag_of t) few low in
     let flagged : info_kind_flag (word o bytes 4) ≡ flag_of t = ap info_kind_flag info ∙ flag_again (kind_number (kind_of t)) (count_of t) (flag_of t) few low in
     let kinded : info_kind_number (word o bytes 4) ≡ kind_number (kind_of t) = ap info_kind_number info ∙ kind_again (kind_number (kind_of t)) (count_of t) (flag_of t) few low in
+    let ends : type_length t ≡ end_of o bytes 0 (kind_of t) = ap (λ n. 12 + 4 * further_words (kind_of t) n) (sym counted) in
     record {
       kind = numbers_of_kinds (word o bytes 4) (kind_of t) some kinded ∙ ap Some (sym kind);
-      words = sym (type_again o bytes t counted flagged some has) ∙ ap (spelled o bytes 0) (sym kind);
-      ends = ends_is o bytes t counted ∙ ap (end_of o bytes 0) (sym kind);
+      words = sym (type_again o bytes t counted flagged has (has.word_is 0 (omega arith)) (has.word_is 2 (omega arith))) ∙ ap (spelled o bytes 0) (sym kind);
+      ends = ends ∙ ap (end_of o bytes 0) (sym kind);
     }

@@ -6,7 +6,7 @@ use Rattle.std.proofs.lemmas.Bool.{cases_lt}
 use Rattle.std.proofs.lemmas.Bool.Decides.{nat_tests}
 use Rattle.ebpf_btf.specs.declared.error.BtfError.TheVariants.{InvalidStringOffset}
 use Rattle.std.specs.Str.{bytes_eq}
-use Rattle.ebpf_base.specs.Results.{if_ok}
+use Rattle.ebpf_base.specs.Faults.{if_ok}
 use Rattle.ebpf_btf.specs.Strings.{AreReadableBelow, before_zero, is_name_at, is_text, text_at, text_or_fault}
 
 -- whether a text can be read

@@ -4,7 +4,7 @@ use Rattle.ebpf_btf.specs.declared.error.BtfError.{BtfError}
 use Rattle.ebpf_btf.specs.declared.error.BtfError.TheVariants.{InvalidTypeInfo, UnexpectedBtfType, UnknownBtfType, MaximumTypeDepth}
 use Rattle.ebpf_btf.specs.declared.types.BtfType.{BtfType}
 use Rattle.ebpf_btf.specs.declared.types.BtfType.TheVariants.{Const, Volatile, Restrict, Ptr, Typedef, Func, Array, Var, TypeTag}
-use Rattle.ebpf_base.specs.Results.{if_ok}
+use Rattle.ebpf_base.specs.Faults.{if_ok}
 use Rattle.ebpf_btf.specs.Next.{if_some}
 use Rattle.ebpf_btf.specs.Types.{size_word}
 

@@ -10,7 +10,7 @@ use Rattle.ebpf_btf.specs.TypeInfo.{TypeInfo}
 use Rattle.ebpf_btf.specs.Types.{name_off, is_kind}
 use Rattle.ebpf_btf.specs.declared.kind.BtfKind.{BtfKind}
 use Rattle.ebpf_btf.specs.EssentialNames.{essential_name}
-use Rattle.ebpf_base.specs.Results.{if_ok}
+use Rattle.ebpf_base.specs.Faults.{if_ok}
 
 -- the bytes up to the first zero byte
 abbrev pub before_zero : List ℕ → Option (List ℕ)

@@ -4,7 +4,7 @@ ghost use Rattle.std.specs.Prelude.{◌≡◌, ◌+◌, ◌*◌, ◌^◌, ◌++�
 ghost use Rattle.ebpf_btf.specs.Words.{count_of, further_of, info_word, word_bytes, words_bytes, words_of};
 ghost use Rattle.ebpf_btf.specs.Format.{IsTypeAt};
 ghost use Rattle.ebpf_btf.specs.Offsets.{without_fallback};
-ghost use Rattle.ebpf_btf.specs.Types.{kind_of, kind_number, name_off};
+ghost use Rattle.ebpf_btf.specs.Types.{kind_of, kind_number};
 
 use crate::list_rows::{ListRow, Rows};
 use crate::types::BtfType;

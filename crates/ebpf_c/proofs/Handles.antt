@@ -23,12 +23,12 @@ use mir.Val.{Val, vstruct, vcons, vnil, of_list}
 use seplogic.Ra.Ura.{Ura}
 use types.Kit.{Item, Goal, Seq, Step, step, ‵, given, learn, use1, ◌$◌, drop, fsplit, fjoin, fpick, fpack, feq_i, feq_l}
 use types.Logic.{Logic, sem}
-use Rattle.ebpf_answers.proofs.Texts.{named_by_text, named_by_none}
+use Rattle.ebpf_answers.proofs.Fills.{named_by_text, named_by_none}
 use Rattle.ebpf_answers.specs.Refusals.{IsReported}
 use Rattle.ebpf_answers.specs.declared.codes.TheConstants.{DONE, NO_MAP}
 use Rattle.ebpf_answers.specs.declared.refusal.Refusal.{Refusal}
 use Rattle.ebpf_answers.specs.declared.refusal.ebpf_refusal.{ebpf_refusal}
-use Rattle.ebpf_base.specs.Keys.{text_cmp}
+use Rattle.ebpf_base.specs.Maps.{text_cmp}
 use Rattle.ebpf_btf.specs.TypeInfo.{TypeInfo}
 use Rattle.ebpf_c.proofs.Texts.{Types}
 use Rattle.ebpf_c.specs.Handles.{heap, handle_owns}
@@ -47,8 +47,7 @@ use Rattle.ebpf_parts.specs.declared.maps.either.Map.{Map}
 use Rattle.ebpf_parts.specs.declared.reading.Reading.{Reading}
 use Rattle.ebpf_rows.specs.Descriptors.{have_names}
 use Rattle.ebpf_rows.specs.FileTypes.{types_if}
-use Rattle.ebpf_rows.specs.Handles.{IsRefused, WhyHeld}
-use Rattle.ebpf_rows.specs.PrivateContracts.{IsSet}
+use Rattle.ebpf_rows.specs.Handles.{IsRefused, WhyHeld, IsSet}
 
 abbrev pub Handle : RattleType
 Handle = handle.the_row

@@ -3,12 +3,12 @@ use Rattle.std.proofs.Common.{◌≡◌, ℕ, List, Option, Some, None, inl, inr
 use Rattle.std.specs.Prelude.{Result, Ok, Err, MatchOption}
 use Rattle.std.specs.FinMap.{get}
 use Rattle.ebpf_model.specs.declared.error.EbpfRelocationError.{EbpfRelocationError}
-use Rattle.ebpf_model.specs.declared.program.Program.{Program}
+use Rattle.ebpf_model.specs.declared.function.Program.{Program}
 use Rattle.ebpf_object.specs.LinkedPrograms.{program_value, MapsProgram}
 use Rattle.ebpf_object.specs.declared.object.Object.{Object}
 use Rattle.ebpf_reloc.specs.declared.link_map.LinkMap.{LinkMap}
 use Rattle.ebpf_rows.specs.Descriptors.{text_of}
-use Rattle.ebpf_answers.specs.Entries.{value_by_bytes}
+use Rattle.ebpf_answers.specs.Listing.{value_by_bytes}
 use Rattle.ebpf_c.specs.Answers.{own_parts, CannotMap, HasUnlinkable, IsLinkMapOf, IsUnlinkable}
 use Rattle.ebpf_answers.specs.Numbers.{slot_refusal}
 use Rattle.ebpf_answers.specs.Refusals.{plain}

@@ -28,9 +28,9 @@ use Rattle.ebpf_core.specs.Answers.{without_texts}
 use Rattle.ebpf_core.specs.declared.error.RelocationError.{RelocationError}
 use Rattle.ebpf_core.specs.declared.error.RelocationError.TheVariants as fault
 use Rattle.ebpf_core_relo.specs.RecordOutcomes.{outcome_without_texts, result_without_texts}
-use Rattle.ebpf_core_relo.specs.declared.record_outcome.RecordOutcome.{RecordOutcome}
-use Rattle.ebpf_core_relo.specs.declared.record_outcome.RecordResult.{RecordResult}
-use Rattle.ebpf_core_relo.specs.declared.record_outcome.RecordResult.TheVariants.{Value, Absent, Refused}
+use Rattle.ebpf_core_relo.specs.declared.outcomes.RecordOutcome.{RecordOutcome}
+use Rattle.ebpf_core_relo.specs.declared.outcomes.RecordResult.{RecordResult}
+use Rattle.ebpf_core_relo.specs.declared.outcomes.RecordResult.TheVariants.{Value, Absent, Refused}
 use Rattle.ebpf_rows.specs.Numbers.{record_fault}
 use Rattle.ebpf_rows.specs.Records.{listed_outcomes, outcome_row, section_name_in}
 use Rattle.ebpf_rows.specs.declared.record_rows.ebpf_record_outcome.{ebpf_record_outcome}

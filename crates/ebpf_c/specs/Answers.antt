@@ -1,7 +1,7 @@
 -- What calls find of the link map of a program, and why they refuse.
 use Rattle.std.specs.Prelude.{◌≡◌, ◌⊎◌, ⊤, ℕ, List, Some, None, MatchBool, Ok}
 use Rattle.ebpf_answers.specs.Answers.{Listed}
-use Rattle.ebpf_answers.specs.Entries.{value_by_bytes}
+use Rattle.ebpf_answers.specs.Listing.{value_by_bytes}
 use Rattle.ebpf_answers.specs.Numbers.{slot_refusal}
 use Rattle.ebpf_answers.specs.Refusals.{plain}
 use Rattle.ebpf_answers.specs.declared.codes.TheConstants.{NO_PROGRAM, BAD_NAME}
@@ -12,7 +12,7 @@ use Rattle.ebpf_loading.specs.declared.attach.AttachTarget.{AttachTarget}
 use Rattle.ebpf_loading.specs.declared.attach.AttachTarget.TheVariants.{NotWanted, Unnamed, Found, NotFound}
 use Rattle.ebpf_model.specs.Memory.{is_memory_at}
 use Rattle.ebpf_model.specs.declared.error.EbpfRelocationError.{EbpfRelocationError}
-use Rattle.ebpf_model.specs.declared.program.Program.{Program}
+use Rattle.ebpf_model.specs.declared.function.Program.{Program}
 use Rattle.ebpf_object.specs.LinkedPrograms.{linkable_of, program_value}
 use Rattle.ebpf_object.specs.Names.{has_function_in}
 use Rattle.ebpf_object.specs.declared.object.Object.{Object}
@@ -79,10 +79,8 @@ target_number (NotFound name) = 3
 
 -- the id of the type, 0 where none is found
 abbrev pub target_type_id : AttachTarget → ℕ
-target_type_id NotWanted = 0
-target_type_id Unnamed = 0
 target_type_id (Found id) = id
-target_type_id (NotFound name) = 0
+target_type_id _ = 0
 
 -- what the programs of a section of a name are attached to, among the types that the bytes spell
 pub record IsTarget (name bytes : List ℕ) (target : AttachTarget) : Type 0 where

@@ -4,20 +4,20 @@ use Rattle.ebpf_answers.specs.Numbers.{slot_refusal}
 use Rattle.ebpf_answers.specs.declared.refusal.Refusal.{Refusal}
 use Rattle.ebpf_base.specs.Faults.{fault_of}
 use Rattle.ebpf_btf.specs.TypeInfo.{TypeInfo}
-use Rattle.ebpf_core_relo.specs.Answers as relocating_types
+use Rattle.ebpf_core_relo.specs.Records as relocating_types
 use Rattle.ebpf_kernel_types.specs.KernelTypes.{kernel_types_of, is_kernel_types_memory}
 use Rattle.ebpf_kernel_types.specs.declared.error.KernelTypesError.{KernelTypesError}
-use Rattle.ebpf_ksyms.specs.Faults as resolving
+use Rattle.ebpf_ksyms.specs.Addresses as resolving
 use Rattle.ebpf_ksyms.specs.Sources.{IsRefusedBy, IsResolvedBy, Text}
 use Rattle.ebpf_model.specs.Memory as relocating
 use Rattle.ebpf_object.specs.Headline.{Headline}
 use Rattle.ebpf_object.specs.LinkedPrograms.{linkable_of, programs_in_order, ProgramsAreLinked}
 use Rattle.ebpf_object.specs.Names.{has_function_in}
 use Rattle.ebpf_object.specs.Objects.{object_of}
+use Rattle.ebpf_object.specs.UnchangedFields.{KeepsOthers}
 use Rattle.ebpf_object.specs.Prepared.{IsFirstPrepareFault, IsParsed, IsStageFault, RefusesPreparing, Stages}
 use Rattle.ebpf_object.specs.WrittenSlots.{relocated_slots, AreRelocatedToTypes, with_externs, externs_fault}
 use Rattle.ebpf_object.specs.Stages.{Chosen}
-use Rattle.ebpf_object.specs.UnchangedFields.{KeepsOthers}
 use Rattle.ebpf_object.specs.declared.object.Object.{Object}
 use Rattle.ebpf_parts.specs.declared.reading.Reading.{Reading}
 use Rattle.ebpf_parts.specs.declared.reading.Reading.TheVariants.{Stated}

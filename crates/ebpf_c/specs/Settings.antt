@@ -1,11 +1,11 @@
 -- What is set of an object before its relocation.
 use Rattle.std.specs.Prelude.{◌≡◌, ℕ, Bool, List, Option, Some, None, MatchOption, ◌==◌, false, not, length, MatchBool, if◌then◌else◌}
 use Rattle.std.specs.FinMap.{FinMap, empty, insert}
-use Rattle.ebpf_answers.specs.Entries.{value_by_bytes}
+use Rattle.ebpf_answers.specs.Listing.{value_by_bytes}
 use Rattle.ebpf_answers.specs.Refusals.{plain}
 use Rattle.ebpf_answers.specs.declared.codes.TheConstants.{BAD_NAME, CLOSED, WRONG_LENGTH}
 use Rattle.ebpf_answers.specs.declared.refusal.Refusal.{Refusal}
-use Rattle.ebpf_base.specs.Keys.{text_cmp}
+use Rattle.ebpf_base.specs.Maps.{text_cmp}
 use Rattle.ebpf_c.specs.declared.map_settings.Setting.{Setting}
 use Rattle.ebpf_c.specs.declared.map_settings.Setting.TheVariants.{MaxEntries, ValueSize, Data}
 use Rattle.ebpf_object.specs.OlderHelpers.{AreSanitized}
@@ -14,8 +14,7 @@ use Rattle.ebpf_object.specs.declared.object.Object.{Object}
 use Rattle.ebpf_parts.specs.Maps.{bytes_of, with_bytes, with_max_entries, with_value_size}
 use Rattle.ebpf_parts.specs.declared.maps.either.Map.{Map}
 use Rattle.ebpf_rows.specs.Descriptors.{text_of}
-use Rattle.ebpf_rows.specs.Handles.{CannotParse}
-use Rattle.ebpf_rows.specs.PrivateContracts.{IsSet}
+use Rattle.ebpf_rows.specs.Handles.{CannotParse, IsSet}
 
 -- ---- maps
 

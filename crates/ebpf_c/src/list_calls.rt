@@ -1,29 +1,29 @@
-//! Lists of what an object has, and its rows by their names.
+//! Lists of what an object has, its rows by their names, and what the records of .BTF.ext are.
 
-ghost use Rattle.std.specs.Prelude.{◌≡◌, Ok, MatchResult, Result};
-ghost use Rattle.ebpf_answers.specs.Answers.{FillsListing, or_memory, Listed};
-ghost use Rattle.ebpf_answers.specs.LentResults.{told_listing};
-ghost use Rattle.ebpf_answers.specs.Told.{LeavesListing};
+ghost use Rattle.std.specs.Prelude.{◌≡◌, Ok, MatchResult, Result, IfOk};
+ghost use Rattle.ebpf_answers.specs.Answers.{FillsListing, or_memory, Listed, told_listing, LeavesListing};
 ghost use Rattle.ebpf_answers.specs.declared.refusal.Refusal.{Refusal};
 ghost use Rattle.ebpf_rows.specs.Handles.{FindsHeld};
 ghost use Rattle.ebpf_rows.specs.InitialSlotRows.{CannotListSlots, IsSlotList};
-ghost use Rattle.ebpf_rows.specs.NamedRows.{answer_row, map_named, program_named, row_after};
-ghost use Rattle.ebpf_rows.specs.Reads.{extern_list, map_list, of_open, program_list, section_list};
+ghost use Rattle.ebpf_rows.specs.Reads.{answer_row, map_named, program_named, row_after, extern_list, map_list, of_open, program_list, section_list};
 ghost use Rattle.ebpf_rows.specs.declared.programs.ebpf_initial_slot.{ebpf_initial_slot};
+ghost use Rattle.ebpf_rows.specs.Records.{outcome_list, CannotListOutcomes, IsOutcomeList};
+ghost use Rattle.ebpf_rows.specs.declared.record_rows.ebpf_record_outcome.{ebpf_record_outcome};
 
 use crate::handle::ebpf_handle;
-use ebpf_answers::buffers::{ebpf_counts, write_all};
+use ebpf_answers::buffers::{Listing, ebpf_counts, list_all, tell_listing, write_all};
 use ebpf_answers::codes::{CLOSED, MEMORY};
 use ebpf_answers::entries::{ebpf_extern, ebpf_section};
-use ebpf_answers::listing::{Listing, list_all};
 use ebpf_answers::refusal::{Refusal, ebpf_refusal};
-use ebpf_answers::told::tell_listing;
+use ebpf_btf::Btf;
 use ebpf_initial_slots::initial_slots;
 use ebpf_object::Object;
+use ebpf_rows::info::read_types;
 use ebpf_rows::maps::{ebpf_map, map_named, program_named, write_row};
 use ebpf_rows::programs::{ebpf_initial_slot, ebpf_program};
+use ebpf_rows::record_rows::ebpf_record_outcome;
 use ebpf_rows::refusals::initial_slots_refusal;
-use std::alloc::Global;
+use std::alloc::{AllocError, Global};
 
 /// Lists the programs of an object, as `ebpf_programs` does.
 fn write_programs(
@@ -151,10 +151,7 @@ fn list_initial_slots(
         Ok(slots) => slots,
         Err(error) => return Err(initial_slots_refusal(error)),
     };
-    match list_all(alloc, &(), slots.as_slice()) {
-        Ok(listing) => Ok(listing),
-        Err(_) => Err(Refusal::plain(MEMORY)),
-    }
+    Ok(list_all(alloc, &(), slots.as_slice())?)
 }
 
 /// Lists the initial values of an object's maps of maps and arrays of programs: a row each by the maps' names in byte order,
@@ -235,4 +232,60 @@ pub extern "C" fn ebpf_find_program(
     let number = write_row(program_named(&object, name), row);
     handle.put(alloc, object);
     number
+}
+
+/// The rows of an object's records over a kernel's types.
+#[tactic(auto, using(crate::proofs::Texts::listed_alike))]
+fn rows_over(
+    alloc: Global,
+    object: &Object,
+    target: &Btf,
+) -> Result<Listing<ebpf_record_outcome>, AllocError>
+    ensures { IfOk result (λ l. (l.rows.items, l.text.items) ≡ outcome_list object.now target.now) }
+{
+    let outcomes = object.record_outcomes(target)?;
+    list_all(alloc, &object.btf, outcomes.records.as_slice())
+}
+
+/// The rows of an object's records over the types that the bytes spell.
+fn rows_over_bytes(
+    alloc: Global,
+    types: &[u8],
+    object: &Object,
+) -> Result<Listing<ebpf_record_outcome>, Refusal>
+    ensures { MatchResult (told_listing result) (IsOutcomeList types.now object.now) (CannotListOutcomes types.now object.now) }
+{
+    let target = read_types(alloc, types)?;
+    Ok(rows_over(alloc, object, &target)?)
+}
+
+/// Lists what each CO-RE record of an object comes to over a kernel's types, which are raw BTF in the byte order that its
+/// magic number tells: a row each, section by section and in order, also behind one that is refused; and the names of their
+/// sections in `text`, a zero byte behind each. The object stays. Without types or records of its own it has no rows.
+///
+/// # Answers
+///
+/// 0; 1 where not all fits; 2; 3 where the handle is closed; 200 to 214 where the types can't be read. The buffers are then
+/// as they were, and `counts` too but for 1.
+#[unsafe(no_mangle)]
+pub extern "C" fn ebpf_record_outcomes(
+    alloc: Global,
+    handle: &mut ebpf_handle,
+    types: &[u8],
+    rows: &mut [ebpf_record_outcome],
+    text: &mut [u8],
+    counts: &mut ebpf_counts,
+    about: &mut [u8],
+    report: &mut ebpf_refusal,
+) -> u32
+    ensures stays { handle.new.object ≡ handle.old.object }
+    ensures listed { (found : Result (Listed ebpf_record_outcome) Refusal) × FindsHeld (IsOutcomeList types.now) (CannotListOutcomes types.now) handle.old.object found × LeavesListing found result rows.old rows.new text.old text.new counts.old counts.new about.old about.new report.old report.new }
+{
+    let Some(object) = handle.take(alloc) else {
+        let closed = Err(Refusal::plain(CLOSED));
+        return tell_listing(closed, rows, text, counts, about, report);
+    };
+    let found = rows_over_bytes(alloc, types, &object);
+    handle.put(alloc, object);
+    tell_listing(found, rows, text, counts, about, report)
 }

@@ -4,8 +4,7 @@ ghost use Rattle.std.specs.Prelude.{◌++◌, ℕ, List, Ok, ◌≡◌};
 ghost use Rattle.std_alloc.specs.Box.Ownership.{box_owns};
 ghost use Rattle.ebpf_answers.specs.Answers.{FillsList};
 
-use ebpf_answers::codes::{DONE, ROOM};
-use ebpf_answers::number_names::name_of;
+use ebpf_answers::codes::{DONE, ROOM, name_of};
 use std::alloc::Allocator;
 use std::marker::Model;
 

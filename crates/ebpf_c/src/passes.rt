@@ -8,13 +8,13 @@ ghost use Rattle.ebpf_rows.specs.Handles.{Changes, IsRefused, WhyHeld};
 
 use crate::handle::ebpf_handle;
 use ebpf_answers::codes::{BAD_NAME, CLOSED, DONE, MEMORY};
+use ebpf_answers::faults::slot_refusal;
 use ebpf_answers::refusal::{Refusal, answered, ebpf_refusal, tell};
-use ebpf_answers::slot_refusal::slot_refusal;
 use ebpf_object::Object;
 use ebpf_object::prepare::relocate_own_maps;
+use ebpf_rows::info::{read_types, read_types_if};
 use ebpf_rows::reads::{descriptors_in, ebpf_descriptor, have_names};
 use ebpf_rows::refusals::{ksyms_refusal, prepare_refusal, types_refusal};
-use ebpf_rows::target_types::{read_types, read_types_if};
 use std::alloc::Global;
 
 /// Relocates the functions of an object to the types that the bytes spell.
@@ -24,10 +24,7 @@ fn relocate_types(alloc: Global, object: &mut Object, types: &[u8]) -> Result<()
     ensures why { IfErr result (CannotRelocateTypes types.now object.old) }
     ensures refuses { IfErr result (λ r. 0 < r.number) }
 {
-    let target = match read_types(alloc, types) {
-        Ok(target) => target,
-        Err(refusal) => return Err(refusal),
-    };
+    let target = read_types(alloc, types)?;
     match object.relocate_btf(&target) {
         Ok(()) => Ok(()),
         Err(error) => Err(types_refusal(error)),
@@ -76,9 +73,7 @@ fn write_map_fds(
     if !have_names(rows, text) {
         return Err(Refusal::plain(BAD_NAME));
     }
-    let Ok(descriptors) = descriptors_in(alloc, rows, text) else {
-        return Err(Refusal::plain(MEMORY));
-    };
+    let descriptors = descriptors_in(alloc, rows, text)?;
     match relocate_own_maps(alloc, object, &descriptors) {
         Ok(()) => Ok(()),
         Err(error) => Err(prepare_refusal(error)),
@@ -130,10 +125,7 @@ fn resolve_externs(
     ensures why { IfErr result (CannotResolve types.now symbols.now object.old) }
     ensures refuses { IfErr result (λ r. 0 < r.number) }
 {
-    let kernel = match read_types_if(alloc, types) {
-        Ok(kernel) => kernel,
-        Err(refusal) => return Err(refusal),
-    };
+    let kernel = read_types_if(alloc, types)?;
     match object.resolve_text(kernel.as_ref(), symbols) {
         Ok(()) => Ok(()),
         Err(error) => Err(ksyms_refusal(error)),

@@ -1,48 +1,18 @@
-//! A file, prepared in one call.
+//! A file, and an object that a handle holds, prepared in one call.
 
-ghost use Rattle.std.specs.Prelude.{◌≡◌, ◌<◌, IfOk, IfErr};
-ghost use Rattle.ebpf_rows.specs.Handles.{IsRefused};
-ghost use Rattle.ebpf_c.specs.Passes.{inputs_of, CannotPrepare, HasPrepared, IsPreparedIn};
+ghost use Rattle.std.specs.Prelude.{◌≡◌, ◌<◌, IfOk, IfErr, OnOk, OnErr};
+ghost use Rattle.ebpf_rows.specs.Handles.{IsRefused, Changes, WhyHeld};
+ghost use Rattle.ebpf_c.specs.Passes.{inputs_of, CannotPrepare, HasPrepared, IsPreparedIn, CannotPrepareHeld, HasPreparedHeld};
 
 use crate::handle::ebpf_handle;
-use ebpf_answers::codes::{BAD_NAME, DONE, MEMORY};
-use ebpf_answers::refusal::{Refusal, ebpf_refusal, tell};
+use ebpf_answers::codes::{BAD_NAME, CLOSED, DONE, MEMORY};
+use ebpf_answers::refusal::{Refusal, answered, ebpf_refusal, tell};
 use ebpf_object::Object;
-use ebpf_object::prepare::{Steps, SymbolText, prepare};
+use ebpf_object::prepare::{Steps, SymbolText, prepare, prepare_in_place};
+use ebpf_rows::info::read_types_if;
 use ebpf_rows::reads::{descriptors_in, ebpf_descriptor, have_names};
 use ebpf_rows::refusals::prepare_refusal;
-use ebpf_rows::target_types::read_types_if;
 use std::alloc::Global;
-
-/// The object of a file after all passes.
-fn prepare_object(
-    alloc: Global,
-    file: &[u8],
-    types: &[u8],
-    rows: &[ebpf_descriptor],
-    text: &[u8],
-    symbols: &[u8],
-) -> Result<Object, Refusal>
-    ensures prepared { IfOk result (HasPrepared file.now (inputs_of types.now rows.now text.now symbols.now)) }
-    ensures why { IfErr result (CannotPrepare file.now (inputs_of types.now rows.now text.now symbols.now)) }
-    ensures refuses { IfErr result (λ r. 0 < r.number) }
-{
-    if !have_names(rows, text) {
-        return Err(Refusal::plain(BAD_NAME));
-    }
-    let kernel = match read_types_if(alloc, types) {
-        Ok(kernel) => kernel,
-        Err(refusal) => return Err(refusal),
-    };
-    let Ok(descriptors) = descriptors_in(alloc, rows, text) else {
-        return Err(Refusal::plain(MEMORY));
-    };
-    let steps = Steps::all_with(kernel.as_ref(), &descriptors);
-    match prepare(alloc, file, &steps, SymbolText(symbols)) {
-        Ok(object) => Ok(object),
-        Err(error) => Err(prepare_refusal(error)),
-    }
-}
 
 /// The object of a file after all passes, in a box.
 fn prepare_box(
@@ -57,13 +27,15 @@ fn prepare_box(
     ensures why { IfErr result (CannotPrepare file.now (inputs_of types.now rows.now text.now symbols.now)) }
     ensures refuses { IfErr result (λ r. 0 < r.number) }
 {
-    let object = match prepare_object(alloc, file, types, rows, text, symbols) {
-        Ok(object) => object,
-        Err(refusal) => return Err(refusal),
-    };
-    match Box::new(alloc, object) {
-        Ok(object) => Ok(object),
-        Err(_) => Err(Refusal::plain(MEMORY)),
+    if !have_names(rows, text) {
+        return Err(Refusal::plain(BAD_NAME));
+    }
+    let kernel = read_types_if(alloc, types)?;
+    let descriptors = descriptors_in(alloc, rows, text)?;
+    let steps = Steps::all_with(kernel.as_ref(), &descriptors);
+    match prepare(alloc, file, &steps, SymbolText(symbols)) {
+        Ok(object) => Ok(Box::new(alloc, object)?),
+        Err(error) => Err(prepare_refusal(error)),
     }
 }
 
@@ -99,4 +71,61 @@ pub extern "C" fn ebpf_prepare(
         }
         Err(refusal) => tell(&refusal, about, report),
     }
+}
+
+/// Runs all passes over an object where it stands.
+fn prepare_held(
+    alloc: Global,
+    object: &mut Object,
+    types: &[u8],
+    rows: &[ebpf_descriptor],
+    text: &[u8],
+    symbols: &[u8],
+) -> Result<(), Refusal>
+    ensures ok { OnOk result (HasPreparedHeld (inputs_of types.now rows.now text.now symbols.now) object.old object.new) }
+    ensures unchanged { OnErr result (object.new ≡ object.old) }
+    ensures why { IfErr result (CannotPrepareHeld (inputs_of types.now rows.now text.now symbols.now) object.old) }
+    ensures refuses { IfErr result (λ r. 0 < r.number) }
+{
+    if !have_names(rows, text) {
+        return Err(Refusal::plain(BAD_NAME));
+    }
+    let kernel = read_types_if(alloc, types)?;
+    let descriptors = descriptors_in(alloc, rows, text)?;
+    let steps = Steps::all_with(kernel.as_ref(), &descriptors);
+    match prepare_in_place(alloc, object, &steps, SymbolText(symbols)) {
+        Ok(()) => Ok(()),
+        Err(fault) => Err(prepare_refusal(fault)),
+    }
+}
+
+/// Runs the passes of `ebpf_prepare` over what a handle holds, whatever was set on it before. Where there are no bytes of
+/// types, functions are not relocated, and externs are looked up in the symbols alone.
+///
+/// # Answers
+///
+/// 0; 2; 3 where the handle is closed; then 6 where a row's name is not inside the text or is no text; then 200 to 214
+/// where the types can't be read; then the number of the fault of the first stage that has one, as of the calls for the
+/// stages. What the handle holds is then as it was.
+#[unsafe(no_mangle)]
+pub extern "C" fn ebpf_prepare_handle(
+    alloc: Global,
+    handle: &mut ebpf_handle,
+    types: &[u8],
+    rows: &[ebpf_descriptor],
+    text: &[u8],
+    symbols: &[u8],
+    about: &mut [u8],
+    report: &mut ebpf_refusal,
+) -> u32
+    ensures prepared { result ≡ DONE → Changes (HasPreparedHeld (inputs_of types.now rows.now text.now symbols.now)) handle.old.object handle.new.object }
+    ensures quiet { result ≡ DONE → (about.new ≡ about.old) × (report.new ≡ report.old) }
+    ensures refused { ¬ (result ≡ DONE) → IsRefused (WhyHeld handle.old.object (CannotPrepareHeld (inputs_of types.now rows.now text.now symbols.now))) result handle.old.object handle.new.object about.old about.new report.new }
+{
+    let Some(mut object) = handle.take(alloc) else {
+        return tell(&Refusal::plain(CLOSED), about, report);
+    };
+    let answer = prepare_held(alloc, &mut object, types, rows, text, symbols);
+    handle.put(alloc, object);
+    answered(answer, about, report)
 }

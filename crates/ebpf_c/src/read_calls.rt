@@ -2,7 +2,7 @@
 
 ghost use Rattle.std.specs.Prelude.{◌≡◌, MatchOption};
 ghost use Rattle.ebpf_answers.specs.Answers.{FillsList, or_memory};
-ghost use Rattle.ebpf_answers.specs.Flags.{flag};
+ghost use Rattle.ebpf_answers.specs.Refusals.{flag};
 ghost use Rattle.ebpf_rows.specs.FileTypes.{info_of, states_license};
 ghost use Rattle.ebpf_rows.specs.Reads.{read_func_infos, read_license, read_line_infos, read_map_data, of_open, read_section_name, read_slots};
 

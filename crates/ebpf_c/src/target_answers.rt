@@ -1,20 +1,20 @@
 //! The types that programs are attached to.
 
 ghost use Rattle.std.specs.Prelude.{◌≡◌, ◌<◌, IfOk, IfErr, ℕ, List, Result};
-ghost use Rattle.ebpf_answers.specs.Told.{LeavesList};
+ghost use Rattle.ebpf_answers.specs.Answers.{LeavesList};
 ghost use Rattle.ebpf_answers.specs.declared.refusal.Refusal.{Refusal};
 ghost use Rattle.ebpf_c.specs.Answers.{target_number, target_type_id, CannotFindTarget, IsTarget, TellsNone, TellsTarget};
 ghost use Rattle.ebpf_c.specs.Passes.{AreTypesForKernel};
 
+use ebpf_answers::buffers::tell_items;
 use ebpf_answers::codes::{BAD_NAME, DONE, MEMORY};
 use ebpf_answers::refusal::{Refusal, ebpf_refusal};
-use ebpf_answers::told::tell_items;
 use ebpf_base::Items;
 use ebpf_kernel_types::kernel_types;
 use ebpf_loading::{AttachTarget, attach_target};
+use ebpf_rows::info::read_types;
 use ebpf_rows::reads::text_of;
 use ebpf_rows::refusals::kernel_types_refusal;
-use ebpf_rows::target_types::read_types;
 use std::alloc::Global;
 
 /// The number of what is known of a target.
@@ -48,14 +48,8 @@ fn find_target(alloc: Global, name: &[u8], types: &[u8]) -> Result<AttachTarget,
     let Some(section) = text_of(name) else {
         return Err(Refusal::plain(BAD_NAME));
     };
-    let types = match read_types(alloc, types) {
-        Ok(types) => types,
-        Err(refusal) => return Err(refusal),
-    };
-    match attach_target(alloc, section, &types) {
-        Ok(target) => Ok(target),
-        Err(_) => Err(Refusal::plain(MEMORY)),
-    }
+    let types = read_types(alloc, types)?;
+    Ok(attach_target(alloc, section, &types)?)
 }
 
 /// Says what the programs of a section of this name are attached to, as a type of the kernel's, or for `freplace` of the
@@ -95,10 +89,7 @@ fn types_for_kernel(alloc: Global, file: &[u8]) -> Result<Items<u8>, Refusal>
     match kernel_types(alloc, file) {
         Ok(Some(types)) => Ok(Items::from_vec(types)),
         Ok(None) => Ok(Items::new(alloc)),
-        Err(error) => match kernel_types_refusal(alloc, file, error) {
-            Ok(refusal) => Err(refusal),
-            Err(_) => Err(Refusal::plain(MEMORY)),
-        },
+        Err(error) => Err(kernel_types_refusal(alloc, file, error)?),
     }
 }
 

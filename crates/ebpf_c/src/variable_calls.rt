@@ -11,12 +11,11 @@ ghost use Rattle.ebpf_rows.specs.Variables.{read_value, variable_list};
 use crate::handle::ebpf_handle;
 use ebpf_answers::buffers::{ebpf_counts, write_all};
 use ebpf_answers::codes::{BAD_NAME, CLOSED, DONE, MEMORY};
-use ebpf_answers::parse_refusal::parse_refusal;
+use ebpf_answers::faults::parse_refusal;
 use ebpf_answers::refusal::{Refusal, answered, ebpf_refusal, tell};
 use ebpf_object::{Object, symbol_indices};
 use ebpf_rows::reads::text_of;
-use ebpf_rows::value_rows::put_over;
-use ebpf_rows::variables::{ebpf_variable, write_value};
+use ebpf_rows::variables::{ebpf_variable, put_over, write_value};
 use std::alloc::{AllocError, Global};
 use std::collections::HashMap;
 

@@ -1,4 +1,3 @@
 pub mod Appending
 pub mod Listing
-pub mod Numbered
 pub mod Refusing

@@ -7,13 +7,12 @@ use Rattle.std.specs.FinMap.{get, entries, find, get-entries}
 use Rattle.std.specs.Ordering.{eq_by_cmp}
 use Rattle.std.specs.Str.{bytes_eq}
 use Rattle.ebpf_base.proofs.TextMaps.{text_exact}
-use Rattle.ebpf_base.proofs.Orderings.{is_equal}
-use Rattle.ebpf_base.specs.Keys.{text_cmp}
+use Rattle.ebpf_base.proofs.Maps.{is_equal}
+use Rattle.ebpf_base.specs.Maps.{text_cmp}
 use Rattle.ebpf_commands.proofs.Refusing.{nothing}
-use Rattle.ebpf_commands.specs.Failures.{is_outside, IsFailureOf}
+use Rattle.ebpf_commands.specs.Done.{is_outside, IsFailureOf, LacksNamedReport}
 use Rattle.ebpf_commands.specs.Linked.{IsFileLinked}
-use Rattle.ebpf_commands.specs.Listed.{HasInspected, report_named}
-use Rattle.ebpf_commands.specs.Done.{LacksNamedReport}
+use Rattle.ebpf_commands.specs.Printed.{HasInspected, report_named}
 use Rattle.ebpf_commands.specs.declared.failure.Failure.{Failure}
 use Rattle.ebpf_commands.specs.declared.failure.Failure.TheVariants.{CannotRead, Btf, Preparing, NoProgram, CannotWrite, Memory}
 use Rattle.ebpf_inspect.specs.Inspected.{AreReports}
@@ -21,7 +20,7 @@ use Rattle.ebpf_inspect.specs.declared.report.ProgramReport.{ProgramReport}
 use Rattle.ebpf_ksyms.specs.Sources.{Source}
 use Rattle.ebpf_object.specs.LinkedPrograms.{program_value, programs_in_order}
 use Rattle.ebpf_object.specs.declared.object.Object.{Object}
-use Rattle.ebpf_model.specs.declared.program.Program.{Program}
+use Rattle.ebpf_model.specs.declared.function.Program.{Program}
 use Rattle.ebpf_reloc.specs.Linking.{ProgramValue}
 
 -- ---- a program has a report

@@ -3,8 +3,7 @@ use Rattle.std.proofs.Common.{◌≡◌, ℕ, Bool, true, false, List, Option, S
 use Rattle.std.proofs.lemmas.Option.{none-some}
 use Rattle.std.specs.Prelude.{⊤, MatchBool, MatchOption, IsSome}
 use Rattle.std.specs.FinMap.{get}
-use Rattle.ebpf_commands.specs.Done.{LacksNamed}
-use Rattle.ebpf_commands.specs.Failures.{is_outside, IsFailureOf}
+use Rattle.ebpf_commands.specs.Done.{LacksNamed, is_outside, IsFailureOf}
 use Rattle.ebpf_commands.specs.Linked.{IsFileLinked}
 use Rattle.ebpf_commands.specs.Printed.{program_function_of, function_named}
 use Rattle.ebpf_commands.specs.declared.failure.Failure.{Failure}
@@ -12,7 +11,7 @@ use Rattle.ebpf_commands.specs.declared.failure.Failure.TheVariants.{CannotRead,
 use Rattle.ebpf_ksyms.specs.Sources.{Source}
 use Rattle.ebpf_object.specs.Headline.{ProgramsAreWhole}
 use Rattle.ebpf_object.specs.declared.object.Object.{Object}
-use Rattle.ebpf_model.specs.declared.program.Program.{Program}
+use Rattle.ebpf_model.specs.declared.function.Program.{Program}
 use Rattle.ebpf_reloc.specs.SlotTargets.{LinkableValue}
 
 -- nothing is refused by what can't be

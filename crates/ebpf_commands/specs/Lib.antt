@@ -1,8 +1,6 @@
 pub mod Arguments
 pub mod Linked
 pub mod Printed
-pub mod Failures
-pub mod Listed
 pub mod Done
 
 -- What only private contracts and proofs name.

@@ -3,7 +3,7 @@ use Rattle.std.specs.Prelude.{◌≡◌, ℕ, ℤ, pos, ◌+ℤ◌, true, List, 
 use Rattle.std.specs.FinMap.{FinMap, entries}
 use Rattle.std.specs.Int.{w32, saturate_signed}
 use Rattle.std.specs.Map.{keys_of}
-use Rattle.ebpf_base.specs.Keys.{text_cmp}
+use Rattle.ebpf_base.specs.Maps.{text_cmp}
 use Rattle.ebpf_btf.specs.Reading.{type_info_of}
 use Rattle.ebpf_btf.specs.TypeInfo.{TypeInfo}
 use Rattle.ebpf_base.specs.declared.endianness.Endianness.TheVariants.{Little}

@@ -7,8 +7,7 @@ mod inspect;
 mod link;
 mod opened;
 mod preparation;
-mod program_text;
-mod report_text;
+mod printed_text;
 
 pub use arguments::{Words, WordsError, read_words};
 pub use failure::{Failure, cannot_read, report};
@@ -16,4 +15,4 @@ pub use inspect::{print_reports, run_inspect};
 pub use link::{function_named, prepare_all, print_programs, run_link};
 pub use opened::{Command, start};
 pub use preparation::{map_names, numbered_descriptors};
-pub use program_text::write_slots;
+pub use printed_text::write_slots;

@@ -4,7 +4,7 @@ ghost use Rattle.std.specs.Prelude.{◌≡◌, map, option_map, pos, Some, IfOk}
 ghost use Rattle.std.specs.FinMap.{entries};
 ghost use Rattle.std.specs.Map.{keys_of};
 ghost use Rattle.ebpf_base.specs.Faults.{Gives};
-ghost use Rattle.ebpf_base.specs.Keys.{lent_bytes};
+ghost use Rattle.ebpf_base.specs.Maps.{lent_bytes};
 ghost use Rattle.ebpf_btf.specs.Memory.{is_btf_memory};
 ghost use Rattle.ebpf_object.specs.Stages.{descriptor_of};
 ghost use Rattle.ebpf_commands.specs.Linked.{kernel_types, numbered_descriptors};
@@ -15,7 +15,7 @@ use ebpf_object::Object;
 use std::alloc::{AllocError, Global};
 
 /// The names of maps with descriptors, 1 and on.
-#[tactic(auto, using(crate::proofs::Numbered::one_with_descriptor, ebpf_base::proofs::Walks::rest_none))]
+#[tactic(auto, using(crate::proofs::Appending::one_with_descriptor, ebpf_base::proofs::Lists::rest_none))]
 pub fn numbered_descriptors(alloc: Global, names: &[Text]) -> Result<Vec<(&str, i32)>, AllocError>
     ensures { IfOk result (λ named. map descriptor_of named.items ≡ numbered_descriptors (pos 0) names.now) }
 {
@@ -42,7 +42,7 @@ pub fn read_types(bytes: Option<Vec<u8>>) -> Result<Option<Btf>, BtfError>
 }
 
 /// Copies of names.
-#[tactic(auto, using(crate::proofs::Numbered::one_copied, ebpf_base::proofs::Walks::rest_none))]
+#[tactic(auto, using(crate::proofs::Appending::one_copied, ebpf_base::proofs::Lists::rest_none))]
 fn copied(alloc: Global, names: &[&str]) -> Result<Items<Text>, AllocError>
     ensures { IfOk result (λ copies. copies ≡ lent_bytes names.now) }
 {

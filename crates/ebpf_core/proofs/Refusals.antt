@@ -7,14 +7,14 @@ use Rattle.ebpf_btf.specs.Memory as types
 use Rattle.ebpf_btf.specs.declared.error.BtfError.{BtfError as TypeError}
 use Rattle.ebpf_core.specs.declared.error.RelocationError.{RelocationError}
 use Rattle.ebpf_core.specs.declared.error.RelocationError.TheVariants as errors
-use Rattle.ebpf_base.specs.Results.{if_ok}
+use Rattle.ebpf_base.specs.Faults.{if_ok}
 use Rattle.ebpf_core.specs.Answers.{Tells, TellsSo, of_type_error, of_types, without_texts, is_record_memory}
-use Rattle.ebpf_core.specs.Matches.{by_place}
+use Rattle.ebpf_core.specs.Outcomes.{by_place}
 use Rattle.ebpf_core.specs.declared.matches.Found.{Found}
 use Rattle.ebpf_core.specs.declared.matches.Found.TheVariants as found
 use Rattle.ebpf_btf.specs.TypeInfo.{TypeInfo}
-use Rattle.ebpf_core_places.specs.declared.fault.PlaceFault.{PlaceFault}
-use Rattle.ebpf_core_places.specs.declared.fault.PlaceFault.TheVariants.{NestingLevel, Btf}
+use Rattle.ebpf_core_places.specs.declared.places.PlaceFault.{PlaceFault}
+use Rattle.ebpf_core_places.specs.declared.places.PlaceFault.TheVariants.{NestingLevel, Btf}
 use Rattle.ebpf_core_places.specs.declared.places.Place.{Place}
 
 -- what holds of a fault of types as one of the record, and of what follows

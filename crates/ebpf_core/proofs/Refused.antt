@@ -5,26 +5,22 @@ use Rattle.std.proofs.lemmas.Option.{same_Some}
 use Rattle.std.proofs.lemmas.Result.{IfErr-at_err, IfErr-weaker}
 use Rattle.ebpf_btf.specs.TypeInfo.{TypeInfo}
 use Rattle.ebpf_ext.specs.declared.relocation.Relocation.{Relocation}
-use Rattle.ebpf_base.specs.Results.{if_ok}
+use Rattle.ebpf_base.specs.Faults.{if_ok}
 use Rattle.ebpf_core.specs.Answers.{FirstFails, Tells, each, of_types, without_texts, is_record_memory}
-use Rattle.ebpf_core.specs.LocalPaths.{local_path}
-use Rattle.ebpf_core.specs.LocalSides.{LocalSideIs}
-use Rattle.ebpf_core.specs.Matches.{found_at_candidate, matches, type_name_at}
-use Rattle.ebpf_core.specs.Outcomes.{agreed_outcome, values_agree, outcome_of_matches, differing_names, local_loaded, match_value, outcome_among}
-use Rattle.ebpf_core.specs.Refused.{AreInConflict, Unreadable, Differing, AmongIsRefused, Matching, LocalField, Values, Conflict, OutcomeIsRefused, LocalSide, Candidates, Among}
+use Rattle.ebpf_core.specs.LocalPaths.{local_path, LocalSideIs}
+use Rattle.ebpf_core.specs.Outcomes.{found_at_candidate, matches, type_name_at, agreed_outcome, values_agree, outcome_of_matches, differing_names, local_loaded, match_value, outcome_among}
+use Rattle.ebpf_core.specs.Laws.{AreInConflict, Unreadable, Differing, AmongIsRefused, Matching, LocalField, Values, Conflict, OutcomeIsRefused, LocalSide, Candidates, Among}
 use Rattle.ebpf_core.specs.Searches.{candidates_for, is_local, outcome_of}
 use Rattle.ebpf_core.specs.declared.error.RelocationError.{RelocationError}
 use Rattle.ebpf_core.specs.declared.field.LoadedField.{LoadedField}
 use Rattle.ebpf_core.specs.declared.matches.Found.{Found}
 use Rattle.ebpf_core.specs.declared.outcome.Outcome.{Outcome}
 use Rattle.ebpf_core.specs.declared.paths.LocalPath.{LocalPath}
-use Rattle.ebpf_core.specs.declared.values.MatchValue.{MatchValue}
+use Rattle.ebpf_core.specs.declared.matches.MatchValue.{MatchValue}
 use Rattle.ebpf_core.proofs.LocalSides.{one_side, side_is}
 use Rattle.ebpf_core.proofs.MatchSteps.{kept_with, match_more, no_candidates}
 use Rattle.ebpf_core_candidates.proofs.Refusals.{matched, by_answer, by_test, ok_some}
 use Rattle.ebpf_core.proofs.Refusals.{by_types}
-
--- ---- the first member that has a fault
 
 -- answers that are gathered one after the other
 module _ {A X S E : Type 0} (f : A → Result X E) (run : List A → Result S E) (with : A → X → S → S) (first : S) (none : run [] ≡ Ok first)

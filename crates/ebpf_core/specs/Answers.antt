@@ -1,13 +1,11 @@
 -- Answers, and how they are stated: an error without the texts in it that are for people to read.
 use Rattle.std.specs.Prelude.{◌≡◌, ℕ, ◌<◌, true, List, [], ◌∷◌, ⊤, MatchBool, Some, Result, Ok, Err, is_ok, slice_get, if◌then◌else◌, Bool, false}
-use Rattle.ebpf_base.specs.Results.{if_ok}
+use Rattle.ebpf_base.specs.Faults.{if_ok}
 use Rattle.ebpf_btf.specs.declared.error.BtfError.{BtfError}
 use Rattle.ebpf_btf.specs.Memory as types
 use Rattle.ebpf_core.specs.declared.error.RelocationError.{RelocationError}
 use Rattle.ebpf_core.specs.declared.error.RelocationError.TheVariants as errors
 use Rattle.ebpf_core.specs.declared.error.RelocationError.TheVariants.{OutOfMemory}
-
--- ---- want of memory, the one answer of this layer that no definition states
 
 abbrev pub is_record_memory : RelocationError → Bool
 is_record_memory OutOfMemory = true

@@ -1,29 +1,67 @@
--- What a record learns of a field (the kernel's tools/lib/bpf/relo_core.c, bpf_core_calc_field_relo, and
--- include/uapi/linux/bpf.h, enum bpf_core_relo_kind).
-use Rattle.std.specs.Prelude.{ℕ, ◌+◌, ◌-◌, ◌*◌, ◌/◌, ◌==◌, nat_le, Bool, Option, Some, None, Result, Ok, Err, slice_get, option_and_then, if◌then◌else◌}
+-- Where a field lies in a type, what a record learns of it, and the bytes that a program loads for it (the kernel's
+-- tools/lib/bpf/relo_core.c, bpf_core_calc_field_relo).
+use Rattle.std.specs.Prelude.{ℕ, ◌+◌, ◌*◌, ◌/◌, ◌==◌, ◌&&◌, ◌||◌, nat_le, nat_lt, Bool, List, [], ◌∷◌, find, Option, None, option_and_then, Result, Ok, Err, if◌then◌else◌, ◌-◌, Some, slice_get}
 use Rattle.ebpf_btf.specs.declared.error.BtfError.{BtfError}
 use Rattle.ebpf_btf.specs.declared.error.BtfError.TheVariants.{InvalidTypeInfo}
+use Rattle.ebpf_base.specs.Faults.{if_ok}
+use Rattle.ebpf_btf.specs.Next.{if_some}
 use Rattle.ebpf_btf.specs.declared.members.BtfMember.{BtfMember}
 use Rattle.ebpf_ext.specs.declared.relocation.RelocationKind.{RelocationKind}
 use Rattle.ebpf_ext.specs.declared.relocation.RelocationKind.TheVariants.{FieldByteOffset, FieldByteSize, FieldExists, FieldSigned, FieldLShift64, FieldRShift64}
 use Rattle.ebpf_btf.specs.declared.types.BtfType.{BtfType}
 use Rattle.ebpf_btf.specs.declared.types.BtfType.TheVariants.{Ptr, Int}
-use Rattle.ebpf_btf.specs.Next.{if_some}
 use Rattle.ebpf_btf.specs.Steps.{resolved, resolved_type, size_of, type_at}
 use Rattle.ebpf_btf.specs.TypeInfo.{TypeInfo}
 use Rattle.ebpf_btf.specs.Types.{bit_field_size, is_signed, members_of, size_word}
-use Rattle.ebpf_core.specs.declared.extent.Extent.{Extent}
+use Rattle.ebpf_core_places.specs.declared.places.Place.{Place}
+use Rattle.ebpf_core_places.specs.declared.places.PlaceEnd.{PlaceEnd}
+use Rattle.ebpf_core_places.specs.declared.places.PlaceEnd.TheVariants.{Element, Member}
+use Rattle.ebpf_core.specs.declared.field.Extent.{Extent}
 use Rattle.ebpf_core.specs.declared.field.FieldClass.{FieldClass}
 use Rattle.ebpf_core.specs.declared.field.FieldClass.TheVariants.{Pointer, UnsignedInt, Other}
 use Rattle.ebpf_core.specs.declared.field.FieldFault.{FieldFault}
 use Rattle.ebpf_core.specs.declared.field.FieldFault.TheVariants.{OfElement, Types}
 use Rattle.ebpf_core.specs.declared.field.FieldValue.{FieldValue}
 use Rattle.ebpf_core.specs.declared.field.LoadedField.{LoadedField}
-use Rattle.ebpf_core_places.specs.declared.places.Place.{Place}
-use Rattle.ebpf_core_places.specs.declared.places.PlaceEnd.{PlaceEnd}
-use Rattle.ebpf_core_places.specs.declared.places.PlaceEnd.TheVariants.{Element, Member}
-use Rattle.ebpf_base.specs.Results.{if_ok}
-use Rattle.ebpf_core.specs.Containers.{bit_field_extent, plain_extent}
+
+-- ---- the container of a bit field
+
+-- the first byte of the aligned container of so many bytes that has the bit
+abbrev pub aligned : ℕ → ℕ → ℕ
+aligned bit size = bit / 8 / size * size
+
+-- whether that container has all bits of a field, which are `width` from the bit on
+abbrev pub container_holds : ℕ → ℕ → ℕ → Bool
+container_holds bit width size = nat_le (bit + width) ((aligned bit size + size) * 8)
+
+-- the size of a field's type, and that size doubled
+abbrev pub doubled_sizes : ℕ → List ℕ
+doubled_sizes size = size ∷ size * 2 ∷ size * 4 ∷ size * 8 ∷ []
+
+-- whether one of these sizes is that of a container: a size is doubled while it is below 8
+abbrev pub is_container : ℕ → ℕ → ℕ → ℕ → Bool
+is_container bit width size doubled = (doubled == size || nat_lt doubled 16) && container_holds bit width doubled
+
+-- the size of the smallest container that holds a field whose type has a size; none holds one of a type of no bytes
+unfoldable pub container : ℕ → ℕ → ℕ → Option ℕ
+container bit width size = if size == 0 then None else find (is_container bit width size) (doubled_sizes size)
+
+-- ---- extents: the first byte and the number of bytes that are loaded, and the number of the field's bits
+
+-- of a field that is no bit field
+abbrev pub plain_extent : ℕ → ℕ → Extent
+plain_extent bit size = record { start = bit / 8; size = size; width = size * 8 }
+
+abbrev pub container_extent : ℕ → ℕ → ℕ → Extent
+container_extent bit width size = record { start = aligned bit size; size = size; width = width }
+
+-- of a bit field, where its type states a size
+abbrev pub bit_field_extent : ℕ → ℕ → Option ℕ → Result Extent BtfError
+bit_field_extent bit width stated =
+    if_some (option_and_then (container bit width) stated) (λ size. Ok (container_extent bit width size)) (Err InvalidTypeInfo)
+
+-- ---- what a record learns of a field (the kernel's tools/lib/bpf/relo_core.c, bpf_core_calc_field_relo, and
+-- include/uapi/linux/bpf.h, enum bpf_core_relo_kind)
 
 -- what a load goes by: whether the field's type is a pointer, or an integer without a sign
 unfoldable pub class_of : BtfType → FieldClass

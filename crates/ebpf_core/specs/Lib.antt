@@ -1,12 +1,6 @@
-pub mod AccessStrings
+pub mod LocalPaths
 pub mod Answers
-pub mod Questions
-pub mod Containers
+pub mod Searches
 pub mod Fields
 pub mod Laws
-pub mod LocalPaths
-pub mod LocalSides
-pub mod Matches
 pub mod Outcomes
-pub mod Refused
-pub mod Searches

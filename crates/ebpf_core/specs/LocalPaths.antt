@@ -1,36 +1,69 @@
--- What an access string means in a local type (the kernel's tools/lib/bpf/relo_core.c, bpf_core_parse_spec).
-use Rattle.std.specs.Prelude.{ℕ, ◌+◌, ◌==◌, ◌&&◌, ◌||◌, nat_lt, Bool, false, List, [], ◌∷◌, ◌++◌, length, fold, Option, Some, None, Result, Ok, Err, slice_get, if◌then◌else◌}
+-- What a record says of its local type, as an equation and step by step.
+use Rattle.std.specs.Prelude.{ℕ, ◌^◌, ◌==◌, ◌&&◌, nat_le, nat_lt, List, [], ◌∷◌, length, map, Option, Some, None, option_map, Result, Ok, Err, if◌then◌else◌, ◌+◌, ◌||◌, Bool, false, ◌++◌, fold, slice_get, ◌≡◌}
+use Rattle.std.specs.List.{slice_split}
+use Rattle.std.specs.Str.{all_ascii_digits}
+use Rattle.std.specs.Str.Parse.{digits_value, without_leading_plus}
 use Rattle.std.specs.Result.{result_ok}
+use Rattle.ebpf_base.specs.Faults.{if_ok}
+use Rattle.ebpf_btf.specs.Next.{if_some}
 use Rattle.ebpf_btf.specs.declared.array.BtfArray.{BtfArray}
 use Rattle.ebpf_btf.specs.declared.members.BtfMember.{BtfMember}
 use Rattle.ebpf_ext.specs.declared.relocation.Relocation.{Relocation}
 use Rattle.ebpf_btf.specs.declared.types.BtfType.{BtfType}
 use Rattle.ebpf_btf.specs.declared.variants.BtfVariant.{BtfVariant}
-use Rattle.ebpf_btf.specs.Next.{if_some}
 use Rattle.ebpf_btf.specs.Steps.{resolved, resolved_type, type_at}
 use Rattle.ebpf_btf.specs.Strings.{text_at, type_name}
 use Rattle.ebpf_btf.specs.TypeInfo.{TypeInfo}
 use Rattle.ebpf_btf.specs.Types.{array_of, bit_offset, members_of}
 use Rattle.ebpf_btf.specs.Variants.{variants_of}
-use Rattle.ebpf_core.specs.declared.error.RelocationError.{RelocationError}
-use Rattle.ebpf_core.specs.declared.error.RelocationError.TheVariants.{InvalidAccessString, InvalidAccessIndex, InvalidRelocationKindForType}
-use Rattle.ebpf_core.specs.declared.paths.LocalPath.{LocalPath}
-use Rattle.ebpf_core.specs.declared.paths.NamedPath.{NamedPath}
-use Rattle.ebpf_core.specs.declared.paths.NamedPath.TheVariants as paths
-use Rattle.ebpf_core.specs.declared.local_walk.LocalSpot.{LocalSpot}
-use Rattle.ebpf_core.specs.declared.relocation_basis.RelocationBasis.{RelocationBasis}
-use Rattle.ebpf_core.specs.declared.relocation_basis.RelocationBasis.TheVariants as bases
 use Rattle.ebpf_core_places.specs.declared.places.PlaceEnd.{PlaceEnd}
 use Rattle.ebpf_core_places.specs.declared.places.PlaceEnd.TheVariants.{Element, Member}
-use Rattle.ebpf_core_places.specs.declared.steps.Step.{Step}
-use Rattle.ebpf_core_places.specs.declared.steps.Step.TheVariants.{Name, Index}
+use Rattle.ebpf_core_places.specs.declared.places.Step.{Step}
+use Rattle.ebpf_core_places.specs.declared.places.Step.TheVariants.{Name, Index}
 use Rattle.ebpf_core_places.specs.Places.{checked_place, element_place, is_last_of}
-use Rattle.ebpf_core.specs.AccessStrings.{accessors}
-use Rattle.ebpf_base.specs.Results.{if_ok}
-use Rattle.ebpf_core.specs.Answers.{of_types}
 use Rattle.ebpf_ext.specs.declared.relocation.RelocationKind.{RelocationKind}
 use Rattle.ebpf_ext.specs.declared.relocation.RelocationKind.TheVariants.{FieldByteOffset, FieldByteSize, FieldExists, FieldSigned, FieldLShift64, FieldRShift64, TypeIdLocal, TypeIdTarget, TypeExists, TypeSize, EnumVariantExists, EnumVariantValue}
-use Rattle.ebpf_core.specs.declared.relocation_basis.RelocationBasis.TheVariants.{Field, WholeType, Variant}
+use Rattle.ebpf_btf.specs.declared.error.BtfError.{BtfError as TypeError}
+use Rattle.ebpf_core.specs.declared.error.RelocationError.{RelocationError}
+use Rattle.ebpf_core.specs.declared.error.RelocationError.TheVariants.{InvalidAccessString, MaximumNestingLevelReached, InvalidAccessIndex, InvalidRelocationKindForType, BtfError}
+use Rattle.ebpf_core.specs.declared.paths.LocalPath.{LocalPath}
+use Rattle.ebpf_core.specs.declared.paths.NamedPath.{NamedPath}
+use Rattle.ebpf_core.specs.declared.local_walk.LocalSpot.{LocalSpot}
+use Rattle.ebpf_core.specs.declared.paths.RelocationBasis.{RelocationBasis}
+use Rattle.ebpf_core.specs.Answers.{of_types}
+use Rattle.ebpf_core.specs.declared.paths.RelocationBasis.TheVariants.{Field, WholeType, Variant}
+use Rattle.ebpf_core.specs.declared.paths.NamedPath.TheVariants as paths
+use Rattle.ebpf_core.specs.declared.paths.RelocationBasis.TheVariants as bases
+
+-- the number that some decimal digits write, where there are any and it has at most 64 bits
+abbrev pub number_of_digits : List ℕ → Option ℕ
+number_of_digits digits =
+    if nat_lt 0 (length digits) && all_ascii_digits digits && nat_lt (digits_value 10 digits) (2 ^ 64) then Some (digits_value 10 digits) else None
+
+-- an accessor: the number that a piece writes, before which a plus may stand
+unfoldable pub accessor_of : List ℕ → Option ℕ
+accessor_of piece = number_of_digits (without_leading_plus piece)
+
+-- all members of a list, where each is there
+abbrev pub all_of : {X : Type 0} → List (Option X) → Option (List X)
+all_of [] = Some []
+all_of (None ∷ xs) = None
+all_of (Some x ∷ xs) = option_map (λ ys. x ∷ ys) (all_of xs)
+
+-- the accessors of an access string, where each piece between its colons is one
+abbrev pub accessors_of : List ℕ → Option (List ℕ)
+accessors_of access = all_of (map accessor_of (slice_split (λ b. b == 58) access))
+
+-- how many accessors there may be
+abbrev pub most_accessors : ℕ
+most_accessors = 64
+
+-- the accessors, of which there may be so many; the faults speak of the local type's name and of the string
+abbrev pub accessors : List ℕ → List ℕ → Result (List ℕ) RelocationError
+accessors type_name access =
+    if_some (accessors_of access)
+    (λ parts. if nat_le (length parts) most_accessors then Ok parts else Err (MaximumNestingLevelReached type_name))
+    (Err (InvalidAccessString access))
 
 -- ---- whether records are on fields, types or variants, by their kinds (the kernel's include/uapi/linux/bpf.h, enum bpf_core_relo_kind)
 
@@ -156,3 +189,57 @@ local_path info r =
     if_ok (accessors name access) (λ parts.
     if_ok (of_types (resolved info.types r.type_id)) (λ id.
     if_ok (path_for info r.number access id parts (basis_of r.kind)) (λ path. Ok (record { type_name = name; path = path })))))))
+
+-- ---- what a record says of its local type, step by step
+
+-- Some accessors of an access string lead so from a spot: one after the other, up to the first that has a fault.
+pub data AccessorsLead (info : TypeInfo) (number : ℕ) (access : List ℕ) : List ℕ → LocalSpot → Result LocalSpot RelocationError → Type 0 where
+  Arrived : (from : LocalSpot) → AccessorsLead info number access [] from (Ok from)
+  Refused : (part : ℕ) (parts : List ℕ) (from : LocalSpot) (fault : RelocationError) → part_step info number access from part ≡ Err fault
+      → AccessorsLead info number access (part ∷ parts) from (Err fault)
+  Onward : (part : ℕ) (parts : List ℕ) (from next : LocalSpot) (answer : Result LocalSpot RelocationError)
+      → part_step info number access from part ≡ Ok next → AccessorsLead info number access parts next answer
+      → AccessorsLead info number access (part ∷ parts) from answer
+
+-- The accessors of an access string lead so to a field of the type with an id. The first accessor counts in the type itself.
+pub data FieldLeads (info : TypeInfo) (number : ℕ) (access : List ℕ) (id : ℕ) : List ℕ → Result NamedPath RelocationError → Type 0 where
+  NoPart : FieldLeads info number access id [] (wrong_string access)
+  NoRoot : (root : ℕ) (parts : List ℕ) (fault : RelocationError) → spot_at_element info [] 0 id root ≡ Err fault
+      → FieldLeads info number access id (root ∷ parts) (Err fault)
+  NoField : (root : ℕ) (parts : List ℕ) (start : LocalSpot) (fault : RelocationError) → spot_at_element info [] 0 id root ≡ Ok start
+      → AccessorsLead info number access parts start (Err fault) → FieldLeads info number access id (root ∷ parts) (Err fault)
+  ToField : (root : ℕ) (parts : List ℕ) (start end : LocalSpot) → spot_at_element info [] 0 id root ≡ Ok start
+      → AccessorsLead info number access parts start (Ok end) → FieldLeads info number access id (root ∷ parts) (Ok (paths.Field end.steps end.place))
+
+-- The accessors of a record's access string lead so in the type with an id, by what the record's kind asks about.
+pub data LocalPathLeads (info : TypeInfo) (r : Relocation) (access : List ℕ) (id : ℕ) (parts : List ℕ) : Result NamedPath RelocationError → Type 0 where
+  OfType : basis_of r.kind ≡ bases.WholeType → LocalPathLeads info r access id parts (type_path access parts)
+  NoType : (e : TypeError) → basis_of r.kind ≡ bases.Variant → type_at info.types id ≡ Err e → LocalPathLeads info r access id parts (Err (BtfError e))
+  OfVariant : (t : BtfType) → basis_of r.kind ≡ bases.Variant → type_at info.types id ≡ Ok t
+      → LocalPathLeads info r access id parts (variant_path info r.number access t parts)
+  OfField : (answer : Result NamedPath RelocationError) → basis_of r.kind ≡ bases.Field → FieldLeads info r.number access id parts answer
+      → LocalPathLeads info r access id parts answer
+
+-- a record's local type, its name, and the access string
+pub record IsRead (info : TypeInfo) (r : Relocation) (name access : List ℕ) : Type 0 where
+  pub type : BtfType
+  pub there : type_at info.types r.type_id ≡ Ok type
+  pub named : type_name info type ≡ Ok name
+  pub access_is : text_at info.strings r.access_str_off ≡ Ok access
+
+-- The local side of a record is so: the first of its steps that has a fault, or the name of the type and the path in it.
+-- The type is resolved once the string is read.
+pub data LocalSideIs (info : TypeInfo) (r : Relocation) : Result LocalPath RelocationError → Type 0 where
+  NoLocalType : (e : TypeError) → type_at info.types r.type_id ≡ Err e → LocalSideIs info r (Err (BtfError e))
+  NoName : (t : BtfType) (e : TypeError) → type_at info.types r.type_id ≡ Ok t → type_name info t ≡ Err e → LocalSideIs info r (Err (BtfError e))
+  NoString : (t : BtfType) (name : List ℕ) (e : TypeError) → type_at info.types r.type_id ≡ Ok t → type_name info t ≡ Ok name
+      → text_at info.strings r.access_str_off ≡ Err e → LocalSideIs info r (Err (BtfError e))
+  NoAccessors : (name access : List ℕ) (fault : RelocationError) → IsRead info r name access → accessors name access ≡ Err fault
+      → LocalSideIs info r (Err fault)
+  NotResolved : (name access parts : List ℕ) (e : TypeError) → IsRead info r name access → accessors name access ≡ Ok parts
+      → resolved info.types r.type_id ≡ Err e → LocalSideIs info r (Err (BtfError e))
+  NoPath : (name access parts : List ℕ) (id : ℕ) (fault : RelocationError) → IsRead info r name access → accessors name access ≡ Ok parts
+      → resolved info.types r.type_id ≡ Ok id → LocalPathLeads info r access id parts (Err fault) → LocalSideIs info r (Err fault)
+  Led : (name access parts : List ℕ) (id : ℕ) (path : NamedPath) → IsRead info r name access → accessors name access ≡ Ok parts
+      → resolved info.types r.type_id ≡ Ok id → LocalPathLeads info r access id parts (Ok path)
+      → LocalSideIs info r (Ok (record { type_name = name; path = path }))

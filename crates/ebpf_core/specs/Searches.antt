@@ -1,9 +1,11 @@
 -- The types of a kernel that a local type may stand for, and what a record comes to over them (the kernel's
 -- tools/lib/bpf/libbpf.c, bpf_core_find_cands, and relo_core.c, bpf_core_calc_relo_insn).
 use Rattle.std.specs.Prelude.{ℕ, ◌&&◌, Bool, true, false, List, Option, Some, None, is_some, Result, Ok, Err, if◌then◌else◌, ◌≡◌, [], ◌∷◌, slice_get}
-use Rattle.ebpf_core_candidates.specs.Candidates.{candidates, candidates_fault, candidates_of_both, candidates_of_both_fault}
+use Rattle.std.specs.BTreeMap.{BTreeMap, get}
+use Rattle.std.specs.Ordering.{nat_cmp, ordering_then}
+use Rattle.std.specs.declared.cmp.Ordering.{Ordering}
+use Rattle.ebpf_core_candidates.specs.Candidates.{candidates, candidates_fault, candidates_of_both, candidates_of_both_fault, IndexedTypes, has_named, is_among_kinds}
 use Rattle.ebpf_btf.specs.declared.error.BtfError.{BtfError}
-use Rattle.ebpf_btf.specs.declared.kind.BtfKind.TheVariants as kinds
 use Rattle.ebpf_ext.specs.declared.relocation.Relocation.{Relocation}
 use Rattle.ebpf_ext.specs.declared.relocation.RelocationKind.{RelocationKind}
 use Rattle.ebpf_ext.specs.declared.relocation.RelocationKind.TheVariants.{TypeIdLocal}
@@ -13,14 +15,15 @@ use Rattle.ebpf_btf.specs.Strings.{type_name}
 use Rattle.ebpf_btf.specs.TypeInfo.{TypeInfo}
 use Rattle.ebpf_btf.specs.Types.{is_kind, kind_of}
 use Rattle.ebpf_btf.specs.Variants.{variants_of}
+use Rattle.ebpf_base.specs.Faults.{if_ok}
+use Rattle.ebpf_btf.specs.declared.kind.BtfKind.{BtfKind}
+use Rattle.ebpf_ext.specs.RelocationKinds.{relocation_kind_number}
+use Rattle.ebpf_btf.specs.declared.kind.BtfKind.TheVariants as kinds
 use Rattle.ebpf_core.specs.declared.error.RelocationError.{RelocationError}
 use Rattle.ebpf_core.specs.declared.outcome.Outcome.{Outcome}
-use Rattle.ebpf_base.specs.Results.{if_ok}
 use Rattle.ebpf_core.specs.Answers.{of_types}
 use Rattle.ebpf_core.specs.LocalPaths.{local_path}
 use Rattle.ebpf_core.specs.Outcomes.{outcome_among}
-use Rattle.ebpf_btf.specs.declared.kind.BtfKind.{BtfKind}
-use Rattle.ebpf_core_candidates.specs.IndexedTypes.{IndexedTypes, has_named, is_among_kinds}
 
 -- the types of an object, and those in which they are looked for
 pub record Sides : Type 0 where
@@ -78,3 +81,24 @@ pub record IsLocalType (local : TypeInfo) (t : BtfType) (name : List ℕ) : Type
 abbrev pub HasLocalNames : IndexedTypes → TypeInfo → BtfKind → BtfKind → Type 0
 HasLocalNames index local first second = (t : BtfType) (name : List ℕ) → IsLocalType local t name → is_among_kinds (first ∷ second ∷ []) (kind_of t) ≡ true
     → (has_named index first name ≡ true) × (has_named index second name ≡ true)
+
+-- ---- the question of a record, and outcomes that are cached for records with the same question
+
+-- its type and the offset of its access string, and the number of its kind
+abbrev pub Question : Type 0
+Question = (ℕ × ℕ) × ℕ
+
+abbrev pub question_of : Relocation → Question
+question_of r = ((r.type_id, r.access_str_off), relocation_kind_number r.kind)
+
+-- the order of questions
+abbrev pub question_cmp : Question → Question → Ordering
+question_cmp a b = ordering_then (ordering_then (nat_cmp a.0.0 b.0.0) (nat_cmp a.0.1 b.0.1)) (nat_cmp a.1 b.1)
+
+-- What is cached for a question holds of each record with it.
+abbrev pub AreCached : {X : Type 0} → (Relocation → X → Type 0) → BTreeMap Question X → Type 0
+AreCached {X} Holds cached = (q : Question) (x : X) → get question_cmp cached q ≡ Some x → (r : Relocation) → question_of r ≡ q → Holds r x
+
+-- each such record comes to the outcome
+abbrev pub OutcomesAreCached : TypeInfo → TypeInfo → BTreeMap Question Outcome → Type 0
+OutcomesAreCached local target cached = AreCached (λ r outcome. outcome_of local target r ≡ Ok outcome) cached

@@ -1,14 +1,16 @@
-//! Why a slot could not be relocated to another kernel's types.
+//! Why a slot could not be relocated to another kernel's types, and the words of it.
 
-ghost use Rattle.std.specs.Prelude.{◌≡◌};
-ghost use Rattle.ebpf_core.specs.Answers.{of_type_error};
+ghost use Rattle.std.specs.Prelude.{◌≡◌, [], Err};
+ghost use Rattle.ebpf_core.specs.Answers.{of_type_error, Tells};
 ghost use Rattle.ebpf_core.specs.declared.error.RelocationError.TheVariants.{OutOfMemory};
+ghost use Rattle.ebpf_core.specs.declared.error.RelocationError.TheVariants as errors;
 
-use crate::wording::Names;
 use ebpf_base::{Items, Text};
-use ebpf_btf::BtfError;
+use ebpf_btf::{BtfError, BtfKind};
+use ebpf_core_places::Step;
 use ebpf_ext::RelocationKind;
-use std::alloc::{AllocError, AllocFailed};
+use std::alloc::{AllocError, AllocFailed, Global};
+use std::fmt;
 use thiserror::Error;
 
 /// Why a record of `.BTF.ext` on a type, a field or a variant could not be applied.
@@ -112,5 +114,155 @@ impl From<BtfError> for RelocationError {
             BtfError::OutOfMemory => RelocationError::OutOfMemory,
             error => RelocationError::BtfError(error),
         }
+    }
+}
+
+/// `InvalidAccessString` of an access string.
+pub fn invalid_access_string<X>(alloc: Global, access: &str) -> Result<X, RelocationError>
+    ensures { Tells result (Err (errors.InvalidAccessString access.now)) }
+{
+    let access_str = Text::from_str(alloc, access)?;
+    Err(RelocationError::InvalidAccessString { access_str })
+}
+
+/// `MaximumNestingLevelReached` in the type with a name.
+pub fn too_nested<X>(alloc: Global, type_name: &str) -> Result<X, RelocationError>
+    ensures { Tells result (Err (errors.MaximumNestingLevelReached type_name.now)) }
+{
+    let type_name = Text::from_str(alloc, type_name)?;
+    Err(RelocationError::MaximumNestingLevelReached { type_name })
+}
+
+/// `InvalidAccessIndex`: accessor `index` of an access string is past the `len` things, as `members`, at a place.
+pub fn invalid_access_index<X>(
+    alloc: Global,
+    access: &str,
+    place: Text,
+    index: usize,
+    len: usize,
+    things: &str,
+) -> Result<X, RelocationError>
+    ensures { Tells result (Err (errors.InvalidAccessIndex [] access.now index len [])) }
+{
+    let spec = Text::from_str(alloc, access)?;
+    let error = format!(in alloc; "{things} count from 0")?;
+    Err(RelocationError::InvalidAccessIndex {
+        access_path: place,
+        spec,
+        index,
+        len,
+        error: Text::from_string(error),
+    })
+}
+
+/// `InvalidRelocationKindForType`: what a record asks can't be asked of what stands at a place, as `an integer`.
+pub fn invalid_kind<X>(
+    alloc: Global,
+    number: usize,
+    kind: RelocationKind,
+    place: Text,
+    thing: &str,
+) -> Result<X, RelocationError>
+    ensures { Tells result (Err (errors.InvalidRelocationKindForType number [] [] [])) }
+{
+    let relocation_kind = Text::from_str(alloc, relocation_words(kind))?;
+    let type_kind = Text::from_str(alloc, thing)?;
+    Err(RelocationError::InvalidRelocationKindForType {
+        relocation_number: number,
+        relocation_kind,
+        type_kind,
+        error: place,
+    })
+}
+
+/// A record, as its errors speak of it.
+#[derive(Clone, Copy)]
+pub struct Request<'a> {
+    /// The place among the records of its section.
+    pub number: usize,
+    pub kind: RelocationKind,
+    /// The access string.
+    pub access: &'a str,
+    /// The name of the local type.
+    pub type_name: &'a str,
+}
+
+/// What the records of a kind ask.
+pub fn relocation_words(kind: RelocationKind) -> &'static str {
+    match kind {
+        RelocationKind::FieldByteOffset => "the byte offset of a field",
+        RelocationKind::FieldByteSize => "the byte size of a field",
+        RelocationKind::FieldExists => "the existence of a field",
+        RelocationKind::FieldSigned => "the sign of a field",
+        RelocationKind::FieldLShift64 => "the left shift of a field",
+        RelocationKind::FieldRShift64 => "the right shift of a field",
+        RelocationKind::TypeIdLocal => "the local id of a type",
+        RelocationKind::TypeIdTarget => "the id of a type",
+        RelocationKind::TypeExists => "the existence of a type",
+        RelocationKind::TypeSize => "the size of a type",
+        RelocationKind::EnumVariantExists => "the existence of a variant",
+        RelocationKind::EnumVariantValue => "the value of a variant",
+    }
+}
+
+/// What a kind is called.
+pub fn kind_words(kind: BtfKind) -> &'static str {
+    match kind {
+        BtfKind::Unknown => "void",
+        BtfKind::Int => "an integer",
+        BtfKind::Ptr => "a pointer",
+        BtfKind::Array => "an array",
+        BtfKind::Struct => "a struct",
+        BtfKind::Union => "a union",
+        BtfKind::Enum | BtfKind::Enum64 => "an enumeration",
+        BtfKind::Fwd => "a type that is only declared",
+        BtfKind::Typedef => "a typedef",
+        BtfKind::Volatile => "a volatile type",
+        BtfKind::Const => "a const type",
+        BtfKind::Restrict => "a restrict type",
+        BtfKind::Func => "a function",
+        BtfKind::FuncProto => "a function's type",
+        BtfKind::Var => "a variable",
+        BtfKind::DataSec => "a section",
+        BtfKind::Float => "a floating point number",
+        BtfKind::DeclTag | BtfKind::TypeTag => "a tag",
+    }
+}
+
+/// Adds a step to the words of a path.
+fn push_step(alloc: Global, words: &mut String, step: &Step) -> Result<(), AllocError> {
+    match step {
+        Step::Name { name, .. } => {
+            words.push_str(".")?;
+            words.push_str(name.as_str())
+        }
+        Step::Index { index } => {
+            let part = format!(in alloc; "[{index}]")?;
+            words.push_str(part.as_str())
+        }
+    }
+}
+
+/// A type's name and steps in it, as `task_struct[0].comm[3]`.
+pub fn path_words(alloc: Global, type_name: &str, steps: &[Step]) -> Result<Text, AllocError> {
+    let mut words = String::from_str(alloc, type_name)?;
+    for step in steps {
+        push_step(alloc, &mut words, step)?;
+    }
+    Ok(Text::from_string(words))
+}
+
+/// Names with commas between them.
+#[derive(Clone, Copy)]
+pub struct Names<'a>(pub &'a [Text]);
+
+impl fmt::Display for Names<'_> {
+    fn fmt<W: fmt::Write>(&self, f: &mut fmt::Formatter<W>) -> fmt::Result {
+        let mut comma = "";
+        for name in self.0 {
+            write!(f, "{comma}{:?}", name.as_str())?;
+            comma = ", ";
+        }
+        Ok(())
     }
 }

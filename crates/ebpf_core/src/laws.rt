@@ -27,7 +27,7 @@ pub fn first_fault_refuses()
 
 /// Records with the same type, access string and kind come to the same outcome: it rests neither on their numbers nor on
 /// their instructions.
-#[tactic(auto, using(crate::proofs::Questions::outcomes_rest_on_questions))]
+#[tactic(auto, using(crate::proofs::Searching::outcomes_rest_on_questions))]
 pub fn outcomes_rest_on_questions()
     ensures { OutcomesRestOnQuestions }
 {}

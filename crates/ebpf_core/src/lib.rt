@@ -4,25 +4,17 @@
 //! type of the kernel that has the same kind and name, and all that are found have to agree.
 #![tactic(auto)]
 
-mod access;
 mod error;
-mod extent;
-mod faults;
 mod field;
 pub mod laws;
 mod local_walk;
 mod matches;
 mod outcome;
 mod paths;
-mod question;
-mod relocation_basis;
 mod search;
-mod values;
-mod wording;
 
 pub use error::RelocationError;
 pub use field::{FieldClass, LoadedField};
 pub use outcome::{Outcome, outcome_among};
 pub use paths::{LocalPath, NamedPath, local_path};
-pub use question::{Question, question_of};
-pub use search::CoreSearch;
+pub use search::{CoreSearch, Question, question_of};

@@ -4,10 +4,11 @@ ghost use Rattle.std.specs.Prelude.{◌≡◌, Ok};
 ghost use Rattle.ebpf_core.specs.Answers.{Tells};
 ghost use Rattle.ebpf_core.specs.LocalPaths.{ends_struct, field_path, into_array, into_members, is_element, part_step, spot_at_element, spot_at_member, type_of_step, spot_after};
 
-use crate::error::RelocationError;
-use crate::faults::{invalid_access_index, invalid_access_string, invalid_kind};
+use crate::error::{
+    RelocationError, Request, invalid_access_index, invalid_access_string, invalid_kind,
+    kind_words, path_words,
+};
 use crate::paths::NamedPath;
-use crate::wording::{Request, kind_words, path_words};
 use ebpf_base::{Items, Text};
 use ebpf_btf::{Btf, BtfArray, BtfMember, BtfType, Rows};
 use ebpf_core_places::{Place, PlaceEnd, Step, checked_place, element_place, is_last_of};
@@ -188,7 +189,7 @@ fn part_step(
 }
 
 /// Where accessors lead, one after the other.
-#[tactic(auto, using(crate::proofs::WalkSteps::parts_over))]
+#[tactic(auto, using(crate::proofs::LocalSides::parts_over))]
 fn walk(
     alloc: Global,
     local: &Btf,

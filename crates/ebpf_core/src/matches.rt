@@ -1,19 +1,22 @@
-//! The candidates that a local path fits.
+//! The candidates that a local path fits, and what a record learns of them.
 
 ghost use Rattle.std.specs.Prelude.{◌≡◌, [], unwrap_or, Err};
+ghost use Rattle.std.specs.Result.{result_ok};
 ghost use Rattle.ebpf_btf.specs.Variants.{variants_of};
-ghost use Rattle.ebpf_core.specs.Answers.{Tells, of_types};
-ghost use Rattle.ebpf_core.specs.Matches.{by_place, first_variant, found_at_candidate, matches, type_name_at, variant_in};
+ghost use Rattle.ebpf_core.specs.Answers.{Tells, of_types, each};
+ghost use Rattle.ebpf_core.specs.Outcomes.{by_place, first_variant, found_at_candidate, matches, type_name_at, variant_in, values_agree, field_in, match_value, match_of_number, type_value, variant_value};
 ghost use Rattle.ebpf_core_places.specs.Places.{place_of};
-ghost use Rattle.ebpf_core_places.specs.declared.fault.PlaceFault.TheVariants.{NestingLevel};
+ghost use Rattle.ebpf_core_places.specs.declared.places.PlaceFault.TheVariants.{NestingLevel};
+ghost use Rattle.ebpf_core.specs.Fields.{field_value};
 
-use crate::error::RelocationError;
-use crate::faults::too_nested;
+use crate::error::{RelocationError, too_nested};
+use crate::field::{LoadedField, field_value};
 use crate::paths::NamedPath;
 use ebpf_base::{Items, Text};
 use ebpf_btf::{Btf, BtfError, BtfType};
 use ebpf_core_candidates::types_are_compatible;
 use ebpf_core_places::{Place, PlaceFault, Step, place_in};
+use ebpf_ext::RelocationKind;
 use std::alloc::Global;
 
 /// What a path leads to in a type that matches.
@@ -46,7 +49,7 @@ pub fn type_name_at(alloc: Global, btf: &Btf, type_id: u32) -> Result<Text, Relo
 }
 
 /// The value of the first variant of a type that has a name, flavors aside.
-#[tactic(auto, using(crate::proofs::FirstVariants::variant_passed, crate::proofs::FirstVariants::variant_has_name, crate::proofs::FirstVariants::variant_fault, crate::proofs::FirstVariants::variant_missing, crate::proofs::FirstVariants::variants_over))]
+#[tactic(auto, using(crate::proofs::MatchSteps::variant_passed, crate::proofs::MatchSteps::variant_has_name, crate::proofs::MatchSteps::variant_fault, crate::proofs::MatchSteps::variant_missing, crate::proofs::MatchSteps::variants_over))]
 fn first_variant(target: &Btf, name: &str, ty: &BtfType<'_>) -> Result<Option<u64>, BtfError>
     ensures { result ≡ first_variant target.now name.now (unwrap_or (variants_of ty.now) []) }
 {
@@ -83,7 +86,7 @@ fn too_nested_in(
 
 /// Whether a field path leads anywhere in a candidate.
 #[tactic(auto, using(crate::proofs::Refusals::place_found, crate::proofs::Refusals::place_missing, crate::proofs::Refusals::place_nested, crate::proofs::Refusals::place_refused))]
-fn field_in(
+fn field_found(
     alloc: Global,
     local: &Btf,
     target: &Btf,
@@ -101,7 +104,7 @@ fn field_in(
 }
 
 /// What a path of the local type `local_id` leads to in a candidate.
-#[tactic(auto, unfolding(crate::specs::Matches::found_at_candidate))]
+#[tactic(auto, unfolding(crate::specs::Outcomes::found_at_candidate))]
 fn found_at_candidate(
     alloc: Global,
     local: &Btf,
@@ -124,7 +127,7 @@ fn found_at_candidate(
             None => Ok(None),
         },
         NamedPath::Field { steps, .. } => {
-            field_in(alloc, local, target, candidate, steps.as_slice())
+            field_found(alloc, local, target, candidate, steps.as_slice())
         }
     }
 }
@@ -153,4 +156,111 @@ pub fn matches_among(
         })?;
     }
     Ok(matches)
+}
+
+/// What a match gives.
+#[derive(Clone, Copy)]
+pub struct MatchValue {
+    /// The candidate's id.
+    pub candidate: u32,
+    /// The bits from the start of the candidate to the field; 0 where no field is asked about.
+    pub bits: u32,
+    /// The number that the record asks for, where it can be had.
+    pub number: Option<u64>,
+    /// What is loaded of the field, where its place is asked for and it is no bit field.
+    pub loaded: Option<LoadedField>,
+}
+
+/// A number of a type or a variant.
+fn match_of_number(candidate: u32, number: u64) -> MatchValue
+    ensures { result ≡ match_of_number candidate number }
+{
+    MatchValue {
+        candidate,
+        bits: 0,
+        number: Some(number),
+        loaded: None,
+    }
+}
+
+/// What a kind asks of a type.
+fn type_value(target: &Btf, kind: RelocationKind, candidate: u32) -> Result<u64, BtfError>
+    ensures { result ≡ type_value target.now kind candidate }
+{
+    match kind {
+        RelocationKind::TypeSize => Ok(u64::from(target.type_size(candidate)?)),
+        RelocationKind::TypeIdTarget => Ok(u64::from(candidate)),
+        _ => Ok(1),
+    }
+}
+
+/// What a kind asks of a variant.
+fn variant_value(kind: RelocationKind, value: u64) -> u64
+    ensures { result ≡ variant_value kind value }
+{
+    match kind {
+        RelocationKind::EnumVariantValue => value,
+        _ => 1,
+    }
+}
+
+/// What a kind asks of a field, where it can be had.
+fn field_in(target: &Btf, kind: RelocationKind, candidate: u32, place: Place) -> MatchValue
+    ensures { result ≡ field_in candidate place.bits (result_ok (field_value target.now kind place)) }
+{
+    let value = field_value(target, kind, place).ok();
+    MatchValue {
+        candidate,
+        bits: place.bits,
+        number: value.map(|value| value.number),
+        loaded: value.and_then(|value| value.loaded),
+    }
+}
+
+/// What a match gives. `BtfError` where the size of a type is asked that has none.
+#[tactic(auto, unfolding(crate::specs::Outcomes::match_value))]
+fn match_value(
+    target: &Btf,
+    kind: RelocationKind,
+    found: Match,
+) -> Result<MatchValue, RelocationError>
+    ensures { Tells result (match_value target.now kind found) }
+{
+    match found.found {
+        Found::WholeType => Ok(match_of_number(
+            found.candidate,
+            type_value(target, kind, found.candidate)?,
+        )),
+        Found::Variant { value } => Ok(match_of_number(
+            found.candidate,
+            variant_value(kind, value),
+        )),
+        Found::Field { place } => Ok(field_in(target, kind, found.candidate, place)),
+    }
+}
+
+/// What all matches give, in order.
+#[tactic(auto, using(crate::proofs::LocalSides::each_more, crate::proofs::LocalSides::each_fault, crate::proofs::LocalSides::each_end, crate::proofs::Refusals::also))]
+pub fn match_values(
+    alloc: Global,
+    target: &Btf,
+    kind: RelocationKind,
+    matches: &[Match],
+) -> Result<Items<MatchValue>, RelocationError>
+    ensures { Tells result (each (match_value target.now kind) matches.now) }
+{
+    let mut values = Items::new(alloc);
+    for found in matches {
+        values.push(match_value(target, kind, *found)?)?;
+    }
+    Ok(values)
+}
+
+impl MatchValue {
+    /// Whether two matches have the same bits and the same number, or both no number.
+    pub fn agrees(self, other: MatchValue) -> bool
+        ensures { result ≡ values_agree self other }
+    {
+        self.bits == other.bits && self.number == other.number
+    }
 }

@@ -1,18 +1,15 @@
 //! What a record comes to.
 
-ghost use Rattle.std.specs.Prelude.{◌≡◌, not, IfErr, MatchBool, ⊤};
-ghost use Rattle.ebpf_core.specs.Answers.{Tells, each, without_texts, is_record_memory};
+ghost use Rattle.std.specs.Prelude.{◌≡◌, IfErr, MatchBool, ⊤};
+ghost use Rattle.ebpf_core.specs.Answers.{Tells, without_texts, is_record_memory};
 ghost use Rattle.ebpf_core.specs.Fields.{field_value};
-ghost use Rattle.ebpf_core.specs.Refused.{AmongIsRefused};
+ghost use Rattle.ebpf_core.specs.Laws.{AmongIsRefused};
 ghost use Rattle.ebpf_core.specs.Outcomes.{outcome_of_matches, differing_names, loaded_by, local_loaded, outcome_among, without_match};
 
-use crate::error::RelocationError;
-use crate::faults::invalid_kind;
+use crate::error::{RelocationError, invalid_kind, path_words};
 use crate::field::{FieldFault, LoadedField, field_value};
-use crate::matches::{matches_among, type_name_at};
+use crate::matches::{MatchValue, match_values, matches_among, type_name_at};
 use crate::paths::{LocalPath, NamedPath};
-use crate::values::{MatchValue, match_values};
-use crate::wording::path_words;
 use ebpf_base::{Items, Text};
 use ebpf_btf::Btf;
 use ebpf_core_places::{Place, Step};
@@ -98,7 +95,7 @@ fn local_loaded(
 }
 
 /// The names of the types whose matches differ from the first.
-#[tactic(auto, using(crate::proofs::WalkSteps::agreeing, crate::proofs::WalkSteps::differing, crate::proofs::WalkSteps::unreadable, crate::proofs::WalkSteps::others_over, crate::proofs::Refusals::also))]
+#[tactic(auto, using(crate::proofs::LocalSides::agreeing, crate::proofs::LocalSides::differing, crate::proofs::LocalSides::unreadable, crate::proofs::LocalSides::others_over, crate::proofs::Refusals::also))]
 fn differing_names(
     alloc: Global,
     target: &Btf,

@@ -1,21 +1,20 @@
 //! What a record says of its local type.
 
-ghost use Rattle.std.specs.Prelude.{◌≡◌};
+ghost use Rattle.std.specs.Prelude.{◌≡◌, ◌==◌, IfOk, map};
+ghost use Rattle.std.specs.List.{slice_split};
 ghost use Rattle.ebpf_core.specs.Answers.{Tells, TellsSo};
-ghost use Rattle.ebpf_core.specs.LocalSides.{LocalSideIs};
-ghost use Rattle.ebpf_core.specs.LocalPaths.{local_path, lone, named_variant, path_for, type_path, variant_path, basis_of};
+ghost use Rattle.ebpf_core.specs.LocalPaths.{LocalSideIs, local_path, lone, named_variant, path_for, type_path, variant_path, basis_of, accessors, all_of, accessor_of, accessors_of};
 
-use crate::access::accessors;
-use crate::error::RelocationError;
-use crate::faults::{invalid_access_index, invalid_access_string, invalid_kind};
+use crate::error::{
+    RelocationError, Request, invalid_access_index, invalid_access_string, invalid_kind,
+    kind_words, too_nested,
+};
 use crate::local_walk::field_path;
-use crate::relocation_basis::{RelocationBasis, basis_of};
-use crate::wording::{Request, kind_words};
 use ebpf_base::{Items, Text};
 use ebpf_btf::{Btf, BtfType, BtfVariant};
 use ebpf_core_places::{Place, Step};
-use ebpf_ext::Relocation;
-use std::alloc::Global;
+use ebpf_ext::{Relocation, RelocationKind};
+use std::alloc::{AllocError, Global};
 
 /// What a record asks about, by the names that its local type has.
 #[derive(Debug, Drop)]
@@ -170,4 +169,99 @@ pub fn local_path(
     ensures same { Tells result (local_path local.now relocation.now) }
 {
     local_side(alloc, local, relocation)
+}
+
+/// How many accessors an access string may have.
+const MOST_ACCESSORS: usize = 64;
+
+/// The number that a piece of an access string writes.
+fn accessor_of(piece: &str) -> Option<usize>
+    ensures { result ≡ accessor_of piece.now }
+{
+    piece.parse::<usize>().ok()
+}
+
+/// The pieces between the colons of an access string.
+fn pieces_of(alloc: Global, access: &str) -> Result<Vec<&str>, AllocError>
+    ensures { IfOk result (λ pieces. map (λ piece. piece.now) pieces.items ≡ slice_split (λ b. b == 58) access.now) }
+{
+    let mut pieces = Vec::new(alloc);
+    for piece in access.split(':') {
+        pieces.push(piece)?;
+    }
+    Ok(pieces)
+}
+
+/// The accessors that pieces write, where each writes one.
+#[tactic(auto, using(crate::proofs::LocalSides::all_more, crate::proofs::LocalSides::all_missing, crate::proofs::LocalSides::all_end))]
+fn all_parts(alloc: Global, pieces: &[&str]) -> Result<Option<Items<usize>>, AllocError>
+    ensures { IfOk result (λ parts. parts ≡ all_of (map (λ piece. accessor_of piece.now) pieces.now)) }
+{
+    let mut parts = Items::new(alloc);
+    for piece in pieces {
+        let Some(part) = accessor_of(piece) else {
+            return Ok(None);
+        };
+        parts.push(part)?;
+    }
+    Ok(Some(parts))
+}
+
+/// The accessors of an access string, where each piece between its colons is one.
+fn accessors_of(alloc: Global, access: &str) -> Result<Option<Items<usize>>, AllocError>
+    ensures { IfOk result (λ parts. parts ≡ accessors_of access.now) }
+{
+    let pieces = pieces_of(alloc, access)?;
+    all_parts(alloc, pieces.as_slice())
+}
+
+/// The accessors of an access string. The errors speak of it and of the name of the local type.
+///
+/// `InvalidAccessString` where a piece between colons is no `usize`; `MaximumNestingLevelReached` where there are
+/// more than 64 accessors; `OutOfMemory` where memory is refused.
+pub fn accessors(
+    alloc: Global,
+    type_name: &str,
+    access: &str,
+) -> Result<Items<usize>, RelocationError>
+    ensures { Tells result (accessors type_name.now access.now) }
+{
+    let Some(parts) = accessors_of(alloc, access)? else {
+        return invalid_access_string(alloc, access);
+    };
+    if parts.len() > MOST_ACCESSORS {
+        return too_nested(alloc, type_name);
+    }
+    Ok(parts)
+}
+
+/// What a record asks about.
+#[derive(Clone, Copy)]
+pub enum RelocationBasis {
+    /// A field: a member or an element.
+    Field,
+    /// A type as a whole.
+    WholeType,
+    /// A variant of an enumeration.
+    Variant,
+}
+
+/// What the records of a kind ask about.
+pub fn basis_of(kind: RelocationKind) -> RelocationBasis
+    ensures { result ≡ basis_of kind }
+{
+    match kind {
+        RelocationKind::FieldByteOffset
+        | RelocationKind::FieldByteSize
+        | RelocationKind::FieldExists
+        | RelocationKind::FieldSigned
+        | RelocationKind::FieldLShift64
+        | RelocationKind::FieldRShift64 => RelocationBasis::Field,
+        RelocationKind::TypeIdLocal
+        | RelocationKind::TypeIdTarget
+        | RelocationKind::TypeExists
+        | RelocationKind::TypeSize => RelocationBasis::WholeType,
+        RelocationKind::EnumVariantExists | RelocationKind::EnumVariantValue =>
+            RelocationBasis::Variant,
+    }
 }

@@ -2,22 +2,19 @@
 
 ghost use Rattle.std.specs.Prelude.{◌≡◌, All, IfErr, IfOk, MatchBool, Ok, true, ⊤};
 ghost use Rattle.std.specs.Option.{ForSome};
-ghost use Rattle.ebpf_base.specs.Faults.{Gives, Refuses, fault_of};
-ghost use Rattle.ebpf_base.specs.Results.{if_ok};
+ghost use Rattle.ebpf_base.specs.Faults.{Gives, Refuses, fault_of, if_ok};
 ghost use Rattle.ebpf_btf.specs.Memory.{is_btf_memory};
 ghost use Rattle.ebpf_btf.specs.TypeInfo.{TypeInfo};
 ghost use Rattle.ebpf_btf.specs.declared.error.BtfError.TheVariants.{OutOfMemory};
-ghost use Rattle.ebpf_core_candidates.specs.Candidates.{candidates, candidates_fault, candidates_of_both, candidates_of_both_fault};
-ghost use Rattle.ebpf_core_candidates.specs.IndexedTypes.{has_named};
+ghost use Rattle.ebpf_core_candidates.specs.Candidates.{candidates, candidates_fault, candidates_of_both, candidates_of_both_fault, has_named};
 ghost use Rattle.ebpf_core.specs.Answers.{Tells, of_types, without_texts, is_record_memory};
 ghost use Rattle.ebpf_core.specs.Outcomes.{outcome_among};
-ghost use Rattle.ebpf_core.specs.Refused.{OutcomeIsRefused};
-ghost use Rattle.ebpf_core.specs.Searches.{candidates_for, candidates_named, is_local, outcome_of, was_enum64, searched_kinds, HasLocalNames, IsLocalType};
+ghost use Rattle.ebpf_core.specs.Laws.{OutcomeIsRefused};
+ghost use Rattle.ebpf_core.specs.Searches.{candidates_for, candidates_named, is_local, outcome_of, was_enum64, searched_kinds, HasLocalNames, IsLocalType, question_of};
 
 use crate::error::RelocationError;
 use crate::outcome::{Outcome, outcome_among};
 use crate::paths::{LocalPath, local_path};
-use crate::question::{Question, question_of};
 use ebpf_base::Items;
 use ebpf_btf::{Btf, BtfError, BtfKind, BtfType};
 use ebpf_core_candidates::{KindsIndex, TypeIndex};
@@ -156,7 +153,7 @@ pub struct CoreSearch<'a> {
 
 impl<'a> Model for CoreSearch<'a> {
     ghost use Rattle.std.specs.Prelude.{◌≡◌, All};
-    ghost use Rattle.ebpf_core.specs.Questions.{OutcomesAreCached};
+    ghost use Rattle.ebpf_core.specs.Searches.{OutcomesAreCached};
     ghost use Rattle.ebpf_core.specs.Searches.{Sides};
 
     ghost Value = { Sides };
@@ -313,4 +310,17 @@ impl<'a> CoreSearch<'a> {
     {
         self.cached_outcome(alloc, relocation)
     }
+}
+
+/// What a record asks, by which what it comes to is kept: its type and its access string, and the number of its kind.
+pub type Question = ((u32, u32), u32);
+
+/// The question of a record.
+pub fn question_of(relocation: &Relocation) -> Question
+    ensures { result ≡ question_of relocation.now }
+{
+    (
+        (relocation.type_id, relocation.access_str_off),
+        relocation.kind.number(),
+    )
 }

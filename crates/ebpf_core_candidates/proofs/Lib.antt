@@ -1,14 +1,6 @@
-pub mod BytesLooks
+pub mod Names
 pub mod CandidateLaws
 pub mod CandidateRows
-pub mod Comparing
-pub mod Fields
-pub mod FoundPairs
-pub mod Heads
-pub mod NameMarks
-pub mod OddTexts
+pub mod Comparisons
 pub mod Refusals
-pub mod RowRange
-pub mod Unions
-pub mod UnreadNames
-pub mod WithoutNames
+pub mod Unnamed

@@ -1,12 +1,9 @@
 -- Answers that follow others, and the error that a call hands on.
-use Rattle.std.proofs.Common.{◌≡◌, Bool, true, false, Option, Some, None, Result, Ok, Err, refl, ap}
-use Rattle.std.specs.Prelude.{MatchBool, ⊤, is_ok, if◌then◌else◌}
+use Rattle.std.proofs.Common.{◌≡◌, Bool, true, false, Option, Some, None, Result, Ok, Err, refl, ap, if◌then◌else◌}
+use Rattle.std.specs.Prelude.{MatchBool, ⊤, is_ok}
 use Rattle.std.specs.Result.{IsErrAnd}
-use Rattle.ebpf_base.specs.Faults.{Gives}
-use Rattle.ebpf_base.specs.Results.{if_ok}
+use Rattle.ebpf_base.specs.Faults.{Gives, if_ok}
 use Rattle.ebpf_btf.specs.Next.{if_some}
-
--- ---- what follows
 
 module _ {X E : Type 0} where
   pub same_ok : (x y : X) → ◌≡◌ {A = Result X E} (Ok x) (Ok y) → x ≡ y

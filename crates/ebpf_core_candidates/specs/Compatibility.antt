@@ -3,22 +3,23 @@
 use Rattle.std.specs.Prelude.{ℕ, zero, suc, ◌/◌, ◌%◌, ◌^◌, Bool, true, false, List, [], ◌∷◌, ◌++◌, length, map, take, drop, unwrap_or, Option, Some, None, Result, Ok, Err, ◌==◌, ◌&&◌, ◌||◌, if◌then◌else◌}
 use Rattle.std.specs.List.{zip, flat_map}
 use Rattle.std.specs.Str.{bytes_eq}
-use Rattle.ebpf_base.specs.Faults.{first_some}
-use Rattle.ebpf_core_candidates.specs.declared.pair.Pair.{Pair}
+use Rattle.ebpf_base.specs.Faults.{first_some, if_ok}
+use Rattle.ebpf_btf.specs.Next.{if_some}
 use Rattle.ebpf_btf.specs.declared.error.BtfError.{BtfError}
 use Rattle.ebpf_btf.specs.declared.error.BtfError.TheVariants.{MaximumTypeDepth}
 use Rattle.ebpf_btf.specs.declared.kind.BtfKind.{BtfKind}
-use Rattle.ebpf_btf.specs.declared.kind.BtfKind.TheVariants as kinds
 use Rattle.ebpf_btf.specs.declared.members.BtfParam.{BtfParam}
 use Rattle.ebpf_btf.specs.declared.types.BtfType.{BtfType}
 use Rattle.ebpf_btf.specs.declared.types.BtfType.TheVariants.{Int, Ptr, Array, FuncProto}
 use Rattle.ebpf_btf.specs.EssentialNames.{essential_name}
-use Rattle.ebpf_base.specs.Results.{if_ok}
-use Rattle.ebpf_btf.specs.Next.{if_some}
-use Rattle.ebpf_btf.specs.Steps.{resolved_type, type_at}
 use Rattle.ebpf_btf.specs.Strings.{type_name}
+use Rattle.ebpf_btf.specs.Steps.{resolved_type, type_at}
 use Rattle.ebpf_btf.specs.TypeInfo.{TypeInfo}
 use Rattle.ebpf_btf.specs.Types.{kind_of, kind_number}
+use Rattle.ebpf_btf.specs.declared.kind.BtfKind.TheVariants as kinds
+use Rattle.ebpf_core_candidates.specs.declared.compatible.Pair.{Pair}
+use Rattle.ebpf_core_candidates.specs.declared.compatible.Verdict.{Verdict}
+use Rattle.ebpf_core_candidates.specs.declared.compatible.Verdict.TheVariants.{Alike, Different}
 
 -- ---- two types
 
@@ -135,9 +136,8 @@ params_of _ = []
 -- the inner type of a PTR, an ARRAY or a FUNC_PROTO: what it points to, its elements, its result
 unfoldable pub inner_type_id : BtfType → Option ℕ
 inner_type_id (Ptr _ id) = Some id
-inner_type_id (Array _ id _ _) = Some id
 inner_type_id (FuncProto _ id _) = Some id
-inner_type_id _ = None
+inner_type_id t = element t
 
 abbrev pub inner_pair : BtfType → BtfType → Option Pair
 inner_pair a b = both (inner_type_id a) (inner_type_id b)
@@ -191,3 +191,45 @@ types_compatible local id target other =
     if same_kind a b
     then first_end type_pairs (MaximumTypeDepth id) (found_from type_levels local.types target.types id (pair_of id other))
     else Ok false))
+
+-- ---- a comparison of types as it goes, pair by pair. What it comes to is stated in `Compatibility.antt`
+
+-- what follows where types are alike, with the number of pairs that may still be met
+abbrev pub if_alike : Result Verdict BtfError → (ℕ → Result Verdict BtfError) → Result Verdict BtfError
+if_alike (Ok (Alike left)) next = next left
+if_alike (Ok Different) next = Ok Different
+if_alike (Err e) next = Err e
+
+-- a comparison of a pair, where so many pairs may still be met
+abbrev pub Comparison : Type 0
+Comparison = ℕ → Pair → Result Verdict BtfError
+
+-- the types of parameters, one pair after the other
+abbrev pub params_alike : Comparison → ℕ → List (BtfParam × BtfParam) → Result Verdict BtfError
+params_alike compare left [] = Ok (Alike left)
+params_alike compare left (p ∷ ps) =
+    if_alike (compare left (pair_of p.0.btf_type p.1.btf_type)) (λ rest. params_alike compare rest ps)
+
+-- the inner types of two types
+abbrev pub inner_alike : Comparison → ℕ → BtfType → BtfType → Result Verdict BtfError
+inner_alike compare left a b =
+    if_some (inner_pair a b) (λ pair. compare left pair) (Ok (Alike left))
+
+-- all types below two types that agree: the parameters first
+abbrev pub parts_alike : Comparison → ℕ → BtfType → BtfType → Result Verdict BtfError
+parts_alike compare left a b =
+    if_alike (params_alike compare left (zip (params_of a) (params_of b))) (λ rest. inner_alike compare rest a b)
+
+-- A pair and all below it, depth first, up to the first that differs. There may be so many levels and so many pairs.
+unfoldable pub compared_from : ℕ → List BtfType → List BtfType → ℕ → Comparison
+compared_from zero local target root left pair = Err (MaximumTypeDepth root)
+compared_from (suc levels) local target root zero pair = Err (MaximumTypeDepth root)
+compared_from (suc levels) local target root (suc left) pair =
+    if_resolved local target pair (λ a b.
+    if shallow_alike a b then parts_alike (compared_from levels local target root) left a b else Ok Different)
+
+-- whether a comparison found no difference
+abbrev pub is_alike : Result Verdict BtfError → Result Bool BtfError
+is_alike (Ok (Alike left)) = Ok true
+is_alike (Ok Different) = Ok false
+is_alike (Err e) = Err e

@@ -1,11 +1,16 @@
-//! The kinds of types by their numbers.
+//! The kinds of types by their numbers, and what is kept by kind.
 
-ghost use Rattle.std.specs.Prelude.{◌≡◌, ◌<◌, length, true};
+ghost use Rattle.std.specs.Prelude.{◌≡◌, ◌<◌, length, true, ◌++◌, ◌==◌, ◌∷◌, [], IfOk, OnOk, slice_index_or, if◌then◌else◌, None, Some};
 ghost use Rattle.ebpf_btf.specs.Types.{kind_number};
 ghost use Rattle.ebpf_btf.specs.declared.kind.BtfKind.{BtfKind};
-ghost use Rattle.ebpf_core_candidates.specs.IndexedTypes.{has_kind, is_among_kinds};
+ghost use Rattle.ebpf_core_candidates.specs.Candidates.{has_kind, is_among_kinds};
+ghost use Rattle.ebpf_base.specs.Faults.{or_else};
+ghost use Rattle.ebpf_core_candidates.specs.TypeRows.{lower};
+ghost use Rattle.ebpf_btf.specs.declared.error.BtfError.TheVariants.{InvalidStringOffset};
 
-use ebpf_btf::BtfKind;
+use ebpf_base::Items;
+use ebpf_btf::{BtfError, BtfKind};
+use std::alloc::{AllocError, Global};
 
 /// How many kinds there are.
 pub const KINDS: usize = 20;
@@ -48,4 +53,80 @@ pub fn has_kind(kinds: &SomeKinds, kind: BtfKind) -> bool
     ensures { result ≡ has_kind kinds.now kind }
 {
     kinds[kind_number(kind) as usize]
+}
+
+/// For each kind, at its number, the ids of the types that have no name.
+pub type AnonymousTypes = Vec<Items<u32>>;
+
+/// No types.
+pub fn no_anonymous_types(alloc: Global) -> Result<AnonymousTypes, AllocError>
+    ensures kinds { IfOk result (λ lists. length lists.items ≡ 20) }
+    ensures empty { IfOk result (λ lists. (k : BtfKind) → slice_index_or lists.items (kind_number k) [] ≡ []) }
+{
+    let mut lists = Vec::with_capacity(alloc, KINDS)?;
+    for _kind in 0..KINDS {
+        lists.push(Items::new(alloc))?;
+    }
+    Ok(lists)
+}
+
+/// Adds the id of a type of a kind.
+pub fn add_anonymous(lists: &mut AnonymousTypes, kind: BtfKind, id: u32) -> Result<(), AllocError>
+    requires { length lists.old.items ≡ 20 }
+    ensures kinds { OnOk result (length lists.new.items ≡ 20) }
+    ensures added { OnOk result ((k : BtfKind) → slice_index_or lists.new.items (kind_number k) []
+        ≡ slice_index_or lists.old.items (kind_number k) [] ++ (if kind_number kind == kind_number k then id ∷ [] else [])) }
+{
+    lists[kind_number(kind) as usize].push(id)?;
+    Ok(())
+}
+
+/// A type whose name can't be read.
+#[derive(Clone, Copy)]
+pub struct UnreadableName {
+    /// The type's id.
+    pub id: u32,
+    /// The offset of its name.
+    pub offset: u32,
+}
+
+impl UnreadableName {
+    /// Why the name can't be read.
+    pub fn fault(&self) -> BtfError
+        ensures { result ≡ InvalidStringOffset self.now.offset }
+    {
+        BtfError::InvalidStringOffset {
+            offset: self.offset as usize,
+        }
+    }
+}
+
+/// For each kind, at its number, the first type whose name can't be read.
+pub type UnreadableNames = [Option<UnreadableName>; KINDS];
+
+/// Keeps a type, where it is the first of its kind.
+pub fn keep_first(names: &mut UnreadableNames, kind: BtfKind, name: UnreadableName)
+    requires { length names.old ≡ 20 }
+    ensures kinds { length names.new ≡ 20 }
+    ensures first { (k : BtfKind) → slice_index_or names.new (kind_number k) None
+        ≡ or_else (slice_index_or names.old (kind_number k) None) (if kind_number kind == kind_number k then Some name else None) }
+{
+    let index = kind_number(kind) as usize;
+    if names[index].is_none() {
+        names[index] = Some(name);
+    }
+}
+
+/// The one that has the lower id.
+pub fn lower(
+    first: Option<UnreadableName>,
+    second: Option<UnreadableName>,
+) -> Option<UnreadableName>
+    ensures { result ≡ lower first second }
+{
+    match (first, second) {
+        (Some(one), Some(other)) if other.id < one.id => Some(other),
+        (Some(one), _) => Some(one),
+        (None, other) => other,
+    }
 }

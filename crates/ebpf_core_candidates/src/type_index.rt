@@ -4,8 +4,7 @@ ghost use Rattle.std.specs.Prelude.{◌≡◌, ◌<◌, ◌&&◌, ℕ, List, [],
 ghost use Rattle.std.specs.List.Sorted.{IsSortedBy, IsStableBy};
 ghost use Rattle.std.specs.Option.{ForSome};
 ghost use Rattle.ebpf_base.specs.Faults.{fault_of, Refuses};
-ghost use Rattle.ebpf_core_candidates.specs.Candidates.{candidates, candidates_fault, candidates_of_both, candidates_of_both_fault};
-ghost use Rattle.ebpf_core_candidates.specs.IndexedTypes.{has_named, has_kind, is_among_kinds};
+ghost use Rattle.ebpf_core_candidates.specs.Candidates.{candidates, candidates_fault, candidates_of_both, candidates_of_both_fault, has_named, has_kind, is_among_kinds};
 ghost use Rattle.ebpf_btf.specs.Memory.{is_btf_memory};
 ghost use Rattle.ebpf_core_candidates.specs.TypeRows.{is_before, rows, unreadable_from};
 ghost use Rattle.ebpf_btf.specs.Strings.{type_name};
@@ -14,13 +13,12 @@ ghost use Rattle.ebpf_btf.specs.declared.error.BtfError.TheVariants.{OutOfMemory
 ghost use Rattle.ebpf_btf.specs.declared.kind.BtfKind.{BtfKind};
 ghost use Rattle.ebpf_btf.specs.declared.types.BtfType.{BtfType};
 
-use crate::anonymous::{AnonymousTypes, add_anonymous, no_anonymous_types};
-use crate::id_union::union;
-use crate::kinds::{KINDS, SomeKinds, every_kind, has_kind, kind_number, kinds_of};
-use crate::name_marks::{every_name, is_hash_marked, name_hash, names_of};
-use crate::type_names::TypeNames;
-use crate::type_row::{TypeRow, order_of_rows, row_range};
-use crate::unreadable::{UnreadableName, UnreadableNames, keep_first, lower};
+use crate::kinds::{
+    AnonymousTypes, KINDS, SomeKinds, UnreadableName, UnreadableNames, add_anonymous, every_kind,
+    has_kind, keep_first, kind_number, kinds_of, lower, no_anonymous_types,
+};
+use crate::type_names::{TypeNames, every_name, is_hash_marked, name_hash, names_of};
+use crate::type_row::{TypeRow, order_of_rows, row_range, union};
 use ebpf_btf::{Btf, BtfError, BtfKind, essential_name};
 use std::alloc::{AllocError, Global};
 use std::marker::Model;
@@ -157,7 +155,7 @@ pub struct KindsIndex<'a> {
 }
 
 impl<'a> Model for KindsIndex<'a> {
-    ghost use Rattle.ebpf_core_candidates.specs.IndexedTypes.{IndexedTypes};
+    ghost use Rattle.ebpf_core_candidates.specs.Candidates.{IndexedTypes};
     ghost use Rattle.ebpf_core_candidates.specs.TypeRows.{IsIndex};
 
     ghost Value = { IndexedTypes };
@@ -206,7 +204,7 @@ impl<'a> KindsIndex<'a> {
     }
 
     /// The candidates of a kind and a name that it has.
-    #[tactic(auto, using(crate::proofs::UnreadNames::fault_of_kind))]
+    #[tactic(auto, using(crate::proofs::Unnamed::fault_of_kind))]
     fn candidates_of(&self, kind: BtfKind, name: &str) -> Result<&[u32], BtfError>
         requires { has_named self.now kind name.now ≡ true }
         ensures ids { IfOk result (λ ids. ids.now ≡ candidates self.now.info kind name.now) }
@@ -219,7 +217,7 @@ impl<'a> KindsIndex<'a> {
     }
 
     /// The candidates of either of two kinds that it has, of a name that it has.
-    #[tactic(auto, using(crate::proofs::UnreadNames::fault_of_kinds, crate::proofs::Unions::union_candidates))]
+    #[tactic(auto, using(crate::proofs::Unnamed::fault_of_kinds, crate::proofs::CandidateLaws::union_candidates))]
     fn candidates_of_two(
         &self,
         alloc: Global,
@@ -284,7 +282,7 @@ impl<'a> Model for TypeIndex<'a> {
     ghost use Rattle.std.specs.Prelude.{◌≡◌, ℕ, List, true};
     ghost use Rattle.ebpf_btf.specs.TypeInfo.{TypeInfo};
     ghost use Rattle.ebpf_btf.specs.declared.kind.BtfKind.{BtfKind};
-    ghost use Rattle.ebpf_core_candidates.specs.IndexedTypes.{has_named};
+    ghost use Rattle.ebpf_core_candidates.specs.Candidates.{has_named};
 
     ghost Value = { TypeInfo };
 

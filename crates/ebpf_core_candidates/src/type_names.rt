@@ -1,20 +1,22 @@
-//! The names of types without their flavor, by the types' ids.
+//! The names of types without their flavor, and marks of names.
 
-ghost use Rattle.std.specs.Prelude.{◌≡◌, ◌<◌, ℕ, All, Some, IfOk, option_map, slice_get, true};
+ghost use Rattle.std.specs.Prelude.{◌≡◌, ◌<◌, ℕ, All, Some, IfOk, option_map, slice_get, true, ◌+◌, ◌-◌, ◌≤◌, ◌==◌, drop, length, take, if◌then◌else◌, ◌%◌};
 ghost use Rattle.std.specs.Bool.{OnTrue};
 ghost use Rattle.std.specs.FinMap.{get};
 ghost use Rattle.std.specs.Option.{option_copied};
+ghost use Rattle.std.specs.List.{position};
 ghost use Rattle.ebpf_btf.specs.Types.{kind_of, name_off};
 ghost use Rattle.ebpf_btf.specs.declared.types.BtfType.{BtfType};
-ghost use Rattle.ebpf_core_candidates.specs.OddNames.{odd_at};
-ghost use Rattle.ebpf_core_candidates.specs.PrivateContracts.{odd_text_at, readable_at};
-ghost use Rattle.ebpf_core_candidates.specs.TypeRows.{type_key_at};
+ghost use Rattle.ebpf_core_candidates.specs.TypeRows.{odd_at, odd_text_at, readable_at, type_key_at};
+ghost use Rattle.ebpf_btf.specs.EssentialNames.{essential_name};
+ghost use Rattle.ebpf_btf.specs.Strings.{before_zero};
+ghost use Rattle.ebpf_core_candidates.specs.Candidates.{name_hash, is_hash_marked, NamesAreMarked};
 
-use crate::kinds::kind_number;
-use crate::name_looks::essential_at;
+use crate::kinds::{SomeKinds, has_kind, kind_number};
 use ebpf_base::{ByOffset, Text};
 use ebpf_btf::{Btf, essential_name};
 use std::alloc::{AllocError, Global};
+use std::hash::{FoldHasher, Hasher};
 use std::marker::Model;
 
 /// Whether all bytes are below 128. The greatest is looked for, which takes less time than a test of each.
@@ -31,7 +33,7 @@ fn is_ascii(bytes: &[u8]) -> bool
 }
 
 /// The text that the name at an offset is read as, where it is not UTF-8.
-#[tactic(auto, using(crate::proofs::OddTexts::odd_utf8, crate::proofs::OddTexts::odd_other))]
+#[tactic(auto, using(crate::proofs::Names::odd_utf8, crate::proofs::Names::odd_other))]
 fn odd_text_at(alloc: Global, btf: &Btf, offset: u32) -> Result<Option<Text>, AllocError>
     ensures { IfOk result (λ name. name ≡ odd_text_at btf.now.strings offset) }
 {
@@ -48,7 +50,7 @@ fn odd_text_at(alloc: Global, btf: &Btf, offset: u32) -> Result<Option<Text>, Al
 }
 
 /// That of the name of the type with an id.
-#[tactic(auto, using(crate::proofs::Heads::odd_headed, crate::proofs::Heads::odd_headless))]
+#[tactic(auto, using(crate::proofs::Names::odd_headed, crate::proofs::Names::odd_headless))]
 fn odd_at(alloc: Global, btf: &Btf, id: usize) -> Result<Option<Text>, AllocError>
     ensures { IfOk result (λ name. name ≡ odd_at btf.now id) }
 {
@@ -73,7 +75,7 @@ fn gather_odd_names(alloc: Global, btf: &Btf) -> Result<ByOffset<Text>, AllocErr
 }
 
 /// The texts of the names that are not UTF-8, by the types' ids. Where all strings are ASCII no name is looked at.
-#[tactic(auto, using(crate::proofs::OddTexts::odd_ascii))]
+#[tactic(auto, using(crate::proofs::Names::odd_ascii))]
 fn odd_names(alloc: Global, btf: &Btf) -> Result<ByOffset<Text>, AllocError>
     ensures { IfOk result (λ odd. (id : ℕ) → get odd id ≡ odd_at btf.now id) }
 {
@@ -95,7 +97,7 @@ pub struct TypeNames<'a> {
 impl<'a> Model for TypeNames<'a> {
     ghost use Rattle.std.specs.Prelude.{◌≡◌, ℕ};
     ghost use Rattle.std.specs.FinMap.{get};
-    ghost use Rattle.ebpf_core_candidates.specs.OddNames.{odd_at};
+    ghost use Rattle.ebpf_core_candidates.specs.TypeRows.{odd_at};
     ghost use Rattle.ebpf_btf.specs.TypeInfo.{TypeInfo};
 
     ghost Value = { TypeInfo };
@@ -122,7 +124,7 @@ impl<'a> TypeNames<'a> {
     }
 
     /// The essential name of the type with an id, whose name is at an offset. None where it can't be read.
-    #[tactic(auto, using(crate::proofs::OddTexts::odd_some, crate::proofs::OddTexts::odd_none, crate::proofs::Heads::odd_headed))]
+    #[tactic(auto, using(crate::proofs::Names::odd_some, crate::proofs::Names::odd_none, crate::proofs::Names::odd_headed))]
     pub fn name(&self, id: usize, offset: u32) -> Option<&[u8]>
         requires { option_map name_off (slice_get self.now.types id) ≡ Some offset }
         ensures { option_copied result ≡ readable_at self.now.strings offset }
@@ -140,7 +142,7 @@ impl<'a> TypeNames<'a> {
     }
 
     /// The number of the kind and the essential name of the type with an id.
-    #[tactic(auto, using(crate::proofs::Heads::key_headed, crate::proofs::Heads::key_headless))]
+    #[tactic(auto, using(crate::proofs::Names::key_headed, crate::proofs::Names::key_headless))]
     pub fn type_key(&self, id: u32) -> (u8, &[u8])
         ensures kind { result.0 ≡ (type_key_at self.now id).kind }
         ensures name { result.1.now ≡ (type_key_at self.now id).name }
@@ -157,7 +159,7 @@ impl<'a> TypeNames<'a> {
 
     /// Whether the types with two ids are of one kind and have their names at one offset: then no name need be
     /// compared.
-    #[tactic(auto, using(crate::proofs::Heads::same_key))]
+    #[tactic(auto, using(crate::proofs::Names::same_key))]
     pub fn is_one_name(&self, left: u32, right: u32) -> bool
         ensures one { OnTrue result (type_key_at self.now left ≡ type_key_at self.now right) }
         ensures told { (one other : BtfType) → slice_get self.now.types left ≡ Some one → slice_get self.now.types right ≡ Some other
@@ -169,4 +171,146 @@ impl<'a> TypeNames<'a> {
         };
         left.name_offset == right.name_offset && left.kind == right.kind
     }
+}
+
+/// The index of the first zero byte.
+fn first_zero(bytes: &[u8]) -> Option<usize>
+    ensures { result ≡ position (λ b. b == 0) bytes.now }
+{
+    bytes.iter().position(|b| *b == 0)
+}
+
+/// How many underscores the bytes end in, one byte on.
+fn marks_after(marks: usize, byte: u8) -> usize
+    requires { marks ≤ 2 }
+    ensures { result ≡ (if byte == 95 then marks + 1 else 0) }
+{
+    if byte == b'_' { marks + 1 } else { 0 }
+}
+
+/// What stands before three underscores, the third of which is at an index, where a zero byte follows.
+fn before_marks(bytes: &[u8], index: usize) -> Option<&[u8]>
+    requires third { 2 ≤ index }
+    requires inside { index < length bytes.now }
+    ensures { option_copied result ≡ option_map (λ _. take (index - 2) bytes.now) (before_zero (drop (index + 1) bytes.now)) }
+{
+    match first_zero(&bytes[index + 1..]) {
+        Some(_) => Some(&bytes[..index - 2]),
+        None => None,
+    }
+}
+
+/// The bytes up to the first zero byte, without what follows three underscores.
+fn essential_before_zero(bytes: &[u8]) -> Option<&[u8]>
+    ensures { option_copied result ≡ option_map essential_name (before_zero bytes.now) }
+{
+    let mut marks = 0;
+    for index in 0..bytes.len() {
+        let byte = bytes[index];
+        if byte == 0 {
+            return Some(&bytes[..index]);
+        }
+        if marks == 2 && byte == b'_' {
+            return before_marks(bytes, index);
+        }
+        marks = marks_after(marks, byte);
+    }
+    None
+}
+
+/// The essential part of the name at an offset of the strings.
+pub fn essential_at(strings: &[u8], offset: u32) -> Option<&[u8]>
+    ensures { option_copied result ≡ option_map essential_name (before_zero (drop offset strings.now)) }
+{
+    let index = offset as usize;
+    if index > strings.len() {
+        return None;
+    }
+    essential_before_zero(&strings[index..])
+}
+
+/// How many hashes are told apart where names are asked for.
+const MARKS: usize = 16_384;
+
+/// 32 bits that follow from a name.
+#[tactic(auto, unfolding(crate::specs::Candidates::name_hash))]
+pub fn name_hash(name: &[u8]) -> u32
+    ensures { result ≡ name_hash name.now }
+{
+    let mut hasher = FoldHasher::default();
+    hasher.write(name);
+    (hasher.finish() >> 32) as u32
+}
+
+/// So many marks, each set or each not.
+fn marks_of(alloc: Global, count: usize, is_set: bool) -> Result<Vec<bool>, AllocError>
+    requires { 0 < count }
+    ensures some { IfOk result (λ marks. 0 < length marks.items) }
+    ensures all { IfOk result (λ marks. is_set ≡ true → (hash : ℕ) → is_hash_marked marks.items hash ≡ true) }
+{
+    Ok(vec![in alloc; is_set; count]?)
+}
+
+/// Marks of all names: one, that they share.
+pub fn every_name(alloc: Global) -> Result<Vec<bool>, AllocError>
+    ensures some { IfOk result (λ marks. 0 < length marks.items) }
+    ensures all { IfOk result (λ marks. (hash : ℕ) → is_hash_marked marks.items hash ≡ true) }
+{
+    marks_of(alloc, 1, true)
+}
+
+/// Whether a hash is marked.
+pub fn is_hash_marked(marks: &[bool], hash: u32) -> bool
+    requires { 0 < length marks.now }
+    ensures { result ≡ is_hash_marked marks.now hash }
+{
+    marks[hash as usize % marks.len()]
+}
+
+/// Marks a hash.
+fn mark(marks: &mut [bool], hash: u32)
+    requires { 0 < length marks.old }
+    ensures count { length marks.new ≡ length marks.old }
+    ensures marked { is_hash_marked marks.new hash ≡ true }
+    ensures others { (h : ℕ) → is_hash_marked marks.old h ≡ true → is_hash_marked marks.new h ≡ true }
+{
+    let at = hash as usize % marks.len();
+    marks[at] = true;
+}
+
+/// How long the name at an offset is, in bytes; 0 where it can't be read.
+fn length_at(btf: &Btf, offset: u32) -> usize {
+    let Ok(name) = btf.bytes_at(offset) else {
+        return 0;
+    };
+    name.len()
+}
+
+/// Marks of the names, without their flavor, that types of some kinds have. Where these names together are longer than
+/// the strings that they stand in, all names are marked, so that names which share bytes don't take long.
+pub fn names_of(alloc: Global, btf: &Btf, kinds: &SomeKinds) -> Result<Vec<bool>, AllocError>
+    requires { length kinds.now ≡ 20 }
+    ensures some { IfOk result (λ marks. 0 < length marks.items) }
+    ensures names { IfOk result (λ marks. NamesAreMarked marks.items kinds.now btf.now) }
+{
+    let names = TypeNames::new(alloc, btf)?;
+    let mut marks = marks_of(alloc, MARKS, false)?;
+    let mut read = 0usize;
+    for id in 0..btf.len() {
+        let Some(head) = btf.head(id) else {
+            continue;
+        };
+        if !has_kind(kinds, head.kind) {
+            continue;
+        }
+        read = read.saturating_add(length_at(btf, head.name_offset));
+        if read > btf.strings().len() {
+            return every_name(alloc);
+        }
+        let Some(name) = names.name(id, head.name_offset) else {
+            continue;
+        };
+        mark(&mut marks, name_hash(name));
+    }
+    Ok(marks)
 }

@@ -2,31 +2,24 @@
 use Rattle.std.proofs.Common.{◌≡◌, ℕ, zero, suc, ◌<◌, ltb, if◌then◌else◌, List, [], ◌∷◌, Option, Some, None, Result, Ok, Err, refl, sym, ap, ◌∙◌, subst, arith, inl, inr}
 use Rattle.std.specs.List.{slice_get}
 use Rattle.std.proofs.lemmas.Bool.{cases_lt, cases_order, lt-ltb, le-ltb}
-use Rattle.ebpf_core_places.specs.declared.fault.PlaceFault.{PlaceFault}
-use Rattle.ebpf_core_places.specs.declared.fault.PlaceFault.TheVariants.{NestingLevel}
-use Rattle.ebpf_core_places.specs.declared.role.Role.{Role}
-use Rattle.ebpf_core_places.specs.declared.role.Role.TheVariants.{Anonymous, Other, Fitting, Misfit}
+use Rattle.ebpf_core_places.specs.declared.places.PlaceFault.{PlaceFault}
+use Rattle.ebpf_core_places.specs.declared.places.PlaceFault.TheVariants.{NestingLevel}
+use Rattle.ebpf_core_places.specs.declared.search.Role.{Role}
+use Rattle.ebpf_core_places.specs.declared.search.Role.TheVariants.{Anonymous, Other, Fitting, Misfit}
 use Rattle.ebpf_core_places.specs.declared.search.Answer.{Answer}
 use Rattle.ebpf_core_places.specs.declared.search.Answer.TheVariants.{Found, Absent}
 use Rattle.ebpf_core_places.specs.declared.search.FoundMember.{FoundMember}
-use Rattle.ebpf_core_places.specs.Members.{MemberSearch, Member, anonymous_levels}
-use Rattle.ebpf_core_places.specs.MemberViews.{ViewEntry, view, IsEntry}
-use Rattle.ebpf_core_places.specs.Searches.{found_member, answer_member, first_fitting, run_search, stop, stop_by, or_on}
-use Rattle.ebpf_core_places.proofs.ViewEntries.{IsShallow, is_entry, stands}
+use Rattle.ebpf_core_places.specs.Members.{MemberSearch, Member, anonymous_levels, ViewEntry, view, IsEntry, found_member, answer_member, first_fitting, run_search, stop, stop_by, or_on}
+use Rattle.ebpf_core_places.proofs.Members.{IsShallow, is_entry, stands}
 use Rattle.ebpf_core_places.specs.Places.{IsFirst, NeverStops, StopsFirst, stop_at}
 
--- what the answer of a search means for the entries
-abbrev pub IsAnswerOf : MemberSearch → ℕ → (ℕ → ViewEntry → Type 0) → Result Answer PlaceFault → Type 0
-IsAnswerOf member_search limit At (Ok (Found m)) = StopsFirst member_search limit At (Ok (Found m))
-IsAnswerOf member_search limit At (Err f) = StopsFirst member_search limit At (Err f)
-IsAnswerOf member_search limit At (Ok (Absent n)) = NeverStops member_search limit At
-
 -- the entries of a list
-abbrev pub InList : List ViewEntry → ℕ → ViewEntry → Type 0
+abbrev InList : List ViewEntry → ℕ → ViewEntry → Type 0
 InList es k e = slice_get es k ≡ Some e
 
-abbrev pub IsAnswerIn : MemberSearch → ℕ → List ViewEntry → Result Answer PlaceFault → Type 0
-IsAnswerIn member_search limit es a = IsAnswerOf member_search limit (InList es) a
+-- what the answer of a search means for them
+abbrev IsAnswerIn : MemberSearch → ℕ → List ViewEntry → Result Answer PlaceFault → Type 0
+IsAnswerIn member_search limit es a = IsFirst member_search limit (InList es) (answer_member a)
 
 ltb-suc : (k l : ℕ) → ltb (suc k) (suc l) ≡ ltb k l
 ltb-suc k l = elim (cases_lt k l) [
@@ -81,38 +74,29 @@ answers_step : (member_search : MemberSearch) (left : ℕ) (x : ViewEntry) (es :
 answers_step member_search left x es a None h s = answers_later member_search left x es a h s
 answers_step member_search left x es a (Some r) h s = answers_stop member_search left x es (member_search.role_of x.inside x.member) a r refl h
 
-pub run_answers : (member_search : MemberSearch) (left : ℕ) (es : List ViewEntry) → IsAnswerIn member_search left es (run_search member_search left es)
+run_answers : (member_search : MemberSearch) (left : ℕ) (es : List ViewEntry) → IsAnswerIn member_search left es (run_search member_search left es)
 unfolding run_search
 run_answers member_search left [] = λ j e at. cc
 run_answers member_search zero (x ∷ es) = first_here member_search 0 x es (Err NestingLevel) refl
 run_answers member_search (suc left) (x ∷ es) = answers_step member_search left x es (run_search member_search left es) (stop member_search x) refl (run_answers member_search left es)
 
-carry : (member_search : MemberSearch) (limit : ℕ) (A B : ℕ → ViewEntry → Type 0) (a : Result Answer PlaceFault) → ((k : ℕ) (e : ViewEntry) → A k e → B k e) → ((k : ℕ) (e : ViewEntry) → B k e → A k e) → IsAnswerOf member_search limit A a → IsAnswerOf member_search limit B a
-carry member_search limit A B (Ok (Found m)) to from s = record { index = s.index; view_entry = s.view_entry; stands = to s.index s.view_entry s.stands; stops = s.stops; before = λ j e lt at. s.before j e lt (from j e at) }
+carry : (member_search : MemberSearch) (limit : ℕ) (A B : ℕ → ViewEntry → Type 0) (a : Result (Option FoundMember) PlaceFault) → ((k : ℕ) (e : ViewEntry) → A k e → B k e) → ((k : ℕ) (e : ViewEntry) → B k e → A k e)
+    → IsFirst member_search limit A a → IsFirst member_search limit B a
+carry member_search limit A B (Ok (Some m)) to from s = record { index = s.index; view_entry = s.view_entry; stands = to s.index s.view_entry s.stands; stops = s.stops; before = λ j e lt at. s.before j e lt (from j e at) }
 carry member_search limit A B (Err f) to from s = record { index = s.index; view_entry = s.view_entry; stands = to s.index s.view_entry s.stands; stops = s.stops; before = λ j e lt at. s.before j e lt (from j e at) }
-carry member_search limit A B (Ok (Absent n)) to from s = λ j e at. s j e (from j e at)
-
--- what the answer of a search from the top means for the entries
-search_answers : (member_search : MemberSearch) (limit deepest : ℕ) → IsShallow member_search deepest → (ms : List Member)
-    → IsAnswerOf member_search limit (IsEntry member_search 0 0 ms) (run_search member_search limit (view member_search deepest 0 0 ms))
-search_answers member_search limit deepest shallow ms =
-    carry member_search limit (InList (view member_search deepest 0 0 ms)) (IsEntry member_search 0 0 ms) (run_search member_search limit (view member_search deepest 0 0 ms))
-    (λ k e at. is_entry member_search deepest shallow deepest 0 0 ms (omega arith) k e at)
-    (λ k e at. stands member_search deepest shallow at deepest (omega arith))
-    (run_answers member_search limit (view member_search deepest 0 0 ms))
-
-first_answer : (member_search : MemberSearch) (limit : ℕ) (At : ℕ → ViewEntry → Type 0) (a : Result Answer PlaceFault) → IsAnswerOf member_search limit At a → IsFirst member_search limit At (answer_member a)
-first_answer member_search limit At (Ok (Found m)) t = t
-first_answer member_search limit At (Ok (Absent n)) t = t
-first_answer member_search limit At (Err f) t = t
+carry member_search limit A B (Ok None) to from s = λ j e at. s j e (from j e at)
 
 -- the first fitting member is the first entry by index
 pub fitting_is_first : (member_search : MemberSearch) (limit : ℕ) → IsShallow member_search anonymous_levels → (ms : List Member) → IsFirst member_search limit (IsEntry member_search 0 0 ms) (first_fitting member_search limit ms)
 unfolding first_fitting
-fitting_is_first member_search limit shallow ms = first_answer member_search limit (IsEntry member_search 0 0 ms) (run_search member_search limit (view member_search anonymous_levels 0 0 ms)) (search_answers member_search limit anonymous_levels shallow ms)
+fitting_is_first member_search limit shallow ms =
+    carry member_search limit (InList (view member_search anonymous_levels 0 0 ms)) (IsEntry member_search 0 0 ms) (first_fitting member_search limit ms)
+    (λ k e at. is_entry member_search anonymous_levels shallow anonymous_levels 0 0 ms (omega arith) k e at)
+    (λ k e at. stands member_search anonymous_levels shallow at anonymous_levels (omega arith))
+    (run_answers member_search limit (view member_search anonymous_levels 0 0 ms))
 
 -- no two entries have one index
-pub one_entry : (member_search : MemberSearch) (deepest : ℕ) → IsShallow member_search deepest → (ms : List Member) (k : ℕ) (d e : ViewEntry) → IsEntry member_search 0 0 ms k d → IsEntry member_search 0 0 ms k e → d ≡ e
+one_entry : (member_search : MemberSearch) (deepest : ℕ) → IsShallow member_search deepest → (ms : List Member) (k : ℕ) (d e : ViewEntry) → IsEntry member_search 0 0 ms k d → IsEntry member_search 0 0 ms k e → d ≡ e
 one_entry member_search deepest shallow ms k d e a b =
     let x = stands member_search deepest shallow a deepest (omega arith) in
     let y = stands member_search deepest shallow b deepest (omega arith) in

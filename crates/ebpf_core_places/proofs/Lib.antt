@@ -1,6 +1,3 @@
 pub mod FirstEntries
-pub mod MemberSteps
-pub mod PathLaws
-pub mod PathSteps
-pub mod TypeMembers
-pub mod ViewEntries
+pub mod Members
+pub mod Paths

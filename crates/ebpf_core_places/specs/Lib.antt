@@ -1,7 +1,2 @@
 pub mod Places
-pub mod Laws
 pub mod Members
-pub mod MemberViews
-pub mod Memory
-pub mod Paths
-pub mod Searches

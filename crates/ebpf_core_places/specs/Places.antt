@@ -1,27 +1,26 @@
 -- Where a named path leads in a target type (the kernel's tools/lib/bpf/relo_core.c, bpf_core_spec_match).
-use Rattle.std.specs.Prelude.{ℕ, ◌+◌, ◌*◌, ◌^◌, ◌==◌, ◌&&◌, ◌||◌, nat_lt, if◌then◌else◌, Bool, false, List, [], ◌∷◌, length, slice_get, Option, Some, None, Result, Ok, Err, option_and_then, ◌≡◌, ◌<◌}
-use Rattle.ebpf_base.specs.Results.{if_ok}
+use Rattle.std.specs.Prelude.{ℕ, ◌+◌, ◌*◌, ◌^◌, ◌==◌, ◌&&◌, ◌||◌, nat_lt, if◌then◌else◌, Bool, false, List, [], ◌∷◌, length, slice_get, Option, Some, None, Result, Ok, Err, option_and_then, ◌≡◌, ◌<◌, ◌≤◌, ⊤, MatchBool}
+use Rattle.ebpf_base.specs.Faults.{if_ok}
 use Rattle.ebpf_btf.specs.Steps.{resolved, size_of}
 use Rattle.ebpf_btf.specs.TypeInfo.{TypeInfo}
+use Rattle.ebpf_btf.specs.Memory.{is_btf_memory}
 use Rattle.ebpf_btf.specs.Types.{array_of}
 use Rattle.ebpf_btf.specs.declared.array.BtfArray.{BtfArray}
 use Rattle.ebpf_btf.specs.declared.error.BtfError.{BtfError}
 use Rattle.ebpf_btf.specs.declared.error.BtfError.TheVariants.{InvalidTypeInfo}
 use Rattle.ebpf_btf.specs.declared.types.BtfType.{BtfType}
 use Rattle.ebpf_btf.specs.declared.types.BtfType.TheVariants.{Struct}
-use Rattle.ebpf_core_places.specs.MemberViews.{IsEntry, ViewEntry}
-use Rattle.ebpf_core_places.specs.Members.{if_read, member_search, members_in, MemberSearch}
-use Rattle.ebpf_core_places.specs.Searches.{search_entries, first_fitting, stop}
-use Rattle.ebpf_core_places.specs.declared.fault.PlaceFault.{PlaceFault}
-use Rattle.ebpf_core_places.specs.declared.fault.PlaceFault.TheVariants.{NestingLevel}
+use Rattle.ebpf_core_places.specs.Members.{IsEntry, ViewEntry, if_read, member_search, members_in, MemberSearch, search_entries, first_fitting, stop}
+use Rattle.ebpf_core_places.specs.declared.places.PlaceFault.{PlaceFault}
+use Rattle.ebpf_core_places.specs.declared.places.PlaceFault.TheVariants.{NestingLevel, Btf}
 use Rattle.ebpf_core_places.specs.declared.places.Place.{Place}
 use Rattle.ebpf_core_places.specs.declared.places.PlaceEnd.{PlaceEnd}
 use Rattle.ebpf_core_places.specs.declared.places.PlaceEnd.TheVariants.{Element, Member}
 use Rattle.ebpf_core_places.specs.declared.search.Answer.{Answer}
 use Rattle.ebpf_core_places.specs.declared.search.Answer.TheVariants.{Found}
 use Rattle.ebpf_core_places.specs.declared.search.FoundMember.{FoundMember}
-use Rattle.ebpf_core_places.specs.declared.steps.Step.{Step}
-use Rattle.ebpf_core_places.specs.declared.steps.Step.TheVariants.{Name, Index}
+use Rattle.ebpf_core_places.specs.declared.places.Step.{Step}
+use Rattle.ebpf_core_places.specs.declared.places.Step.TheVariants.{Name, Index}
 use Rattle.ebpf_core_places.specs.declared.walk.Spot.{Spot}
 
 -- how many parts a path may have before a step: a part is a step, or an anonymous member that a step passes
@@ -156,3 +155,63 @@ abbrev pub IsFirstMember : TypeInfo → TypeInfo → List ℕ → ℕ → ℕ �
 IsFirstMember local target name local_type parent answer =
     let name_search = member_search local target name local_type in
     IsFirst name_search search_entries (IsEntry name_search 0 0 (members_in target.types parent)) answer
+
+-- ---- where a path leads, step by step, without a list of the entries of a view
+
+-- A step from a spot leads so. The number of parts is tested first, then the type there is resolved; an index leads to
+-- an element of it, a name to the first member of its view.
+pub data StepLeads (local target : TypeInfo) (from : Spot) : Step → Result (Option Spot) PlaceFault → Type 0 where
+  TooLong : (by : Step) → path_parts ≤ from.parts → StepLeads local target from by (Err NestingLevel)
+  NoType : (by : Step) (e : BtfError) → from.parts < path_parts → resolved target.types from.type_id ≡ Err e → StepLeads local target from by (Err (Btf e))
+  ToElement : (index id : ℕ) → from.parts < path_parts → resolved target.types from.type_id ≡ Ok id
+      → StepLeads local target from (Index index) (by_index target from id index)
+  ToMember : (name : List ℕ) (local_type id : ℕ) (first : Result (Option FoundMember) PlaceFault) → from.parts < path_parts → resolved target.types from.type_id ≡ Ok id
+      → IsFirstMember local target name local_type id first
+      → StepLeads local target from (Name name local_type) (if_ok first (by_found from))
+
+-- some steps from a spot lead so: one after the other, up to the first that leads nowhere or has a fault
+pub data StepsLead (local target : TypeInfo) : List Step → Spot → Result (Option Place) PlaceFault → Type 0 where
+  Arrived : (from : Spot) → StepsLead local target [] from (Ok (Some from.place))
+  Refused : (by : Step) (path : List Step) (from : Spot) (fault : PlaceFault) → StepLeads local target from by (Err fault)
+      → StepsLead local target (by ∷ path) from (Err fault)
+  Lost : (by : Step) (path : List Step) (from : Spot) → StepLeads local target from by (Ok None)
+      → StepsLead local target (by ∷ path) from (Ok None)
+  Onward : (by : Step) (path : List Step) (from next : Spot) (answer : Result (Option Place) PlaceFault)
+      → StepLeads local target from by (Ok (Some next)) → StepsLead local target path next answer
+      → StepsLead local target (by ∷ path) from answer
+
+-- A path leads so from a root type. Its first step is the root index; another path leads nowhere.
+pub data PathLeads (local target : TypeInfo) (root : ℕ) : List Step → Result (Option Place) PlaceFault → Type 0 where
+  NoStep : PathLeads local target root [] (Ok None)
+  NoIndex : (name : List ℕ) (local_type : ℕ) (path : List Step) → PathLeads local target root (Name name local_type ∷ path) (Ok None)
+  NoRoot : (index : ℕ) (path : List Step) (fault : PlaceFault) → root_spot target root index ≡ Err fault
+      → PathLeads local target root (Index index ∷ path) (Err fault)
+  Begun : (index : ℕ) (path : List Step) (from : Spot) (answer : Result (Option Place) PlaceFault) → root_spot target root index ≡ Ok from
+      → StepsLead local target path from answer → PathLeads local target root (Index index ∷ path) answer
+
+-- ---- what holds of every path and every type
+
+-- no two answers are the first member of a name
+abbrev pub FirstMemberIsOne : Type 0
+FirstMemberIsOne = (local target : TypeInfo) (name : List ℕ) (local_type parent : ℕ) (a b : Result (Option FoundMember) PlaceFault)
+    → IsFirstMember local target name local_type parent a → IsFirstMember local target name local_type parent b → a ≡ b
+
+-- a path leads to the one place that `place_of` gives
+abbrev pub PathLeadsSo : Type 0
+PathLeadsSo = (local target : TypeInfo) (root : ℕ) (path : List Step) → PathLeads local target root path (place_of local target root path)
+
+-- and to no other
+abbrev pub PlaceIsOne : Type 0
+PlaceIsOne = (local target : TypeInfo) (root : ℕ) (path : List Step) (a : Result (Option Place) PlaceFault)
+    → PathLeads local target root path a → a ≡ place_of local target root path
+
+-- ---- the one answer of this layer that no definition states: want of memory
+
+abbrev pub is_place_memory : PlaceFault → Bool
+is_place_memory NestingLevel = false
+is_place_memory (Btf e) = is_btf_memory e
+
+-- what holds of an answer holds of this one, unless it is a want of memory
+abbrev pub MemoryAside : {X : Type 0} → Result X PlaceFault → (Result X PlaceFault → Type 0) → Type 0
+MemoryAside (Ok x) Holds = Holds (Ok x)
+MemoryAside (Err e) Holds = MatchBool (is_place_memory e) ⊤ (Holds (Err e))

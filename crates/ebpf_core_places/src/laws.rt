@@ -1,6 +1,6 @@
 //! What holds of every path and every type.
 
-ghost use Rattle.ebpf_core_places.specs.Laws.{FirstMemberIsOne, PathLeadsSo, PlaceIsOne};
+ghost use Rattle.ebpf_core_places.specs.Places.{FirstMemberIsOne, PathLeadsSo, PlaceIsOne};
 
 /// No two answers are the first member of a name, among the entries of a type's view by their indices.
 pub fn one_first_member()

@@ -4,17 +4,11 @@
 //! a kernel, as a rule), where the members may lie elsewhere, or inside other anonymous members.
 #![tactic(auto)]
 
-mod fault;
 pub mod laws;
 mod places;
-mod role;
 mod search;
-mod steps;
-mod types;
 mod walk;
 
-pub use fault::PlaceFault;
-pub use places::{Place, PlaceEnd, checked_place, element_place, is_last_of};
+pub use places::{Place, PlaceEnd, PlaceFault, Step, checked_place, element_place, is_last_of};
 pub use search::{FoundMember, find_member};
-pub use steps::Step;
 pub use walk::place_in;

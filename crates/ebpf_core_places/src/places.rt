@@ -1,9 +1,12 @@
 //! Where a path leads.
 
-ghost use Rattle.std.specs.Prelude.{◌≡◌};
+ghost use Rattle.std.specs.Prelude.{◌≡◌, slice_get};
 ghost use Rattle.ebpf_core_places.specs.Places.{checked_place, element_place, is_last_of};
+ghost use Rattle.ebpf_core_places.specs.declared.places.PlaceFault.TheVariants.{Btf};
 
+use ebpf_base::Text;
 use ebpf_btf::{Btf, BtfError, BtfType};
+use thiserror::Error;
 
 /// The last step of a path, in the target.
 #[derive(Clone, Copy, Debug, PartialEq, Eq)]
@@ -56,4 +59,40 @@ pub fn is_last_of(index: usize, ty: &BtfType<'_>) -> bool
         BtfType::Struct { members, .. } => index < members.len() && index + 1 == members.len(),
         _ => false,
     }
+}
+
+/// Why it could not be found out where a path leads.
+#[derive(Debug, Drop, Error)]
+pub enum PlaceFault {
+    /// A path has too many parts, a view too many levels or too many entries.
+    #[error("a path has more than 64 parts, or a type more than 64 levels or 1048576 members to look at")]
+    NestingLevel,
+    /// A name, a type or a size can't be read, or a bit offset is past 32 bits.
+    #[error("{0}")]
+    Btf(BtfError),
+}
+
+impl From<BtfError> for PlaceFault {
+    ghost from_gives = { λ error fault. fault ≡ Btf error };
+
+    fn from(error: BtfError) -> PlaceFault {
+        PlaceFault::Btf(error)
+    }
+}
+
+/// A step of a path.
+#[derive(Debug, Drop)]
+pub enum Step {
+    /// To the member with a name. `local_type` is the id of the local member's type, which the target member's type has
+    /// to be compatible with.
+    Name { name: Text, local_type: u32 },
+    /// To the element with an index. The first step of a path counts in the root type itself.
+    Index { index: usize },
+}
+
+/// The type with an id.
+pub fn type_at(btf: &Btf, type_id: u32) -> Option<BtfType<'_>>
+    ensures { result ≡ slice_get btf.now.types type_id }
+{
+    btf.get(type_id as usize)
 }

@@ -2,15 +2,12 @@
 
 ghost use Rattle.std.specs.Prelude.{◌≡◌, ◌<◌, ◌≤◌};
 ghost use Rattle.ebpf_base.specs.Faults.{Gives};
-ghost use Rattle.ebpf_core_places.specs.Memory.{MemoryAside, is_place_memory};
-ghost use Rattle.ebpf_core_places.specs.Paths.{PathLeads};
-ghost use Rattle.ebpf_core_places.specs.Places.{root_spot, by_index, by_name, followed, is_accepted, ends_in_last_member, place_of, stepped, element_spot, member_spot};
+ghost use Rattle.ebpf_core_places.specs.Places.{MemoryAside, is_place_memory, PathLeads, root_spot, by_index, by_name, followed, is_accepted, ends_in_last_member, place_of, stepped, element_spot, member_spot};
 
-use crate::fault::PlaceFault;
-use crate::places::{Place, PlaceEnd, checked_place, element_place, is_last_of};
+use crate::places::{
+    Place, PlaceEnd, PlaceFault, Step, checked_place, element_place, is_last_of, type_at,
+};
 use crate::search::{FoundMember, find_member};
-use crate::steps::Step;
-use crate::types::type_at;
 use ebpf_btf::Btf;
 
 /// How many parts a path may have before a step.

@@ -2,11 +2,7 @@ pub mod FirstRefusal
 pub mod FurthestOnes
 pub mod MatchAbsences
 pub mod MisfitNames
-pub mod OneRecord
-pub mod OutcomeRows
-pub mod OutcomeSlots
-pub mod PutSlots
-pub mod Reaches
 pub mod RecordRuns
+pub mod OutcomeSlots
 pub mod Refused
 pub mod Tops

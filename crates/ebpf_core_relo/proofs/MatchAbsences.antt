@@ -1,6 +1,6 @@
 -- Reasons beside matches and outcomes.
-use Rattle.std.proofs.Common.{◌≡◌, ℕ, zero, suc, ◌<◌, ◌≤◌, ◌⊎◌, inl, inr, Bool, true, false, List, [], ◌∷◌, length, take, Option, Some, None, Result, Ok, Err, refl, sym, ap, ◌∙◌, subst, arith, slice_get}
-use Rattle.std.specs.Prelude.{◌≢◌, if◌then◌else◌}
+use Rattle.std.proofs.Common.{◌≡◌, ℕ, zero, suc, ◌<◌, ◌≤◌, ◌⊎◌, inl, inr, Bool, true, false, List, [], ◌∷◌, length, take, Option, Some, None, Result, Ok, Err, refl, sym, ap, ◌∙◌, subst, arith, slice_get, if◌then◌else◌}
+use Rattle.std.specs.Prelude.{◌≢◌}
 use Rattle.std.proofs.Math.Seq.{take-length}
 use Rattle.std.proofs.lemmas.Bool.{cases_lt}
 use Rattle.std.proofs.lemmas.Option.{same_Some, slice_get_past}
@@ -8,20 +8,18 @@ use Rattle.ebpf_btf.specs.TypeInfo.{TypeInfo}
 use Rattle.ebpf_btf.specs.declared.error.BtfError.{BtfError}
 use Rattle.ebpf_ext.specs.declared.relocation.Relocation.{Relocation}
 use Rattle.ebpf_core_places.specs.Places.{place_of}
-use Rattle.ebpf_core_places.specs.declared.fault.PlaceFault.{PlaceFault}
-use Rattle.ebpf_core_places.specs.declared.fault.PlaceFault.TheVariants.{NestingLevel, Btf}
+use Rattle.ebpf_core_places.specs.declared.places.PlaceFault.{PlaceFault}
+use Rattle.ebpf_core_places.specs.declared.places.PlaceFault.TheVariants.{NestingLevel, Btf}
 use Rattle.ebpf_core_places.specs.declared.places.Place.{Place}
-use Rattle.ebpf_core_places.specs.declared.steps.Step.{Step}
-use Rattle.ebpf_core_places.specs.declared.steps.Step.TheVariants.{Name, Index}
+use Rattle.ebpf_core_places.specs.declared.places.Step.{Step}
+use Rattle.ebpf_core_places.specs.declared.places.Step.TheVariants.{Name, Index}
 use Rattle.ebpf_core.proofs.MatchSteps.{kept_with, match_more, no_candidates}
-use Rattle.ebpf_core.proofs.Questions.{outcomes_rest_on_questions, same_record}
-use Rattle.ebpf_base.specs.Results.{if_ok}
+use Rattle.ebpf_core.proofs.Searching.{outcomes_rest_on_questions, same_record}
+use Rattle.ebpf_base.specs.Faults.{if_ok}
 use Rattle.ebpf_core.specs.Answers.{of_types}
 use Rattle.ebpf_core.specs.LocalPaths.{local_path}
-use Rattle.ebpf_core.specs.Matches.{by_place, found_at_candidate, matches, type_name_at}
-use Rattle.ebpf_core.specs.Outcomes.{outcome_among}
-use Rattle.ebpf_core.specs.Questions.{Question, question_of}
-use Rattle.ebpf_core.specs.Searches.{candidates_for, is_local, itself, outcome_of}
+use Rattle.ebpf_core.specs.Outcomes.{by_place, found_at_candidate, matches, type_name_at, outcome_among}
+use Rattle.ebpf_core.specs.Searches.{Question, question_of, candidates_for, is_local, itself, outcome_of}
 use Rattle.ebpf_core.specs.declared.error.RelocationError.{RelocationError}
 use Rattle.ebpf_core.specs.declared.matches.Found.{Found}
 use Rattle.ebpf_core.specs.declared.matches.Match.{Match}
@@ -31,13 +29,11 @@ use Rattle.ebpf_core.specs.declared.paths.NamedPath.{NamedPath}
 use Rattle.ebpf_core.specs.declared.paths.NamedPath.TheVariants as paths
 use Rattle.ebpf_core_relo.proofs.FurthestOnes.{comes_furthest, nothing_leads}
 use Rattle.ebpf_core_candidates.proofs.Refusals.{ok_parts, same_ok}
-use Rattle.ebpf_core_relo.specs.AbsenceLaws.{AbsencesAreOfPaths, ComesFurthest, IsPathAbsence, NoValueIsOfMatches}
-use Rattle.ebpf_core_relo.specs.Absences.{absence_by, absence_of, field_absence, furthest, is_place, lacks, leads, step_absence, without_position}
+use Rattle.ebpf_core_relo.specs.Absences.{AbsencesAreOfPaths, ComesFurthest, IsPathAbsence, NoValueIsOfMatches, absence_by, absence_of, field_absence, furthest, is_place, lacks, leads, step_absence, without_position}
 use Rattle.ebpf_core_relo.specs.declared.absence.Absence.{Absence}
 use Rattle.ebpf_core_relo.specs.declared.absence.Absence.TheVariants.{MemberOfAnotherKind, NoMember, NoValue}
-use Rattle.ebpf_core_relo.specs.declared.furthest.Furthest.{Furthest}
-
--- ---- records that ask the same
+use Rattle.ebpf_core_relo.specs.declared.absence.Furthest.{Furthest}
+use Rattle.ebpf_base.proofs.Lists.{there_is}
 
 pub same_absence : (local target : TypeInfo) (r s : Relocation) → question_of r ≡ question_of s → absence_of local target r ≡ absence_of local target s
 unfolding absence_of
@@ -136,14 +132,6 @@ module _ (local target : TypeInfo) (local_id : ℕ) (steps : List Step) (place :
       by_test true e = cc
       by_test false e = cc
 
-  step_left : (n : ℕ) → n < length steps → (by : Step) × (slice_get steps n ≡ Some by)
-  step_left n small = there steps n small
-    where
-      there : (path : List Step) (n : ℕ) → n < length path → (by : Step) × (slice_get path n ≡ Some by)
-      there [] n small = absurd (omega arith)
-      there (by ∷ path) zero small = (by, refl)
-      there (by ∷ path) (suc n) small = there path n (omega arith)
-
   abbrev last : List ℕ → Furthest
   last ids = furthest local target steps ids
 
@@ -177,7 +165,7 @@ module _ (local target : TypeInfo) (local_id : ℕ) (steps : List Step) (place :
 
       by_place : ((last ids).steps < length steps) ⊎ (length steps ≤ (last ids).steps) → ⊥
       by_place (inl less) =
-          let (by, is) = step_left (last ids).steps less in
+          let (by, is) = there_is steps (last ids).steps less in
           of_step (place_of local target other (take (last ids).steps steps)) by (ap (step_absence target (place_of local target other (take (last ids).steps steps))) (sym is) ∙ e)
       by_place (inr past) =
           let all : (last ids).steps ≡ length steps = omega (arith, comes.within) in

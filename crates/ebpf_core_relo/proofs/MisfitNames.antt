@@ -1,6 +1,6 @@
 -- A name that a search finds no fitting member of stands in a type exactly where the search met a misfit.
-use Rattle.std.proofs.Common.{◌≡◌, ℕ, zero, suc, ◌+◌, ◌<◌, Bool, true, false, ◌&&◌, ◌||◌, List, [], ◌∷◌, ◌++◌, Option, Some, None, Result, Ok, Err, refl, sym, ap, ◌∙◌, arith, slice_get, ◌-◌, ◌≤◌, length, drop}
-use Rattle.std.specs.Prelude.{if◌then◌else◌, nat_lt, nat_eq, option_and_then, unwrap_or, ◌≢◌, slice_index_or}
+use Rattle.std.proofs.Common.{◌≡◌, ℕ, zero, suc, ◌+◌, ◌<◌, Bool, true, false, ◌&&◌, ◌||◌, List, [], ◌∷◌, ◌++◌, Option, Some, None, Result, Ok, Err, refl, sym, ap, ◌∙◌, arith, slice_get, ◌-◌, ◌≤◌, length, drop, if◌then◌else◌}
+use Rattle.std.specs.Prelude.{nat_lt, nat_eq, option_and_then, unwrap_or, ◌≢◌, slice_index_or}
 use Rattle.std.specs.List.{flat_map, list_all, list_any}
 use Rattle.std.specs.Option.{option_map_or}
 use Rattle.std.specs.Result.{result_ok}
@@ -8,7 +8,7 @@ use Rattle.std.specs.Str.{bytes_eq}
 use Rattle.std.proofs.lemmas.Bool.{ltb-true, and_parts, eq-eqb, ne_eqb}
 use Rattle.std.proofs.lemmas.List.Folds.{list_all-append, list_any-append}
 use Rattle.ebpf_btf.specs.Steps.{resolved, type_at}
-use Rattle.ebpf_base.specs.Results.{if_ok}
+use Rattle.ebpf_base.specs.Faults.{if_ok}
 use Rattle.ebpf_btf.specs.Next.{if_some}
 use Rattle.ebpf_btf.specs.Strings.{is_text, text_at}
 use Rattle.ebpf_btf.specs.TypeInfo.{TypeInfo}
@@ -18,20 +18,16 @@ use Rattle.ebpf_btf.specs.declared.error.BtfError.TheVariants.{UnknownBtfType}
 use Rattle.ebpf_btf.specs.declared.members.BtfMember.{BtfMember}
 use Rattle.ebpf_btf.specs.declared.types.BtfType.{BtfType}
 use Rattle.ebpf_core_candidates.specs.Compatibility.{fields_compatible}
-use Rattle.ebpf_core_places.proofs.TypeMembers.{known_members, known_role}
-use Rattle.ebpf_core_places.specs.Members.{MemberSearch, Member, if_read, member_search, indexed_member, members_from, members_in, named_role, role, anonymous_levels, anonymous_role}
-use Rattle.ebpf_core_places.specs.MemberViews.{ViewEntry, below as under, view_entry, flat_view, is_misfit, empty_view, own, view}
-use Rattle.ebpf_core_places.specs.Searches.{answer_member, or_on, run_search, search_entries, first_fitting, stop_by}
-use Rattle.ebpf_core_places.specs.declared.fault.PlaceFault.{PlaceFault}
-use Rattle.ebpf_core_places.specs.declared.fault.PlaceFault.TheVariants.{NestingLevel}
-use Rattle.ebpf_core_places.specs.declared.role.Role.{Role}
-use Rattle.ebpf_core_places.specs.declared.role.Role.TheVariants.{Anonymous, Other, Fitting, Misfit}
+use Rattle.ebpf_core_places.proofs.Members.{known_members, known_role}
+use Rattle.ebpf_core_places.specs.Members.{MemberSearch, Member, if_read, member_search, indexed_member, members_from, members_in, named_role, role, anonymous_levels, anonymous_role, ViewEntry, below as under, view_entry, flat_view, is_misfit, empty_view, own, view, answer_member, or_on, run_search, search_entries, first_fitting, stop_by}
+use Rattle.ebpf_core_places.specs.declared.places.PlaceFault.{PlaceFault}
+use Rattle.ebpf_core_places.specs.declared.places.PlaceFault.TheVariants.{NestingLevel}
+use Rattle.ebpf_core_places.specs.declared.search.Role.{Role}
+use Rattle.ebpf_core_places.specs.declared.search.Role.TheVariants.{Anonymous, Other, Fitting, Misfit}
 use Rattle.ebpf_core_places.specs.declared.search.Answer.{Answer}
 use Rattle.ebpf_core_places.specs.declared.search.Answer.TheVariants.{Found, Absent}
-use Rattle.ebpf_core_relo.specs.AbsenceLaws.{NamesAreMisfits}
-use Rattle.ebpf_core_relo.specs.Absences.{has_member, is_or_has, members_of_id}
-use Rattle.std.proofs.lemmas.List.{drop_all}
-use Rattle.ebpf_core.proofs.Lists.{rest_at}
+use Rattle.ebpf_core_relo.specs.Absences.{NamesAreMisfits, has_member, is_or_has, members_of_id}
+use Rattle.std.proofs.lemmas.List.{drop_all, drop_more}
 
 module _ (target : TypeInfo) (name : List ℕ) where
   -- what an anonymous member is told by, so many levels above the last
@@ -54,7 +50,7 @@ module _ (target : TypeInfo) (name : List ℕ) where
   module _ (levels : ℕ) (ms : List BtfMember) (i : ℕ) (m : BtfMember) (inside : i < length ms) (here : m ≡ slice_index_or ms i m) where
     told_at : (b : Bool) → is_or_has target name (below levels) m ≡ b → has_member target name levels (drop i ms) ≡ (b || has_member target name levels (drop (i + 1) ms))
     told_at b is =
-        ap (has_member target name levels) (rest_at ms i m inside ∙ ap (λ x. x ∷ drop (i + 1) ms) (sym here)) ∙ one_more levels m (drop (i + 1) ms) b is
+        ap (has_member target name levels) (drop_more ms i m inside ∙ ap (λ x. x ∷ drop (i + 1) ms) (sym here)) ∙ one_more levels m (drop (i + 1) ms) b is
 
     -- a member with a name
     named : m.name_offset ≢ 0 → (b : Bool) → b ≡ is_text name (text_at target.strings m.name_offset) → is_or_has target name (below levels) m ≡ b

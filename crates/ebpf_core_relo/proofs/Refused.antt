@@ -4,26 +4,22 @@ use Rattle.std.specs.Prelude.{IfErr, MatchBool}
 use Rattle.std.specs.FinMap.{empty, get}
 use Rattle.std.proofs.lemmas.Option.{same_Some}
 use Rattle.std.proofs.lemmas.Result.{IfErr-at_err, IfErr-weaker}
+use Rattle.ebpf_base.specs.Faults.{if_ok}
 use Rattle.ebpf_btf.specs.Next.{if_some}
 use Rattle.ebpf_btf.specs.Strings.{text_at}
 use Rattle.ebpf_btf.specs.declared.error.BtfError.{BtfError as TypeError}
 use Rattle.ebpf_ext.specs.declared.relocation.Relocation.{Relocation}
 use Rattle.ebpf_core.proofs.Refused.{outcome_first, outcome_refuses}
 use Rattle.ebpf_core_candidates.proofs.Refusals.{by_answer, by_option, ok_parts, same_ok}
-use Rattle.ebpf_base.specs.Results.{if_ok}
 use Rattle.ebpf_core.specs.Searches.{outcome_of}
 use Rattle.ebpf_core.specs.declared.error.RelocationError.{RelocationError}
 use Rattle.ebpf_core.specs.declared.error.RelocationError.TheVariants as errors
 use Rattle.ebpf_core_relo.proofs.RecordRuns.{in_section_ok}
-use Rattle.ebpf_core_relo.specs.Answers.{error_in_section, is_memory_in_section, without_texts_at}
+use Rattle.ebpf_core_relo.specs.Records.{error_in_section, is_memory_in_section, without_texts_at, RelocationInputs, Written, all_applied, answer_in_section, named_applied, put_outcome, record_applied, records_applied, section_applied, slots_so_far, slots_written, unnamed_section, AreApplied, RecordIsRefused, NoFunction, NoOutcome, NotCarried, RecordsAreRefused, NoName, NoSection, RecordFails}
 use Rattle.ebpf_core_relo.specs.Carried.{written}
 use Rattle.ebpf_core_relo.specs.Spans.{spans_of, span_at}
-use Rattle.ebpf_core_relo.specs.Records.{RelocationInputs, Written, all_applied, answer_in_section, named_applied, put_outcome, record_applied, records_applied, section_applied, slots_so_far, slots_written, unnamed_section}
-use Rattle.ebpf_core_relo.specs.Refused.{AreApplied, RecordIsRefused, NoFunction, NoOutcome, NotCarried, RecordsAreRefused, NoName, NoSection, RecordFails}
 use Rattle.ebpf_core_relo.specs.declared.error.BtfRelocationError.{BtfRelocationError}
 use Rattle.ebpf_elf.specs.declared.section.SectionIndex.{SectionIndex}
-
--- ---- the first step that is refused
 
 module _ {A S E : Type 0} (step : A → S → Result S E) (run : List A → S → Result S E)
     (none : (s : S) → run [] s ≡ Ok s) (more : (x : A) (xs : List A) (s : S) → run (x ∷ xs) s ≡ if_ok (step x s) (run xs)) where

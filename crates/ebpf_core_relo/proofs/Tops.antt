@@ -1,7 +1,7 @@
 -- The first span that holds an offset, found by the greatest end up to each span.
-use Rattle.std.proofs.Common.{◌≡◌, ℕ, zero, suc, ◌/◌, ◌<◌, ◌≤◌, Bool, true, false, ◌&&◌, List, [], ◌∷◌, ◌++◌, length, get_or, max, Some, None, refl, sym, ap, subst, ◌∙◌, arith, ltb, leb, inl, inr, append_assoc, map, append-nil, cond, Option, eqb}
+use Rattle.std.proofs.Common.{◌≡◌, ℕ, zero, suc, ◌/◌, ◌<◌, ◌≤◌, Bool, true, false, ◌&&◌, List, [], ◌∷◌, ◌++◌, length, get_or, max, Some, None, refl, sym, ap, subst, ◌∙◌, arith, ltb, leb, inl, inr, append_assoc, map, append-nil, cond, Option, eqb, if◌then◌else◌}
 use Rattle.std.proofs.Math.Bool.{and-true}
-use Rattle.std.specs.Prelude.{slice_get, if◌then◌else◌, nat_eq}
+use Rattle.std.specs.Prelude.{slice_get, nat_eq}
 use Rattle.std.proofs.Math.Nat.{le-max_left, le-max_right, max-le}
 use Rattle.std.specs.List.Sorted.{IsPartitionPoint, IsPartitionedBy}
 use Rattle.std.proofs.lemmas.Bool.{leb-true, leb-false, lt-leb, le-leb, lt-ltb, le-ltb, cases_lt, and_left, and_right, and_parts, eqb-true}
@@ -14,8 +14,8 @@ use Rattle.std.specs.FinMap.{FinMap, empty, entries, get, get-empty, get-insert,
 use Rattle.std.specs.Cmp.{nat_cmp_total}
 use Rattle.std.specs.Ordering.{eq_by_cmp, nat_cmp}
 use Rattle.std.proofs.lemmas.Bool.Decides.{eqb_tells}
-use Rattle.ebpf_base.proofs.Pointwise.{number_agrees}
-use Rattle.ebpf_base.specs.Keys.{key_cmp}
+use Rattle.ebpf_base.proofs.SameMaps.{number_agrees}
+use Rattle.ebpf_base.specs.Maps.{key_cmp}
 use Rattle.ebpf_model.specs.declared.function.Function.{Function}
 
 passed : (offset : ℕ) (s : Span) (ss : List Span) → span_holds offset s ≡ false → span_at offset (s ∷ ss) ≡ span_at offset ss

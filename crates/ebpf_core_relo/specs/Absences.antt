@@ -1,33 +1,36 @@
 -- Why a record has no value: how far along its path the kernel's types come, and what is missing there.
-use Rattle.std.specs.Prelude.{ℕ, zero, suc, ◌==◌, nat_lt, Bool, true, false, List, [], ◌∷◌, length, take, fold, Option, Some, None, option_map, option_and_then, unwrap_or, Result, Ok, Err, slice_get, if◌then◌else◌}
+use Rattle.std.specs.Prelude.{ℕ, zero, suc, ◌==◌, nat_lt, Bool, true, false, List, [], ◌∷◌, length, take, fold, Option, Some, None, option_map, option_and_then, unwrap_or, Result, Ok, Err, slice_get, if◌then◌else◌, ◌≡◌, ◌≢◌, ◌<◌, ◌≤◌}
 use Rattle.std.specs.List.{list_any}
 use Rattle.std.specs.Result.{result_ok}
-use Rattle.ebpf_btf.specs.Steps.{resolved_type}
+use Rattle.ebpf_btf.specs.Steps.{resolved_type, resolved}
 use Rattle.ebpf_btf.specs.Strings.{is_text, text_at}
 use Rattle.ebpf_btf.specs.TypeInfo.{TypeInfo}
 use Rattle.ebpf_btf.specs.Types.{members_of}
 use Rattle.ebpf_btf.specs.declared.error.BtfError.{BtfError}
 use Rattle.ebpf_btf.specs.declared.members.BtfMember.{BtfMember}
 use Rattle.ebpf_btf.specs.declared.types.BtfType.{BtfType}
-use Rattle.ebpf_core_places.specs.Members.{anonymous_levels}
+use Rattle.ebpf_core_places.specs.Members.{anonymous_levels, member_search, members_in, is_misfit, view, search_entries, first_fitting}
 use Rattle.ebpf_core_places.specs.Places.{place_of}
-use Rattle.ebpf_core_places.specs.declared.fault.PlaceFault.{PlaceFault}
+use Rattle.ebpf_core_places.specs.declared.places.PlaceFault.{PlaceFault}
 use Rattle.ebpf_core_places.specs.declared.places.Place.{Place}
 use Rattle.ebpf_core_places.specs.declared.places.PlaceEnd.{PlaceEnd}
 use Rattle.ebpf_core_places.specs.declared.places.PlaceEnd.TheVariants.{Element, Member}
-use Rattle.ebpf_core_places.specs.declared.steps.Step.{Step}
-use Rattle.ebpf_core_places.specs.declared.steps.Step.TheVariants.{Name, Index}
+use Rattle.ebpf_core_places.specs.declared.places.Step.{Step}
+use Rattle.ebpf_core_places.specs.declared.places.Step.TheVariants.{Name, Index}
 use Rattle.ebpf_ext.specs.declared.relocation.Relocation.{Relocation}
 use Rattle.ebpf_core.specs.Fields.{member_with_index}
 use Rattle.ebpf_core.specs.LocalPaths.{local_path}
-use Rattle.ebpf_core.specs.Searches.{candidates_for}
+use Rattle.ebpf_core.specs.Searches.{candidates_for, outcome_of}
 use Rattle.ebpf_core.specs.declared.error.RelocationError.{RelocationError}
 use Rattle.ebpf_core.specs.declared.paths.LocalPath.{LocalPath}
 use Rattle.ebpf_core.specs.declared.paths.NamedPath.{NamedPath}
+use Rattle.ebpf_core.specs.Outcomes.{matches}
+use Rattle.ebpf_core.specs.declared.matches.Match.{Match}
+use Rattle.ebpf_core.specs.declared.outcome.Outcome.{Outcome}
 use Rattle.ebpf_core.specs.declared.paths.NamedPath.TheVariants as paths
 use Rattle.ebpf_core_relo.specs.declared.absence.Absence.{Absence}
 use Rattle.ebpf_core_relo.specs.declared.absence.Absence.TheVariants.{NoType, TypeOfAnotherKind, NoMember, MemberOfAnotherKind, NoEnumerator, NoValue}
-use Rattle.ebpf_core_relo.specs.declared.furthest.Furthest.{Furthest}
+use Rattle.ebpf_core_relo.specs.declared.absence.Furthest.{Furthest}
 
 -- ---- how far a path leads
 
@@ -133,3 +136,54 @@ without_position r = record r { number = 0; insn_off = 0 }
 -- why a record that has no value has none
 unfoldable pub absence_of : TypeInfo → TypeInfo → Relocation → Absence
 absence_of local target r = absence_by local target (candidates_for local target r.type_id) (local_path local (without_position r))
+
+-- ---- what holds of the reasons why records have no value
+
+-- A candidate comes furthest along a path, and so far: so many steps lead somewhere in it, more lead nowhere in any, and
+-- in those before it not even these lead anywhere.
+pub record ComesFurthest (local target : TypeInfo) (steps : List Step) (ids : List ℕ) (id n : ℕ) : Type 0 where
+  pub index : ℕ
+  pub at : slice_get ids index ≡ Some id
+  pub within : n ≤ length steps
+  pub there : leads local target steps id n ≡ true
+  pub no_further : (k other m : ℕ) → slice_get ids k ≡ Some other → n < m → m ≤ length steps → leads local target steps other m ≡ false
+  pub first : (k other : ℕ) → k < index → slice_get ids k ≡ Some other → leads local target steps other n ≡ false
+
+abbrev pub FurthestComesFurthest : Type 0
+FurthestComesFurthest =
+    (local target : TypeInfo) (steps : List Step) (ids : List ℕ) (id : ℕ) → (furthest local target steps ids).candidate ≡ Some id
+    → ComesFurthest local target steps ids id (furthest local target steps ids).steps
+
+-- Where no candidate comes furthest, no step leads anywhere in any.
+abbrev pub NoneLeads : Type 0
+NoneLeads =
+    (local target : TypeInfo) (steps : List Step) (ids : List ℕ) → (furthest local target steps ids).candidate ≡ None
+    → (k other m : ℕ) → slice_get ids k ≡ Some other → m ≤ length steps → leads local target steps other m ≡ false
+
+-- Both sides of a record could be read, and the reason is that of its path among its candidates.
+pub record IsPathAbsence (local target : TypeInfo) (r : Relocation) : Type 0 where
+  pub path : LocalPath
+  pub side : local_path local (without_position r) ≡ Ok path
+  pub ids : List ℕ
+  pub candidates : candidates_for local target r.type_id ≡ Ok ids
+  pub absence : absence_of local target r ≡ absence_among local target path.path ids
+
+abbrev pub AbsencesAreOfPaths : Type 0
+AbsencesAreOfPaths =
+    (local target : TypeInfo) (r : Relocation) (outcome : Outcome) → outcome_of local target r ≡ Ok outcome → outcome.value ≡ None → IsPathAbsence local target r
+
+-- The reason of a field is `NoValue` exactly where a candidate matches.
+abbrev pub NoValueIsOfMatches : Type 0
+NoValueIsOfMatches =
+    (local target : TypeInfo) (local_id : ℕ) (steps : List Step) (place : Place) (ids : List ℕ) (found : List Match)
+    → matches local target local_id (paths.Field steps place) ids ≡ Ok found
+    → (field_absence local target steps ids ≡ NoValue → found ≢ []) × (found ≢ [] → field_absence local target steps ids ≡ NoValue)
+
+-- Where a search for a name comes to no member whose type fits, the name stands in the type exactly where the search met
+-- one whose type does not.
+abbrev pub NamesAreMisfits : Type 0
+NamesAreMisfits =
+    (local target : TypeInfo) (name : List ℕ) (local_type type_id id : ℕ) → resolved target.types type_id ≡ Ok id
+    → first_fitting (member_search local target name local_type) search_entries (members_in target.types id) ≡ Ok None
+    → has_member target name anonymous_levels (members_of_id target type_id)
+    ≡ list_any (λ e. is_misfit ((member_search local target name local_type).role_of e.inside e.member)) (view (member_search local target name local_type) anonymous_levels 0 0 (members_in target.types id))

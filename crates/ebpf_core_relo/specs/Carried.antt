@@ -14,8 +14,6 @@ use Rattle.ebpf_core_relo.specs.declared.carried.Carrier.TheVariants.{Immediate,
 use Rattle.ebpf_parts.specs.declared.insn.bpf_insn.{bpf_insn}
 use Rattle.ebpf_parts.specs.Slots.{call, class_alu, class_alu64, class_jmp, class_jmp32, class_ld, ld_imm64, size_b, size_dw, size_h, size_w, src_of}
 
--- ---- one slot
-
 -- where a slot carries a number, by its class in the low three bits: arithmetic (4 and 7) in the immediate, a load or
 -- store through a register (1, 2 and 3) in the offset, a wide load (0) in two immediates, a jump (5 and 6) nowhere
 abbrev pub carrier_of_class : ℕ → Carrier

@@ -3,11 +3,11 @@ use Rattle.std.specs.Prelude.{◌≡◌, ⊤, [], MatchBool, Result, Ok, Err, �
 use Rattle.ebpf_core.specs.Answers.{without_texts, is_record_memory}
 use Rattle.ebpf_core.specs.declared.error.RelocationError.{RelocationError}
 use Rattle.ebpf_core_relo.specs.declared.error.BtfRelocationError.{BtfRelocationError}
-use Rattle.ebpf_core_relo.specs.Answers.{is_memory_in_section, without_texts_at}
+use Rattle.ebpf_core_relo.specs.Records.{is_memory_in_section, without_texts_at}
 use Rattle.std.specs.FinMap.{FinMap, insert}
 use Rattle.std.specs.Ordering.{nat_cmp}
 use Rattle.ebpf_core_relo.specs.declared.spans.Span.{Span}
-use Rattle.ebpf_base.specs.Keys.{key_cmp}
+use Rattle.ebpf_base.specs.Maps.{key_cmp}
 use Rattle.ebpf_parts.specs.declared.insn.bpf_insn.{bpf_insn}
 use Rattle.ebpf_model.specs.Symbols.{FunctionKey}
 use Rattle.ebpf_model.specs.declared.function.Function.{Function}

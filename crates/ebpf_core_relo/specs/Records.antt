@@ -1,26 +1,43 @@
 -- What the CO-RE records of an object make of the slots of its functions (the kernel's
--- Documentation/bpf/llvm_reloc.rst, "CO-RE Relocations"; Documentation/bpf/btf.rst, 4.2).
-use Rattle.std.specs.Prelude.{ℕ, ◌-◌, ◌/◌, List, [], ◌∷◌, ◌++◌, Option, Some, None, Result, Ok, Err, codes}
+-- Documentation/bpf/llvm_reloc.rst, "CO-RE Relocations"; Documentation/bpf/btf.rst, 4.2), and why they are refused.
+use Rattle.std.specs.Prelude.{ℕ, Bool, List, ◌-◌, ◌/◌, [], ◌∷◌, ◌++◌, Option, Some, None, Result, Ok, Err, codes, ◌≡◌, take, slice_get}
 use Rattle.std.specs.FinMap.{FinMap, empty, get, insert}
 use Rattle.std.specs.Fmt.{decimal}
-use Rattle.ebpf_base.specs.Keys.{key_cmp, text_cmp}
+use Rattle.ebpf_core.specs.Answers.{without_texts, is_record_memory}
+use Rattle.ebpf_core.specs.declared.error.RelocationError.{RelocationError}
+use Rattle.ebpf_base.specs.Maps.{key_cmp, text_cmp}
 use Rattle.ebpf_ext.specs.declared.relocation.Relocation.{Relocation}
+use Rattle.ebpf_base.specs.Faults.{if_ok}
 use Rattle.ebpf_btf.specs.Next.{if_some}
 use Rattle.ebpf_btf.specs.Strings.{text_at}
 use Rattle.ebpf_btf.specs.TypeInfo.{TypeInfo}
-use Rattle.ebpf_base.specs.Results.{if_ok}
 use Rattle.ebpf_core.specs.Searches.{outcome_of, Sides}
-use Rattle.ebpf_core.specs.declared.error.RelocationError.{RelocationError}
 use Rattle.ebpf_core.specs.declared.error.RelocationError.TheVariants.{BtfError, FunctionNotFound, SectionNotFound}
-use Rattle.ebpf_core_relo.specs.Answers.{error_in_section}
-use Rattle.ebpf_core_relo.specs.Carried.{written}
-use Rattle.ebpf_core_relo.specs.Spans.{spans_of, span_at}
-use Rattle.ebpf_core_relo.specs.declared.error.BtfRelocationError.{BtfRelocationError}
-use Rattle.ebpf_core_relo.specs.declared.spans.Span.{Span}
 use Rattle.ebpf_elf.specs.declared.section.SectionIndex.{SectionIndex}
 use Rattle.ebpf_parts.specs.declared.insn.bpf_insn.{bpf_insn}
 use Rattle.ebpf_model.specs.Symbols.{FunctionKey}
 use Rattle.ebpf_model.specs.declared.function.Function.{Function}
+use Rattle.ebpf_btf.specs.declared.error.BtfError.{BtfError as TypeError}
+use Rattle.ebpf_core.specs.Laws.{OutcomeIsRefused}
+use Rattle.ebpf_core.specs.declared.outcome.Outcome.{Outcome}
+use Rattle.ebpf_core_relo.specs.declared.error.BtfRelocationError.{BtfRelocationError}
+use Rattle.ebpf_core_relo.specs.Carried.{written}
+use Rattle.ebpf_core_relo.specs.Spans.{spans_of, span_at}
+use Rattle.ebpf_core_relo.specs.declared.spans.Span.{Span}
+
+abbrev pub is_memory_in_section : BtfRelocationError → Bool
+is_memory_in_section e = is_record_memory e.error
+
+-- an error without the texts in it that are for people to read
+abbrev pub without_texts_at : BtfRelocationError → BtfRelocationError
+without_texts_at e = record { section = e.section; error = without_texts e.error }
+
+-- a fault in the section of a name
+abbrev pub error_in_section : List ℕ → RelocationError → BtfRelocationError
+error_in_section name e = record { section = name; error = e }
+
+-- ---- what the CO-RE records of an object make of the slots of its functions (the kernel's
+-- Documentation/bpf/llvm_reloc.rst, "CO-RE Relocations"; Documentation/bpf/btf.rst, 4.2)
 
 -- the slots that records have written so far, by the functions' keys
 abbrev pub Written : Type 0
@@ -110,3 +127,44 @@ abbrev pub with_slots : Option (List bpf_insn) → Option Function → Option Fu
 with_slots written None = None
 with_slots None (Some f) = Some f
 with_slots (Some slots) (Some f) = Some (record f { instructions = slots })
+
+-- ---- why the records of an object are refused: where the first fault stands, with all records before it applied
+
+-- A record of a section is refused with a fault, over the slots that those before it wrote: no function holds its
+-- instruction, the search for its outcome has the fault, or its slot can't carry the outcome.
+pub data RecordIsRefused (inputs : RelocationInputs) (section : ℕ) (so_far : Written) (r : Relocation) : RelocationError → Type 0 where
+  NoFunction : span_at r.insn_off (spans_of inputs.functions section) ≡ None → RecordIsRefused inputs section so_far r FunctionNotFound
+  NoOutcome : (span : Span) (fault : RelocationError) → span_at r.insn_off (spans_of inputs.functions section) ≡ Some span
+      → OutcomeIsRefused inputs.sides.local inputs.sides.target r fault → RecordIsRefused inputs section so_far r fault
+  NotCarried : (span : Span) (outcome : Outcome) (fault : RelocationError) → span_at r.insn_off (spans_of inputs.functions section) ≡ Some span
+      → outcome_of inputs.sides.local inputs.sides.target r ≡ Ok outcome
+      → written r.number (slots_so_far inputs.functions so_far (section, span.address)) ((r.insn_off - span.start) / 8) outcome ≡ Err fault
+      → RecordIsRefused inputs section so_far r fault
+
+-- The records before those of part number n, and the first m of that part, were all applied, and left these slots.
+abbrev pub AreApplied : RelocationInputs → List (ℕ × List Relocation) → ℕ → ℕ × List Relocation → ℕ → Written → Type 0
+AreApplied inputs parts n part m so_far = slots_written inputs (take n parts ++ (part.0, take m part.1) ∷ []) ≡ Ok so_far
+
+-- The records of an object are refused with a fault: all before it were applied, and then the name of a part's section
+-- can't be read, no section has it, or a record of the part is refused.
+pub data RecordsAreRefused (inputs : RelocationInputs) (parts : List (ℕ × List Relocation)) : BtfRelocationError → Type 0 where
+  NoName : (n : ℕ) (part : ℕ × List Relocation) (so_far : Written) (e : TypeError) → slice_get parts n ≡ Some part
+      → slots_written inputs (take n parts) ≡ Ok so_far → text_at inputs.sides.local.strings part.0 ≡ Err e
+      → RecordsAreRefused inputs parts (error_in_section (unnamed_section part.0) (BtfError e))
+  NoSection : (n : ℕ) (part : ℕ × List Relocation) (so_far : Written) (name : List ℕ) → slice_get parts n ≡ Some part
+      → slots_written inputs (take n parts) ≡ Ok so_far → text_at inputs.sides.local.strings part.0 ≡ Ok name
+      → get inputs.section_infos name ≡ None → RecordsAreRefused inputs parts (error_in_section name SectionNotFound)
+  RecordFails : (n m : ℕ) (part : ℕ × List Relocation) (so_far : Written) (name : List ℕ) (section : SectionIndex) (r : Relocation) (fault : RelocationError)
+      → slice_get parts n ≡ Some part → slice_get part.1 m ≡ Some r → AreApplied inputs parts n part m so_far
+      → text_at inputs.sides.local.strings part.0 ≡ Ok name → get inputs.section_infos name ≡ Some section
+      → RecordIsRefused inputs section.0 so_far r fault → RecordsAreRefused inputs parts (error_in_section name fault)
+
+-- Where the records of an object have a fault, they are refused so.
+abbrev pub FaultsAreRefusals : Type 0
+FaultsAreRefusals =
+    (inputs : RelocationInputs) (parts : List (ℕ × List Relocation)) (fault : BtfRelocationError) → slots_written inputs parts ≡ Err fault → RecordsAreRefused inputs parts fault
+
+-- And they are refused with no other fault.
+abbrev pub RefusalIsOne : Type 0
+RefusalIsOne =
+    (inputs : RelocationInputs) (parts : List (ℕ × List Relocation)) (fault : BtfRelocationError) → RecordsAreRefused inputs parts fault → slots_written inputs parts ≡ Err fault

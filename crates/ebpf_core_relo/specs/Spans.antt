@@ -3,7 +3,7 @@
 use Rattle.std.specs.Prelude.{ℕ, ◌/◌, Bool, ◌&&◌, List, Option, find, nat_le, nat_lt, ◌+◌, nat_eq, length, map, filter, ◌≡◌, true, [], ◌∷◌, ◌++◌, max}
 use Rattle.ebpf_core_relo.specs.declared.spans.Span.{Span}
 use Rattle.std.specs.FinMap.{FinMap, entries}
-use Rattle.ebpf_base.specs.Keys.{key_cmp}
+use Rattle.ebpf_base.specs.Maps.{key_cmp}
 use Rattle.ebpf_model.specs.Symbols.{FunctionKey}
 use Rattle.ebpf_model.specs.declared.function.Function.{Function}
 

@@ -1,9 +1,8 @@
 //! What holds of the slots that records write.
 
-ghost use Rattle.ebpf_core_relo.specs.AbsenceLaws.{AbsencesAreOfPaths, FurthestComesFurthest, NamesAreMisfits, NoValueIsOfMatches, NoneLeads};
-ghost use Rattle.ebpf_core_relo.specs.Alone.{OtherSlotsStay, PutSlotsStand, RecordsAloneAreCarried, RecordsHaveSections, RecordsHaveSlots, RecordsKeepShapes, SlotsStayAsMany};
-ghost use Rattle.ebpf_core_relo.specs.OutcomeLaws.{FirstRefusalIsTheFault, OutcomesAreInOrder, SlotsAreTheSame};
-ghost use Rattle.ebpf_core_relo.specs.Refused.{FaultsAreRefusals, RefusalIsOne};
+ghost use Rattle.ebpf_core_relo.specs.Absences.{AbsencesAreOfPaths, FurthestComesFurthest, NamesAreMisfits, NoValueIsOfMatches, NoneLeads};
+ghost use Rattle.ebpf_core_relo.specs.RecordOutcomes.{OtherSlotsStay, PutSlotsStand, RecordsAloneAreCarried, RecordsHaveSections, RecordsHaveSlots, RecordsKeepShapes, SlotsStayAsMany, FirstRefusalIsTheFault, OutcomesAreInOrder, SlotsAreTheSame};
+ghost use Rattle.ebpf_core_relo.specs.Records.{FaultsAreRefusals, RefusalIsOne};
 ghost use Rattle.ebpf_core_relo.specs.Carried.{WrittenSlotsCarry};
 
 /// The slots that one record alone touches are those of its function with its outcome written into them: whatever the
@@ -50,7 +49,7 @@ pub fn records_are_refused()
 {}
 
 /// What the records of an object come to stands in their order, each over the slots that those before it left.
-#[tactic(auto, using(crate::proofs::OutcomeRows::in_order))]
+#[tactic(auto, using(crate::proofs::FirstRefusal::in_order))]
 pub fn outcomes_are_in_order()
     ensures { OutcomesAreInOrder }
 {}

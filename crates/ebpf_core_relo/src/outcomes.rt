@@ -5,17 +5,15 @@ ghost use Rattle.ebpf_core.specs.Searches.{Sides};
 ghost use Rattle.ebpf_core_relo.specs.RecordOutcomes.{applied, left_by, named_in, named_records, outcome_in, outcomes_from, record_outcomes, record_slots, section_number_at, slot_of_record, slots_left, outcome_without_texts};
 ghost use Rattle.ebpf_core_relo.specs.Records.{relocation_inputs_between, relocation_inputs};
 ghost use Rattle.ebpf_core_relo.specs.PrivateContracts.{found_number};
-ghost use Rattle.ebpf_core_relo.specs.declared.record_outcome.RecordResult.TheVariants.{Refused};
+ghost use Rattle.ebpf_core_relo.specs.declared.outcomes.RecordResult.TheVariants.{Refused};
 
-use crate::function_spans::FunctionSpans;
-use crate::memory::unless_memory_of_types;
-use crate::record_outcome::{RecordOutcome, RecordOutcomes, RecordResult, RecordSlot};
+use crate::absence::Absence;
+use crate::error::unless_memory_of_types;
 use crate::record_search::RecordSearch;
-use crate::section_spans::span_in;
-use crate::spans::SLOT;
+use crate::spans::{FunctionSpans, SLOT, span_in};
 use ebpf_base::{ByKey, ByName, Items};
 use ebpf_btf::{Btf, BtfError};
-use ebpf_core::RelocationError;
+use ebpf_core::{Outcome, RelocationError};
 use ebpf_elf::SectionIndex;
 use ebpf_ext::{BtfExt, Relocation};
 use ebpf_model::Function;
@@ -239,4 +237,46 @@ pub fn record_outcomes(
         &mut outcomes,
     )?;
     Ok(outcomes)
+}
+
+/// What each CO-RE record of an object comes to, and what all of them write.
+#[derive(Debug, Drop)]
+pub struct RecordOutcomes {
+    /// The records in order, also those behind one that is refused.
+    pub records: Items<RecordOutcome>,
+    /// The slots that the records write that aren't refused, each over those before it, by the functions' keys.
+    pub written: ByKey<Items<bpf_insn>>,
+}
+
+/// What one record comes to.
+#[derive(Debug, Drop)]
+pub struct RecordOutcome {
+    /// The offset of its section's name in the strings of the local types.
+    pub section_name: u32,
+    /// Its place among the records of its section, from 0 on.
+    pub number: usize,
+    /// The slot that it is about, where a function of its section has it.
+    pub slot: Option<RecordSlot>,
+    /// What it comes to.
+    pub result: RecordResult,
+}
+
+/// The slot that a record is about.
+#[derive(Clone, Copy, Debug, PartialEq, Eq)]
+pub struct RecordSlot {
+    /// The key of its function: the index of the section, and the address.
+    pub function: (usize, u64),
+    /// Its number in the function, from 0 on.
+    pub slot: usize,
+}
+
+/// What a record comes to.
+#[derive(Debug, Drop)]
+pub enum RecordResult {
+    /// Its instruction carries a number: also the 0 that says that something is not there, where that is asked.
+    Value(Outcome),
+    /// There is no number, and its instruction fails where it is reached.
+    Absent(Absence),
+    /// It can't be applied, and its instruction is as it was.
+    Refused(RelocationError),
 }

@@ -8,10 +8,10 @@ ghost use Rattle.ebpf_core_relo.specs.RecordOutcomes.{applied, left_by, outcome_
 ghost use Rattle.ebpf_core_relo.specs.Records.{relocation_inputs};
 
 use crate::absence::{Absence, absence_among};
-use crate::function_spans::FunctionSpans;
-use crate::memory::{unless_memory, unless_memory_of_types};
-use crate::record_outcome::RecordResult;
-use crate::records::apply_record;
+use crate::error::{unless_memory, unless_memory_of_types};
+use crate::outcomes::RecordResult;
+use crate::sections::apply_record;
+use crate::spans::FunctionSpans;
 use ebpf_base::{ByKey, Items};
 use ebpf_btf::Btf;
 use ebpf_core::{CoreSearch, NamedPath, Outcome, Question, local_path, question_of};
@@ -44,7 +44,7 @@ pub struct RecordSearch<'a> {
 
 impl<'a> Model for RecordSearch<'a> {
     ghost use Rattle.std.specs.Prelude.{◌≡◌};
-    ghost use Rattle.ebpf_core.specs.Questions.{AreCached};
+    ghost use Rattle.ebpf_core.specs.Searches.{AreCached};
     ghost use Rattle.ebpf_core.specs.Searches.{Sides};
     ghost use Rattle.ebpf_core_relo.specs.Absences.{absence_of};
 

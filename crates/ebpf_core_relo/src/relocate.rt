@@ -3,14 +3,12 @@
 ghost use Rattle.std.specs.Prelude.{◌≡◌, Ok, Err, IfOk, IfErr, MatchBool, []};
 ghost use Rattle.std.specs.FinMap as map;
 ghost use Rattle.ebpf_model.specs.Symbols.{FunctionKey};
-ghost use Rattle.ebpf_core_relo.specs.Answers.{is_memory_in_section, without_texts_at};
-ghost use Rattle.ebpf_core_relo.specs.Refused.{RecordsAreRefused};
-ghost use Rattle.ebpf_core_relo.specs.Records.{relocation_inputs_between, slots_written, with_slots};
+ghost use Rattle.ebpf_core_relo.specs.Records.{is_memory_in_section, without_texts_at, RecordsAreRefused, relocation_inputs_between, slots_written, with_slots};
 ghost use Rattle.ebpf_core_relo.specs.PrivateContracts.{with_slots_at};
 
 use crate::error::BtfRelocationError;
-use crate::function_spans::FunctionSpans;
 use crate::sections::apply_all;
+use crate::spans::FunctionSpans;
 use ebpf_base::{ByKey, ByName, Items};
 use ebpf_btf::Btf;
 use ebpf_core::CoreSearch;

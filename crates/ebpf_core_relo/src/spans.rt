@@ -1,10 +1,14 @@
-//! The spans of functions in the data of their section.
+//! Which function of a section a record is about: the spans of functions in the data of their section.
 
-ghost use Rattle.std.specs.Prelude.{◌≡◌, ◌++◌, ◌∷◌, [], OnOk};
-ghost use Rattle.ebpf_core_relo.specs.Spans.{span_at};
-ghost use Rattle.ebpf_core_relo.specs.PrivateContracts.{first_at};
+ghost use Rattle.std.specs.Prelude.{◌≡◌, ◌++◌, ◌∷◌, [], OnOk, ◌≤◌, nat_le, slice_get, true, false, ℕ, IfOk};
+ghost use Rattle.std.specs.List.Sorted.{IsPartitionPoint, IsPartitionedBy};
+ghost use Rattle.ebpf_core_relo.specs.Spans.{span_at, last_start, span_of, spans_of};
+ghost use Rattle.ebpf_core_relo.specs.PrivateContracts.{first_at, if_begun, with_span, spans_or_none};
+ghost use Rattle.std.specs.FinMap as map;
 
-use crate::runs::RisingSpans;
+use ebpf_base::{ByKey, ByName, BySection};
+use ebpf_elf::SectionIndex;
+use ebpf_model::Function;
 use std::alloc::{AllocError, Global};
 use std::marker::Model;
 use std::mem;
@@ -96,5 +100,172 @@ impl Spans {
         ensures { result ≡ span_at offset self.now }
     {
         first_at(&self.before, &self.last, offset)
+    }
+}
+
+/// Spans of which each begins no earlier than the one before it. Contracts see their list.
+#[derive(Drop)]
+pub struct RisingSpans {
+    spans: Vec<Span>,
+    ends: Vec<usize>,
+    top: usize,
+    last_start: usize,
+}
+
+impl Model for RisingSpans {
+    ghost use Rattle.std.specs.Prelude.{List};
+    ghost use Rattle.ebpf_core_relo.specs.declared.spans.Span.{Span};
+    ghost use Rattle.ebpf_core_relo.specs.Spans.{IsTopped};
+
+    ghost Value = { List Span };
+
+    ghost view = { λ s. s.spans.items };
+
+    ghost invariant = { λ s. IsTopped s.spans.items s.ends.items s.top s.last_start };
+}
+
+/// The upper bound of a slot among ends: the number of those that are not past it, where these come first.
+fn upper_bound(ends: &[usize], slot: usize) -> usize
+    requires { IsPartitionedBy (λ end. nat_le end slot) ends.now }
+    ensures { IsPartitionPoint (λ end. nat_le end slot ≡ true) (λ end. nat_le end slot ≡ false) ends.now result }
+{
+    ends.partition_point(|end| *end <= slot)
+}
+
+impl RisingSpans {
+    /// No spans, without memory.
+    pub fn new(alloc: Global) -> RisingSpans
+        ensures { result ≡ [] }
+    {
+        RisingSpans {
+            spans: Vec::new(alloc),
+            ends: Vec::new(alloc),
+            top: 0,
+            last_start: 0,
+        }
+    }
+
+    /// Where the last span begins, in bytes; 0 where there is none.
+    pub fn last_start(&self) -> usize
+        ensures { result ≡ last_start 0 self.now }
+    {
+        self.last_start
+    }
+
+    /// Adds a span that begins no earlier than the last. `AllocError` where memory is refused; then of these spans
+    /// nothing is known.
+    pub fn push(&mut self, span: Span) -> Result<(), AllocError>
+        requires { last_start 0 self.old ≤ span.start }
+        ensures { OnOk result (self.new ≡ self.old ++ span ∷ []) }
+    {
+        let top = self.top.max(span.end);
+        self.ends.reserve(1)?;
+        self.spans.push(span)?;
+        self.ends.push(top)?;
+        self.top = top;
+        self.last_start = span.start;
+        Ok(())
+    }
+
+    /// The first span that holds an offset, in bytes. The cost grows by the logarithm of their number.
+    #[tactic(auto, using(crate::proofs::Tops::parted, crate::proofs::Tops::found_by))]
+    pub fn at(&self, offset: usize) -> Option<Span>
+        ensures { result ≡ span_at offset self.now }
+    {
+        let number = upper_bound(&self.ends, offset / SLOT);
+        begun(&self.spans, number, offset)
+    }
+}
+
+/// The span with a number, where it begins no later than an offset.
+fn begun(spans: &[Span], number: usize, offset: usize) -> Option<Span>
+    ensures { result ≡ if_begun offset (slice_get spans.now number) }
+{
+    match spans.get(number) {
+        Some(span) if span.start <= offset => Some(*span),
+        _ => None,
+    }
+}
+
+/// What a function takes of its section's data.
+fn span_of(address: u64, function: &Function) -> Span
+    ensures { result ≡ span_of ((function.now.section_index.0, address), function.now) }
+{
+    Span {
+        address,
+        start: function.section_offset,
+        end: function.section_offset / SLOT + function.instructions.as_slice().len(),
+    }
+}
+
+/// Adds a span behind the others of its section.
+fn add(
+    alloc: Global,
+    sections: &mut BySection<Spans>,
+    section: usize,
+    span: Span,
+) -> Result<(), AllocError>
+    ensures { OnOk result (sections.new ≡ with_span sections.old section span (map.get sections.old section)) }
+{
+    match sections.get_mut(section) {
+        Some(spans) => {
+            spans.push(alloc, span)?;
+        }
+        None => {
+            let mut spans = Spans::new(alloc);
+            spans.push(alloc, span)?;
+            sections.insert(section, spans)?;
+        }
+    }
+    Ok(())
+}
+
+/// The spans of all functions, by the sections of their keys, in the order of their addresses.
+#[tactic(auto, using(crate::proofs::Tops::span_more, crate::proofs::Tops::span_none, crate::proofs::Tops::span_all))]
+pub fn section_spans(
+    alloc: Global,
+    functions: &ByKey<Function>,
+) -> Result<BySection<Spans>, AllocError>
+    ensures { IfOk result (λ sections. (q : ℕ) → spans_or_none (map.get sections q) ≡ spans_of functions.now q) }
+{
+    let mut sections = BySection::new(alloc);
+    for (key, function) in functions.iter() {
+        add(alloc, &mut sections, key.0, span_of(key.1, function))?;
+    }
+    Ok(sections)
+}
+
+/// The span in a section that holds an offset, in bytes, and has the lowest address.
+pub fn span_in(sections: &BySection<Spans>, section: usize, offset: usize) -> Option<Span>
+    ensures { result ≡ span_at offset (spans_or_none (map.get sections.now section)) }
+{
+    sections.get(section)?.at(offset)
+}
+
+/// The functions as they stand, with their spans, and the sections' indexes by name.
+#[derive(Drop)]
+pub struct FunctionSpans<'a> {
+    pub functions: &'a ByKey<Function>,
+    pub section_infos: &'a ByName<SectionIndex>,
+    pub spans: BySection<Spans>,
+    ghost spans_are: { (q : ℕ) → spans_or_none (map.get spans q) ≡ spans_of functions.now q },
+}
+
+impl<'a> FunctionSpans<'a> {
+    /// The spans of functions. `AllocError` where memory is refused.
+    pub fn new(
+        alloc: Global,
+        functions: &'a ByKey<Function>,
+        section_infos: &'a ByName<SectionIndex>,
+    ) -> Result<FunctionSpans<'a>, AllocError>
+        ensures functions { IfOk result (λ p. p.functions.now ≡ functions.now) }
+        ensures sections { IfOk result (λ p. p.section_infos.now ≡ section_infos.now) }
+    {
+        let spans = section_spans(alloc, functions)?;
+        Ok(FunctionSpans {
+            functions,
+            section_infos,
+            spans,
+        })
     }
 }

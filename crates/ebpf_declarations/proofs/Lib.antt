@@ -1,9 +1,4 @@
-pub mod LaterMembers
-pub mod AllGiven
-pub mod OnlyItem
-pub mod KnownStructs
-pub mod NumberedNames
-pub mod Kept
-pub mod NamedSections
-pub mod Distinct
+pub mod MemberValues
 pub mod BothReadings
+pub mod NumberedNames
+pub mod SectionMaps

@@ -1,13 +1,14 @@
--- The DATASECs of a name: the sections that types speak of (the kernel's Documentation/bpf/btf.rst, 2.2.15 "BTF_KIND_DATASEC").
-use Rattle.std.specs.Prelude.{ℕ, Bool, true, false, List, [], Option, Some, None, Result, Ok, Err}
-use Rattle.ebpf_btf.specs.declared.error.BtfError.{BtfError}
-use Rattle.ebpf_btf.specs.declared.members.DataSecEntry.{DataSecEntry}
-use Rattle.ebpf_btf.specs.declared.types.BtfType.{BtfType}
-use Rattle.ebpf_btf.specs.declared.types.BtfType.TheVariants.{DataSec}
+-- The DATASECs of a name, and what their entries give: the sections that types speak of (the kernel's Documentation/bpf/btf.rst, 2.2.15 "BTF_KIND_DATASEC").
+use Rattle.std.specs.Prelude.{ℕ, Bool, true, false, List, [], Option, Some, None, Result, Ok, Err, ◌∷◌}
+use Rattle.ebpf_base.specs.Faults.{if_ok}
 use Rattle.ebpf_btf.specs.Next.{if_some}
 use Rattle.ebpf_btf.specs.Strings.{is_name_at}
 use Rattle.ebpf_btf.specs.TypeInfo.{TypeInfo}
 use Rattle.ebpf_btf.specs.Types.{name_off}
+use Rattle.ebpf_btf.specs.declared.error.BtfError.{BtfError}
+use Rattle.ebpf_btf.specs.declared.members.DataSecEntry.{DataSecEntry}
+use Rattle.ebpf_btf.specs.declared.types.BtfType.{BtfType}
+use Rattle.ebpf_btf.specs.declared.types.BtfType.TheVariants.{DataSec}
 
 -- the entries of a DATASEC
 unfoldable pub datasec_entries : BtfType → Option (List DataSecEntry)
@@ -37,3 +38,15 @@ matched_entries _ = []
 abbrev pub datasec_match_fault : Option DatasecMatch → Option BtfError
 datasec_match_fault (Some (UnreadableName e)) = Some e
 datasec_match_fault _ = None
+
+-- ---- answers one after the other, of which the first fault ends all
+
+-- what an answer gives to a list
+abbrev pub given : {X E : Type 0} → Result X E → List X
+given (Ok x) = x ∷ []
+given (Err e) = []
+
+-- what the answers at the members of a list give, in order, or the first fault
+abbrev pub all_given : {A X : Type 0} → (A → Result X BtfError) → List A → Result (List X) BtfError
+all_given answer [] = Ok []
+all_given answer (m ∷ members) = if_ok (answer m) (λ x. if_ok (all_given answer members) (λ xs. Ok (x ∷ xs)))

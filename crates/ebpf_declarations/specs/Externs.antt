@@ -1,26 +1,76 @@
--- Externs: the kernel's functions and variables that an object names in its DATASEC `.ksyms`.
-use Rattle.std.specs.Prelude.{◌≡◌, ℕ, Bool, true, false, ◌||◌, not, List, Option, Some, None, Result, Ok, Err, ◌==◌, codes, if◌then◌else◌}
+-- Externs: the kernel's functions and variables that an object names in its DATASEC `.ksyms`, and what stands in for the functions.
 use Rattle.std.specs.FinMap.{FinMap, empty}
-use Rattle.std.specs.List.{flat_map}
-use Rattle.ebpf_base.specs.Faults.{first_some, or_else, fault_of}
-use Rattle.ebpf_base.specs.Keyed.{put_all}
-use Rattle.ebpf_base.specs.Keys.{text_cmp}
-use Rattle.ebpf_base.specs.Results.{if_ok}
+use Rattle.std.specs.List.{position, flat_map}
+use Rattle.std.specs.Prelude.{◌≡◌, length, take, ℕ, Bool, false, List, Option, None, ◌==◌, codes, true, ◌||◌, not, Some, Result, Ok, Err, if◌then◌else◌}
+use Rattle.ebpf_base.specs.Faults.{or_else, first_some, fault_of, if_ok}
 use Rattle.ebpf_btf.specs.Next.{if_some}
+use Rattle.ebpf_base.specs.Maps.{put_all, text_cmp}
+use Rattle.ebpf_btf.specs.Additions.{with_type, with_string, too_large_fault}
+use Rattle.ebpf_btf.specs.TypeInfo.{TypeInfo}
 use Rattle.ebpf_btf.specs.Steps.{type_at, resolved}
 use Rattle.ebpf_btf.specs.Strings.{type_name}
-use Rattle.ebpf_btf.specs.TypeInfo.{TypeInfo}
+use Rattle.ebpf_btf.specs.Words.{type_fault}
 use Rattle.ebpf_btf.specs.declared.error.BtfError.{BtfError}
 use Rattle.ebpf_btf.specs.declared.error.BtfError.TheVariants.{InvalidDatasec, InvalidSymbolName}
 use Rattle.ebpf_btf.specs.declared.members.DataSecEntry.{DataSecEntry}
 use Rattle.ebpf_btf.specs.declared.types.BtfType.{BtfType}
-use Rattle.ebpf_btf.specs.declared.types.BtfType.TheVariants.{Func, Var}
-use Rattle.ebpf_declarations.specs.Attempts.{given}
-use Rattle.ebpf_declarations.specs.DataSections.{DatasecMatch, datasec_match, matched_entries, datasec_match_fault}
-use Rattle.ebpf_declarations.specs.Placeholders.{with_placeholder, placeholder_fault}
+use Rattle.ebpf_btf.specs.declared.types.BtfType.TheVariants.{Int, Var, Func}
+use Rattle.ebpf_declarations.specs.DataSections.{given, DatasecMatch, datasec_match, matched_entries, datasec_match_fault}
 use Rattle.ebpf_declarations.specs.declared.externs.FunctionOrFault.{FunctionOrFault}
 use Rattle.ebpf_declarations.specs.declared.externs.FunctionOrFault.TheVariants.{Function, UnreadableType}
-use Rattle.ebpf_model.specs.declared.extern_desc.ExternDesc.{ExternDesc}
+use Rattle.ebpf_model.specs.declared.symbol.ExternDesc.{ExternDesc}
+
+-- ---- what contracts of private functions name and no public one
+
+-- types and strings that begin with others
+pub record Begins (before after : TypeInfo) : Type 0 where
+  pub types : take (length before.types) after.types ≡ before.types
+  pub strings : take (length before.strings) after.strings ≡ before.strings
+
+-- ---- the INT and the VAR that stand in for what a DATASEC of externs names as functions, since the kernel takes
+-- variables alone there.
+
+-- an INT of 4 bytes
+unfoldable pub is_word : BtfType → Bool
+is_word (Int _ size _) = size == 4
+is_word _ = false
+
+-- the id of the first
+abbrev pub word_id : TypeInfo → Option ℕ
+word_id info = position is_word info.types
+
+-- the name of the next type, and the type behind the others
+abbrev pub with_named : TypeInfo → List ℕ → (ℕ → BtfType) → TypeInfo
+with_named info name t = with_type (with_string info name) (t (length info.strings))
+
+-- an offset or a type that has no room
+abbrev pub named_fault : TypeInfo → List ℕ → (ℕ → BtfType) → Option BtfError
+named_fault info name t = or_else (too_large_fault (length info.strings)) (type_fault (with_string info name) (t (length info.strings)))
+
+-- `int`, signed, of 32 bits
+abbrev pub int_at : ℕ → BtfType
+int_at name = Int name 4 0x01000020
+
+-- with an INT of 4 bytes: there is one, or `int` is added
+unfoldable pub with_word : TypeInfo → TypeInfo
+with_word info = if_some (word_id info) (λ id. info) (with_named info (codes "int") int_at)
+
+unfoldable pub word_fault : TypeInfo → Option BtfError
+word_fault info = if_some (word_id info) (λ id. None) (named_fault info (codes "int") int_at)
+
+-- its id
+unfoldable pub the_word : TypeInfo → ℕ
+the_word info = if_some (word_id info) (λ id. id) (length info.types)
+
+-- the variable: global, of that type
+abbrev pub variable_at : ℕ → ℕ → BtfType
+variable_at word name = Var name word 1
+
+abbrev pub with_placeholder : TypeInfo → TypeInfo
+with_placeholder info = with_named (with_word info) (codes "ksym_func_placeholder") (variable_at (the_word info))
+
+abbrev pub placeholder_fault : TypeInfo → Option BtfError
+placeholder_fault info = or_else (word_fault info) (named_fault (with_word info) (codes "ksym_func_placeholder") (variable_at (the_word info)))
 
 -- ---- one extern
 

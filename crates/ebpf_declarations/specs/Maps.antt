@@ -1,8 +1,7 @@
 -- BTF-defined maps (libbpf's word): those of the DATASECs of a section as `.maps`.
-use Rattle.std.specs.Prelude.{ℕ, Bool, false, List, [], Option, Some, None, Result, Ok, Err, ◌==◌, if◌then◌else◌}
 use Rattle.std.specs.List.{flat_map}
-use Rattle.ebpf_base.specs.Faults.{first_some, fault_of}
-use Rattle.ebpf_base.specs.Results.{if_ok}
+use Rattle.std.specs.Prelude.{Option, option_map, ℕ, Bool, false, List, [], Some, None, Result, Ok, Err, ◌==◌, if◌then◌else◌}
+use Rattle.ebpf_base.specs.Faults.{first_some, fault_of, if_ok}
 use Rattle.ebpf_btf.specs.Next.{if_some}
 use Rattle.ebpf_btf.specs.Steps.{type_at, resolved}
 use Rattle.ebpf_btf.specs.Strings.{type_name}
@@ -13,26 +12,34 @@ use Rattle.ebpf_btf.specs.declared.members.BtfMember.{BtfMember}
 use Rattle.ebpf_btf.specs.declared.members.DataSecEntry.{DataSecEntry}
 use Rattle.ebpf_btf.specs.declared.types.BtfType.{BtfType}
 use Rattle.ebpf_btf.specs.declared.types.BtfType.TheVariants.{Var}
-use Rattle.ebpf_declarations.specs.Attempts.{given, all_given}
-use Rattle.ebpf_declarations.specs.DataSections.{DatasecMatch, Named, UnreadableName, datasec_match}
-use Rattle.ebpf_declarations.specs.MapMembers.{unexpected, number, sized_type, own_number, is_prototype_at, members_at, inner_map_struct, map_member_at}
-use Rattle.ebpf_declarations.specs.MemberValues.{no_definitions, with_all}
-use Rattle.ebpf_declarations.specs.declared.map_member.MapMember.{MapMember}
-use Rattle.ebpf_declarations.specs.declared.map_member.MapMember.TheVariants as about
-use Rattle.ebpf_declarations.specs.declared.map_member.MapNumber.{MapNumber}
-use Rattle.ebpf_declarations.specs.declared.map_member.MapNumber.TheVariants as numbers
-use Rattle.ebpf_declarations.specs.declared.definitions.MapDefinitions.{MapDefinitions}
-use Rattle.ebpf_declarations.specs.declared.member_value.MemberValue.{MemberValue}
-use Rattle.ebpf_declarations.specs.declared.member_value.MemberValue.TheVariants as values
+use Rattle.ebpf_declarations.specs.DataSections.{given, all_given, DatasecMatch, Named, UnreadableName, datasec_match}
+use Rattle.ebpf_declarations.specs.MapMembers.{unexpected, number, sized_type, own_number, is_prototype_at, members_at, inner_map_struct, map_member_at, no_definitions, with_all}
+use Rattle.ebpf_declarations.specs.declared.members.MapDefinitions.{MapDefinitions}
+use Rattle.ebpf_declarations.specs.declared.members.MapMember.{MapMember}
+use Rattle.ebpf_declarations.specs.declared.members.MapMember.TheVariants as about
+use Rattle.ebpf_declarations.specs.declared.members.MapNumber.{MapNumber}
+use Rattle.ebpf_declarations.specs.declared.members.MapNumber.TheVariants as numbers
+use Rattle.ebpf_declarations.specs.declared.members.MemberValue.{MemberValue}
+use Rattle.ebpf_declarations.specs.declared.members.MemberValue.TheVariants as values
 use Rattle.ebpf_parts.specs.declared.error.ParseError.{ParseError}
 use Rattle.ebpf_parts.specs.declared.error.ParseError.TheVariants as errors
 use Rattle.ebpf_parts.specs.declared.maps.definition.BtfMapDef.{BtfMapDef}
 use Rattle.ebpf_parts.specs.declared.maps.either.Map.{Map}
 use Rattle.ebpf_parts.specs.declared.maps.either.Map.TheVariants.{Btf}
-use Rattle.ebpf_parts.specs.declared.maps.pinning.PinningType.{PinningType}
-use Rattle.ebpf_parts.specs.declared.maps.pinning.PinningType.TheVariants as pinned
+use Rattle.ebpf_parts.specs.declared.maps.definition.PinningType.{PinningType}
+use Rattle.ebpf_parts.specs.declared.maps.definition.PinningType.TheVariants as pinned
 use Rattle.ebpf_parts.specs.declared.reading.Reading.{Reading}
 use Rattle.ebpf_parts.specs.declared.reading.Reading.TheVariants.{Stated, Broad}
+
+-- ---- types that declare maps, and how what they declare is read
+
+pub record TypesInReading : Type 0 where
+  pub reading : Reading
+  pub types : TypeInfo
+
+-- of an object that may have types
+abbrev pub types_in_reading : Reading → Option TypeInfo → Option TypesInReading
+types_in_reading reading types = option_map (λ t. record { reading = reading; types = t }) types
 
 -- ---- the value of a member
 

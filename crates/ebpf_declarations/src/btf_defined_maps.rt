@@ -1,44 +1,30 @@
-//! The BTF-defined maps of the sections of a file.
+//! The BTF-defined maps of the sections of a file, those of each name read once.
 
-ghost use Rattle.std.specs.Prelude.{◌≡◌, IfOk, IfErr, OnOk, true};
-ghost use Rattle.std.specs.FinMap as map;
-ghost use Rattle.ebpf_base.specs.Faults.{Refuses};
-ghost use Rattle.ebpf_base.specs.Keyed.{put_all};
+ghost use Rattle.std.specs.Prelude.{◌≡◌, IfOk, IfErr, OnOk, true, ℕ, List, Ok, Some, None, ⊤, is_some, slice_get};
+ghost use Rattle.std.specs.Bool.{MatchBool};
+ghost use Rattle.std.specs.List.{AllZip, flat_map};
+ghost use Rattle.ebpf_base.specs.Faults.{Refuses, fault_of};
+ghost use Rattle.ebpf_base.specs.Maps.{put_all};
 ghost use Rattle.ebpf_btf.specs.Memory.{is_btf_memory};
-ghost use Rattle.ebpf_declarations.specs.DistinctMaps.{AreMapsOf, AreSectionMaps};
-ghost use Rattle.ebpf_declarations.specs.Maps.{btf_maps, btf_maps_fault};
+ghost use Rattle.ebpf_declarations.specs.SectionMaps.{AreMapsOf, AreSectionMaps, missing, HasSymbol, Knows, AreFound, put_at, AreNumbered, HasNumber, AreKept};
+ghost use Rattle.ebpf_declarations.specs.Maps.{btf_maps, btf_maps_fault, declared, entry_map, entries_fault};
 ghost use Rattle.ebpf_parts.specs.Memory.{is_parse_memory};
+ghost use Rattle.ebpf_declarations.specs.DataSections.{given};
+ghost use Rattle.ebpf_declarations.specs.declared.members.MapDefinitions.{MapDefinitions};
+ghost use Rattle.std.specs.FinMap as map;
+ghost use Rattle.ebpf_parts.specs.declared.error.ParseError.TheVariants as errors;
 
-use crate::distinct_maps::DistinctMaps;
-use crate::error::parse_error;
+use crate::data_sections::NamedSections;
+use crate::distinct_maps::{DistinctMaps, declared};
 use crate::known_structs::KnownStructs;
-use crate::named_sections::NamedSections;
-use crate::section_maps::{all_section_maps, read_section_maps};
-use ebpf_base::ByName;
-use ebpf_btf::{Btf, BtfError};
+use crate::members::MapDefinitions;
+use crate::numbered_names::put_at;
+use ebpf_base::{ByName, Items, Text};
+use ebpf_btf::{Btf, BtfError, DataSecEntry};
 use ebpf_parts::maps::Map;
 use ebpf_parts::{ParseError, Reading, Section};
 use std::alloc::Global;
 use std::marker::Model;
-
-/// What the DATASECs of a name declare, which are looked for first.
-fn find_section_maps(
-    alloc: Global,
-    btf: &Btf,
-    reading: Reading,
-    name: &str,
-    symbols: &ByName<usize>,
-) -> Result<DistinctMaps, ParseError>
-    ensures maps { IfOk result (λ distinct. AreMapsOf reading btf.now name.now distinct) }
-    ensures fault { Refuses is_parse_memory result (btf_maps_fault reading btf.now (map.get symbols.now) 0 name.now) }
-{
-    let sections = match NamedSections::of_name(alloc, btf, name) {
-        Ok(sections) => sections,
-        Err(error) => return Err(parse_error(error)),
-    };
-    let mut known = KnownStructs::none(alloc);
-    read_section_maps(alloc, btf, reading, &mut known, &sections, name, symbols)
-}
 
 /// Types that declare maps, and the maps that the DATASECs of some names declare, each name of a map once. Contracts
 /// see the types and how they are read.
@@ -51,7 +37,7 @@ pub struct BtfDefinedMaps<'b> {
 }
 
 impl<'b> Model for BtfDefinedMaps<'b> {
-    ghost use Rattle.ebpf_declarations.specs.TypesInReading.{TypesInReading};
+    ghost use Rattle.ebpf_declarations.specs.Maps.{TypesInReading};
 
     ghost Value = { TypesInReading };
 
@@ -110,6 +96,209 @@ impl<'b> BtfDefinedMaps<'b> {
         ensures maps { IfOk result (λ distinct. AreMapsOf self.now.reading self.now.types name.now distinct) }
         ensures fault { Refuses is_parse_memory result (btf_maps_fault self.now.reading self.now.types (map.get symbols.now) 0 name.now) }
     {
-        find_section_maps(alloc, self.btf, self.reading, name, symbols)
+        let sections = match NamedSections::of_name(alloc, self.btf, name) {
+            Ok(sections) => sections,
+            Err(error) => return Err(parse_error(error)),
+        };
+        let mut known = KnownStructs::none(alloc);
+        read_section_maps(
+            alloc,
+            self.btf,
+            self.reading,
+            &mut known,
+            &sections,
+            name,
+            symbols,
+        )
+    }
+}
+
+/// `SymbolNotFound` of a name that no symbol has, which is looked for at the first map of the name.
+fn check_symbol(
+    alloc: Global,
+    symbols: &ByName<usize>,
+    last: &Items<MapDefinitions>,
+    number: usize,
+    name: &str,
+) -> Result<(), ParseError>
+    requires { (d : MapDefinitions) → slice_get last.now number ≡ Some d → missing (map.get symbols.now) name.now ≡ None }
+    ensures { Refuses is_parse_memory result (missing (map.get symbols.now) name.now) }
+{
+    if let Some(_before) = last.get(number) {
+        return Ok(());
+    }
+    if let Some(_symbol) = symbols.get(name) {
+        return Ok(());
+    }
+    Err(ParseError::SymbolNotFound {
+        name: Text::from_str(alloc, name)?,
+    })
+}
+
+/// Adds what an entry declares, unless it has a fault or a name that no symbol has.
+#[tactic(auto, unfolding(crate::specs::Maps::entry_map))]
+fn add_entry(
+    alloc: Global,
+    distinct: &mut DistinctMaps,
+    btf: &Btf,
+    reading: Reading,
+    known: &mut KnownStructs,
+    symbols: &ByName<usize>,
+    entry: &DataSecEntry,
+) -> Result<(), ParseError>
+    requires known { Knows reading btf.now known.old }
+    requires numbered { AreNumbered btf.now.strings distinct.old.names }
+    requires symbols { AllZip (HasSymbol (map.get symbols.now)) distinct.old.names.names distinct.old.last }
+    ensures known { OnOk result (Knows reading btf.now known.new) }
+    ensures numbered { OnOk result (AreNumbered btf.now.strings distinct.new.names) }
+    ensures added { OnOk result ((name : List ℕ) × (n : ℕ) × (d : MapDefinitions) × (declared reading btf.now entry.now ≡ Ok (name, d)) × HasNumber distinct.old.names.names distinct.new.names.names name n × (distinct.new.last ≡ put_at distinct.old.last n d) × HasSymbol (map.get symbols.now) name d) }
+    ensures fault { Refuses is_parse_memory result (fault_of (entry_map reading btf.now (map.get symbols.now) 0 entry.now)) }
+{
+    let (number, definitions) = match declared(
+        alloc,
+        btf,
+        reading,
+        known,
+        &mut distinct.names,
+        entry,
+    ) {
+        Ok(found) => found,
+        Err(error) => return Err(parse_error(error)),
+    };
+    check_symbol(
+        alloc,
+        symbols,
+        &distinct.last,
+        number,
+        distinct.names.name(number),
+    )?;
+    put_at(&mut distinct.last, number, definitions)?;
+    Ok(())
+}
+
+/// What entries declare, or the first fault or name that no symbol has.
+fn read_entries(
+    alloc: Global,
+    btf: &Btf,
+    reading: Reading,
+    known: &mut KnownStructs,
+    symbols: &ByName<usize>,
+    entries: &[DataSecEntry],
+) -> Result<DistinctMaps, ParseError>
+    requires { Knows reading btf.now known.old }
+    ensures known { OnOk result (Knows reading btf.now known.new) }
+    ensures kept { IfOk result (λ distinct. AreKept distinct.names.names distinct.last (flat_map (λ entry. given (declared reading btf.now entry)) entries.now)) }
+    ensures fault { Refuses is_parse_memory result (entries_fault reading btf.now (map.get symbols.now) 0 entries.now) }
+{
+    let mut distinct = DistinctMaps::none(alloc);
+    for entry in entries {
+        add_entry(alloc, &mut distinct, btf, reading, known, symbols, entry)?;
+    }
+    Ok(distinct)
+}
+
+/// What the DATASECs of a name declare, which was looked for, or the first fault in a section of the name with these
+/// symbols.
+pub fn read_section_maps(
+    alloc: Global,
+    btf: &Btf,
+    reading: Reading,
+    known: &mut KnownStructs,
+    sections: &NamedSections,
+    name: &str,
+    symbols: &ByName<usize>,
+) -> Result<DistinctMaps, ParseError>
+    requires found { AreFound btf.now sections.now }
+    requires there { is_some (map.get sections.now.by_name name.now) ≡ true }
+    requires known { Knows reading btf.now known.old }
+    ensures known { OnOk result (Knows reading btf.now known.new) }
+    ensures maps { IfOk result (λ distinct. AreMapsOf reading btf.now name.now distinct) }
+    ensures fault { Refuses is_parse_memory result (btf_maps_fault reading btf.now (map.get symbols.now) 0 name.now) }
+{
+    let Some(entries) = sections.by_name.get(name) else {
+        unreachable!()
+    };
+    let distinct = read_entries(alloc, btf, reading, known, symbols, entries.as_slice())?;
+    match sections.unreadable {
+        Some(offset) => Err(ParseError::BtfError(BtfError::InvalidStringOffset { offset })),
+        None => Ok(distinct),
+    }
+}
+
+/// Keeps what the DATASECs of a name declare, unless an entry has a fault or a name that no symbol has. Whether none
+/// has.
+fn add_section_maps(
+    alloc: Global,
+    by_name: &mut ByName<DistinctMaps>,
+    btf: &Btf,
+    reading: Reading,
+    known: &mut KnownStructs,
+    sections: &NamedSections,
+    symbols: &ByName<usize>,
+    name: &str,
+) -> Result<bool, BtfError>
+    requires found { AreFound btf.now sections.now }
+    requires by_name { AreSectionMaps reading btf.now by_name.old }
+    requires known { Knows reading btf.now known.old }
+    ensures by_name { OnOk result (AreSectionMaps reading btf.now by_name.new) }
+    ensures known { IfOk result (λ clear. MatchBool clear (Knows reading btf.now known.new) ⊤) }
+    ensures memory { IfErr result (λ e. is_btf_memory e ≡ true) }
+{
+    if by_name.contains_key(name) {
+        return Ok(true);
+    }
+    if !sections.by_name.contains_key(name) {
+        return Ok(true);
+    }
+    let distinct = match read_section_maps(alloc, btf, reading, known, sections, name, symbols) {
+        Ok(distinct) => distinct,
+        Err(ParseError::OutOfMemory) => return Err(BtfError::OutOfMemory),
+        Err(_other) => return Ok(false),
+    };
+    by_name.insert(String::from_str(alloc, name)?, distinct)?;
+    Ok(true)
+}
+
+/// What the DATASECs of these names declare, up to the first name of which an entry has a fault or a name that no
+/// symbol has. `OutOfMemory` where memory is refused.
+pub fn all_section_maps(
+    alloc: Global,
+    btf: &Btf,
+    reading: Reading,
+    sections: &NamedSections,
+    names: &[&str],
+    symbols: &ByName<usize>,
+) -> Result<ByName<DistinctMaps>, BtfError>
+    requires { AreFound btf.now sections.now }
+    ensures by_name { IfOk result (λ by_name. AreSectionMaps reading btf.now by_name) }
+    ensures memory { IfErr result (λ e. is_btf_memory e ≡ true) }
+{
+    let mut by_name = ByName::new(alloc);
+    let mut known = KnownStructs::none(alloc);
+    for name in names {
+        if !add_section_maps(
+            alloc,
+            &mut by_name,
+            btf,
+            reading,
+            &mut known,
+            sections,
+            symbols,
+            name,
+        )? {
+            return Ok(by_name);
+        }
+    }
+    Ok(by_name)
+}
+
+/// The fault of types as a fault of parsing; want of memory stays want of memory.
+pub fn parse_error(error: BtfError) -> ParseError
+    ensures memory { is_parse_memory result ≡ is_btf_memory error }
+    ensures other { MatchBool (is_btf_memory error) ⊤ (result ≡ errors.BtfError error) }
+{
+    match error {
+        BtfError::OutOfMemory => ParseError::OutOfMemory,
+        error => ParseError::BtfError(error),
     }
 }

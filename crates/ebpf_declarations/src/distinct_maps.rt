@@ -1,22 +1,77 @@
-//! The BTF-defined maps of a section, each name once.
+//! What an entry of a DATASEC declares, and the maps of a section, each name once.
 
-ghost use Rattle.std.specs.Prelude.{◌≡◌, ℕ, List, [], Ok, OnOk, IfErr, true};
-ghost use Rattle.std.specs.FinMap as map;
+ghost use Rattle.std.specs.Prelude.{◌≡◌, ℕ, List, Ok, Err, ⊤, IfOk, IfErr, OnOk, []};
+ghost use Rattle.std.specs.Bool.{MatchBool};
+ghost use Rattle.ebpf_btf.specs.Memory.{is_btf_memory};
+ghost use Rattle.ebpf_declarations.specs.SectionMaps.{Knows, AreNumbered, HasNumber, missing, distinct_maps, distinct_fault};
+ghost use Rattle.ebpf_declarations.specs.Maps.{declared, map_at, map_with_symbol};
 ghost use Rattle.ebpf_base.specs.Faults.{Refuses};
-ghost use Rattle.ebpf_base.specs.Keyed.{put_all};
-ghost use Rattle.ebpf_declarations.specs.Attempts.{given};
-ghost use Rattle.ebpf_declarations.specs.DistinctMaps.{missing, distinct_maps, distinct_fault};
-ghost use Rattle.ebpf_declarations.specs.Maps.{map_with_symbol};
-ghost use Rattle.ebpf_declarations.specs.NumberedNames.{AreNumbered};
+ghost use Rattle.ebpf_base.specs.Maps.{put_all};
+ghost use Rattle.ebpf_declarations.specs.DataSections.{given};
 ghost use Rattle.ebpf_parts.specs.Memory.{is_parse_memory};
+ghost use Rattle.std.specs.FinMap as map;
 
-use crate::definitions::MapDefinitions;
-use crate::maps::map_at;
+use crate::known_structs::{KnownStructs, struct_definitions};
+use crate::map_types::unexpected;
+use crate::members::MapDefinitions;
 use crate::numbered_names::NumberedNames;
 use ebpf_base::{ByName, Items, Text};
-use ebpf_parts::maps::Map;
-use ebpf_parts::{ParseError, Section};
+use ebpf_btf::{Btf, BtfError, BtfType, DataSecEntry};
+use ebpf_parts::maps::{BtfMap, Map};
+use ebpf_parts::{ParseError, Reading, Section};
 use std::alloc::Global;
+
+/// What an entry declares, with the number of its name.
+#[tactic(auto, unfolding(crate::specs::Maps::declared, crate::specs::Maps::variable))]
+pub fn declared(
+    alloc: Global,
+    btf: &Btf,
+    reading: Reading,
+    known: &mut KnownStructs,
+    names: &mut NumberedNames,
+    entry: &DataSecEntry,
+) -> Result<(usize, MapDefinitions), BtfError>
+    requires known { Knows reading btf.now known.old }
+    requires numbered { AreNumbered btf.now.strings names.old }
+    ensures known { OnOk result (Knows reading btf.now known.new) }
+    ensures numbered { OnOk result (AreNumbered btf.now.strings names.new) }
+    ensures declared { IfOk result (λ found. (name : List ℕ) × (declared reading btf.now entry.now ≡ Ok (name, found.1)) × HasNumber names.old.names names.new.names name found.0) }
+    ensures fault { IfErr result (λ e. MatchBool (is_btf_memory e) ⊤ (declared reading btf.now entry.now ≡ Err e)) }
+{
+    let ty = btf.type_by_id(entry.btf_type)?;
+    let BtfType::Var { btf_type, .. } = ty else {
+        return Err(unexpected(&ty));
+    };
+    let number = names.number_at(alloc, btf, ty.name_offset())?;
+    let struct_id = btf.resolve_type(btf_type)?;
+    let definitions = struct_definitions(
+        alloc,
+        btf,
+        reading,
+        known,
+        names.name(number),
+        struct_id,
+    )?;
+    Ok((number, definitions))
+}
+
+/// The map with these definitions, of a section and a symbol with these indices.
+pub fn map_at(
+    alloc: Global,
+    definitions: &MapDefinitions,
+    section_index: usize,
+    symbol_index: usize,
+) -> Map
+    ensures { result ≡ map_at definitions.now section_index symbol_index }
+{
+    Map::Btf(BtfMap {
+        def: definitions.def,
+        inner_def: definitions.inner_def,
+        section_index,
+        symbol_index,
+        bytes: Items::new(alloc),
+    })
+}
 
 /// Maps, of which the later of equal names stands.
 #[derive(Drop)]
@@ -65,7 +120,7 @@ impl DistinctMaps {
     }
 }
 
-/// Puts the last map of a name.
+/// Puts the last map of a name, which is copied where none is there.
 fn put_last(
     alloc: Global,
     maps: &mut ByName<Map>,
@@ -83,19 +138,6 @@ fn put_last(
         });
     };
     let declared = map_at(alloc, definitions, section.index.0, *symbol_index);
-    put_map(alloc, maps, name, declared)
-}
-
-/// Puts a map at a name, which is copied where none is there.
-fn put_map(
-    alloc: Global,
-    maps: &mut ByName<Map>,
-    name: &str,
-    declared: Map,
-) -> Result<(), ParseError>
-    ensures put { OnOk result (maps.new ≡ map.insert maps.old name.now declared) }
-    ensures memory { IfErr result (λ e. is_parse_memory e ≡ true) }
-{
     let Err(declared) = maps.replace(name, declared) else {
         return Ok(());
     };

@@ -1,9 +1,13 @@
-//! The types that the members of a map's struct lead to.
+//! The types that the members of a map's struct lead to, and the structs that declare maps.
 
 ghost use Rattle.std.specs.Prelude.{◌≡◌, Some};
-ghost use Rattle.ebpf_declarations.specs.MapMembers.{unexpected, pointee, struct_members, number, extended_enum_value, sole_value, own_number, sized_type};
+ghost use Rattle.ebpf_declarations.specs.MapMembers.{unexpected, pointee, number, extended_enum_value, sole_value, own_number, sized_type, is_prototype_at, members_at, pointee_struct, inner_map_struct};
+ghost use Rattle.ebpf_base.specs.Faults.{Gives};
+ghost use Rattle.ebpf_btf.specs.Memory.{is_btf_memory};
 
+use ebpf_base::Text;
 use ebpf_btf::{Btf, BtfError, BtfMember, BtfType, Rows};
+use std::alloc::Global;
 
 /// The error of a type that is of another kind than the wanted one.
 pub fn unexpected(ty: &BtfType<'_>) -> BtfError
@@ -21,17 +25,6 @@ pub fn pointee(ty: &BtfType<'_>) -> Option<u32>
 {
     match ty {
         BtfType::Ptr { btf_type, .. } => Some(*btf_type),
-        _ => None,
-    }
-}
-
-/// The members of a STRUCT.
-#[tactic(auto, unfolding(crate::specs::MapMembers::struct_members))]
-pub fn struct_members<'a>(ty: &BtfType<'a>) -> Option<Rows<'a, BtfMember>>
-    ensures { result ≡ struct_members ty.now }
-{
-    match ty {
-        BtfType::Struct { members, .. } => Some(members.copy()),
         _ => None,
     }
 }
@@ -63,7 +56,7 @@ fn extended_enum_value(value: u32) -> u64
 }
 
 /// The number that an ENUM or ENUM64 of one value is.
-#[tactic(auto, unfolding(crate::specs::MapMembers::sole_value), using(crate::proofs::OnlyItem::only_item))]
+#[tactic(auto, unfolding(crate::specs::MapMembers::sole_value), using(crate::proofs::MemberValues::only_item))]
 fn sole_value(ty: &BtfType<'_>) -> Option<u64>
     ensures { result ≡ sole_value ty.now }
 {
@@ -108,4 +101,53 @@ pub fn sized_type(btf: &Btf, type_id: u32) -> Result<(u32, u32), BtfError>
     };
     let size = btf.type_size(spelled)?;
     Ok((spelled, size))
+}
+
+/// Whether the type with an id is one of functions.
+#[tactic(auto, unfolding(crate::specs::MapMembers::is_prototype, crate::specs::MapMembers::is_prototype_at))]
+pub fn is_prototype_at(btf: &Btf, type_id: u32) -> bool
+    ensures { result ≡ is_prototype_at btf.now.types type_id }
+{
+    matches!(btf.type_by_id(type_id), Ok(BtfType::FuncProto { .. }))
+}
+
+/// The members of the STRUCT with an id.
+#[tactic(auto, unfolding(crate::specs::MapMembers::members_at, crate::specs::MapMembers::struct_members))]
+pub fn members_at(btf: &Btf, type_id: u32) -> Result<Rows<'_, BtfMember>, BtfError>
+    ensures { result ≡ members_at btf.now.types type_id }
+{
+    let ty = btf.type_by_id(type_id)?;
+    match &ty {
+        BtfType::Struct { members, .. } => Ok(members.copy()),
+        _ => Err(unexpected(&ty)),
+    }
+}
+
+/// The id of what a pointer points to, modifiers followed before it and behind it.
+#[tactic(auto, unfolding(crate::specs::MapMembers::pointee_struct))]
+fn pointee_struct(btf: &Btf, type_id: u32) -> Result<u32, BtfError>
+    ensures { result ≡ pointee_struct btf.now.types type_id }
+{
+    let pointer = btf.resolved_type(type_id)?;
+    match pointee(&pointer) {
+        Some(target) => btf.resolve_type(target),
+        None => Err(unexpected(&pointer)),
+    }
+}
+
+/// The id of the struct of the maps that the map with a name holds.
+#[tactic(auto, unfolding(crate::specs::MapMembers::inner_map_struct))]
+pub fn inner_map_struct(alloc: Global, btf: &Btf, name: &str, type_id: u32) -> Result<u32, BtfError>
+    ensures { Gives is_btf_memory result (inner_map_struct btf.now.types name.now type_id) }
+{
+    let ty = btf.type_by_id(type_id)?;
+    let Some(array) = ty.array() else {
+        return Err(unexpected(&ty));
+    };
+    if array.len == 0 {
+        return pointee_struct(btf, array.element_type);
+    }
+    Err(BtfError::InvalidValuesSpec {
+        name: Text::from_str(alloc, name)?,
+    })
 }

@@ -4,7 +4,7 @@ ghost use Rattle.std.specs.Prelude.{◌≡◌, ℕ, List, [], Ok, Some, OnOk, If
 ghost use Rattle.ebpf_base.specs.Faults.{Refuses, fault_of};
 ghost use Rattle.ebpf_btf.specs.Memory.{is_btf_memory};
 ghost use Rattle.ebpf_btf.specs.Strings.{text_at};
-ghost use Rattle.ebpf_declarations.specs.NumberedNames.{put_at, AreDistinct, AreNumbered, HasNumber};
+ghost use Rattle.ebpf_declarations.specs.SectionMaps.{put_at, AreDistinct, AreNumbered, HasNumber};
 
 use ebpf_base::{ByName, Items, Text};
 use ebpf_btf::{Btf, BtfError};

@@ -13,32 +13,15 @@ use std::fmt;
 #[derive(Clone, Copy)]
 pub enum Arithmetic {
     /// A register is changed by an operand, or gets it: `r1 += 0x7`, `r1 = r2`.
-    Assign {
-        register: Register,
-        operator: &'static str,
-        operand: Operand,
-    },
+    Assign(Register, &'static str, Operand),
     /// A register gets so many bits of another one, and their sign: `r1 = (s8)r2`.
-    Extend {
-        register: Register,
-        bits: i16,
-        source: Register,
-    },
+    Extend(Register, i16, Register),
     /// A register is negated: `r1 = -r1`.
     Negate(Register),
     /// A register's byte order is changed: `r1 = be16 r1`.
-    Swap {
-        register: Register,
-        word: &'static str,
-        bits: i32,
-    },
-    /// An address of one address space becomes one of another: `r1 = addr_space_cast(r2, 0x0, 0x1)`.
-    Cast {
-        register: Register,
-        source: Register,
-        to: u32,
-        from: u32,
-    },
+    Swap(Register, &'static str, i32),
+    /// An address becomes one of another address space, from another: `r1 = addr_space_cast(r2, 0x0, 0x1)`.
+    Cast(Register, Register, u32, u32),
 }
 
 /// The operator of an operation that takes no offset.
@@ -85,22 +68,14 @@ fn decode_move(instruction: bpf_insn, is_half: bool) -> Option<Arithmetic> {
     let source = Register::of(instruction.src_reg(), is_half)?;
     let bits = instruction.off;
     if extends(bits, is_half) {
-        return Some(Arithmetic::Extend {
-            register,
-            bits,
-            source,
-        });
+        return Some(Arithmetic::Extend(register, bits, source));
     }
     if bits != ADDR_SPACE_CAST || is_half {
         return None;
     }
     let spaces = instruction.imm.cast_unsigned();
-    Some(Arithmetic::Cast {
-        register,
-        source,
-        to: spaces >> 16,
-        from: spaces & 0xffff,
-    })
+    let (to, from) = (spaces >> 16, spaces & 0xffff);
+    Some(Arithmetic::Cast(register, source, to, from))
 }
 
 /// A change of the byte order: to little endian, to big endian, or of each number.
@@ -111,12 +86,9 @@ fn decode_swap(instruction: bpf_insn, is_half: bool) -> Option<Arithmetic> {
         (false, true) => "bswap",
         (false, false) => return None,
     };
+    let register = Register::full(instruction.dst_reg())?;
     match instruction.imm {
-        16 | 32 | 64 => Some(Arithmetic::Swap {
-            register: Register::full(instruction.dst_reg())?,
-            word,
-            bits: instruction.imm,
-        }),
+        bits @ (16 | 32 | 64) => Some(Arithmetic::Swap(register, word, bits)),
         _ => None,
     }
 }
@@ -132,11 +104,10 @@ fn decode_negation(instruction: bpf_insn, is_half: bool) -> Option<Arithmetic> {
 
 /// An operation with an operator.
 fn decode_assignment(instruction: bpf_insn, operation: u8, is_half: bool) -> Option<Arithmetic> {
-    Some(Arithmetic::Assign {
-        register: Register::of(instruction.dst_reg(), is_half)?,
-        operator: operator_of(operation, instruction.off)?,
-        operand: Operand::of(instruction, is_half)?,
-    })
+    let register = Register::of(instruction.dst_reg(), is_half)?;
+    let operator = operator_of(operation, instruction.off)?;
+    let operand = Operand::of(instruction, is_half)?;
+    Some(Arithmetic::Assign(register, operator, operand))
 }
 
 /// An instruction of the classes of arithmetic, decoded.
@@ -155,28 +126,17 @@ pub fn decode_arithmetic(instruction: bpf_insn) -> Option<Arithmetic> {
 impl fmt::Display for Arithmetic {
     fn fmt<W: fmt::Write>(&self, f: &mut fmt::Formatter<W>) -> fmt::Result {
         match self {
-            Arithmetic::Assign {
-                register,
-                operator,
-                operand,
-            } => write!(f, "{register} {operator} {operand}"),
-            Arithmetic::Extend {
-                register,
-                bits,
-                source,
-            } => write!(f, "{register} = (s{bits}){source}"),
+            Arithmetic::Assign(register, operator, operand) => {
+                write!(f, "{register} {operator} {operand}")
+            }
+            Arithmetic::Extend(register, bits, source) => {
+                write!(f, "{register} = (s{bits}){source}")
+            }
             Arithmetic::Negate(register) => write!(f, "{register} = -{register}"),
-            Arithmetic::Swap {
-                register,
-                word,
-                bits,
-            } => write!(f, "{register} = {word}{bits} {register}"),
-            Arithmetic::Cast {
-                register,
-                source,
-                to,
-                from,
-            } => write!(
+            Arithmetic::Swap(register, word, bits) => {
+                write!(f, "{register} = {word}{bits} {register}")
+            }
+            Arithmetic::Cast(register, source, to, from) => write!(
                 f,
                 "{register} = addr_space_cast({source}, {to:#x}, {from:#x})"
             ),

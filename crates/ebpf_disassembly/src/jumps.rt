@@ -13,17 +13,9 @@ use std::fmt;
 #[derive(Clone, Copy)]
 pub enum Jump {
     /// `goto +0x3`, `gotol +0x3`, `may_goto +0x3`
-    Always {
-        word: &'static str,
-        by: Distance,
-    },
+    Always(&'static str, Distance),
     /// `if r1 == 0x7 goto +0x3`
-    Where {
-        register: Register,
-        comparison: &'static str,
-        operand: Operand,
-        by: Distance,
-    },
+    Where(Register, &'static str, Operand, Distance),
     /// `call 0x5`
     Call(Number),
     /// `callx r1`
@@ -36,7 +28,7 @@ impl Jump {
     /// By how many slots it leads from the next one.
     pub fn distance(&self) -> Option<i32> {
         match self {
-            Jump::Always { by, .. } | Jump::Where { by, .. } => Some(by.0),
+            Jump::Always(_, by) | Jump::Where(_, _, _, by) => Some(by.0),
             _ => None,
         }
     }
@@ -63,26 +55,20 @@ fn comparison_of(operation: u8) -> Option<&'static str> {
 /// A conditional jump.
 fn decode_condition(instruction: bpf_insn) -> Option<Jump> {
     let is_half = instruction.code % 8 == JMP32;
-    Some(Jump::Where {
-        register: Register::of(instruction.dst_reg(), is_half)?,
-        comparison: comparison_of(instruction.code & OPERATION)?,
-        operand: Operand::of(instruction, is_half)?,
-        by: Distance(i32::from(instruction.off)),
-    })
-}
-
-/// A jump of a word.
-fn always(word: &'static str, by: i32) -> Option<Jump> {
-    let by = Distance(by);
-    Some(Jump::Always { word, by })
+    let register = Register::of(instruction.dst_reg(), is_half)?;
+    let comparison = comparison_of(instruction.code & OPERATION)?;
+    let operand = Operand::of(instruction, is_half)?;
+    let by = Distance(i32::from(instruction.off));
+    Some(Jump::Where(register, comparison, operand, by))
 }
 
 /// An instruction of the classes of jumps, decoded.
 pub fn decode_jump(instruction: bpf_insn) -> Option<Jump> {
+    let by = Distance(i32::from(instruction.off));
     match instruction.code {
-        JA => always("goto", i32::from(instruction.off)),
-        JA32 => always("gotol", instruction.imm),
-        JCOND => always("may_goto", i32::from(instruction.off)),
+        JA => Some(Jump::Always("goto", by)),
+        JA32 => Some(Jump::Always("gotol", Distance(instruction.imm))),
+        JCOND => Some(Jump::Always("may_goto", by)),
         CALL => Some(Jump::Call(Number(i64::from(instruction.imm)))),
         CALLX => Some(Jump::CallHeld(Register::full(instruction.dst_reg())?)),
         EXIT if instruction.imm == 0 => Some(Jump::Exit),
@@ -93,13 +79,10 @@ pub fn decode_jump(instruction: bpf_insn) -> Option<Jump> {
 impl fmt::Display for Jump {
     fn fmt<W: fmt::Write>(&self, f: &mut fmt::Formatter<W>) -> fmt::Result {
         match self {
-            Jump::Always { word, by } => write!(f, "{word} {by}"),
-            Jump::Where {
-                register,
-                comparison,
-                operand,
-                by,
-            } => write!(f, "if {register} {comparison} {operand} goto {by}"),
+            Jump::Always(word, by) => write!(f, "{word} {by}"),
+            Jump::Where(register, comparison, operand, by) => {
+                write!(f, "if {register} {comparison} {operand} goto {by}")
+            }
             Jump::Call(number) => write!(f, "call {number}"),
             Jump::CallHeld(register) => write!(f, "callx {register}"),
             Jump::Exit => write!(f, "exit"),

@@ -2,9 +2,7 @@
 #![tactic(auto)]
 
 mod arithmetic;
-mod atomics;
 mod jumps;
-mod loads;
 mod memory;
 mod opcodes;
 mod operands;

@@ -23,11 +23,6 @@ impl Register {
         Register::of(number, false)
     }
 
-    /// The lower half of the register of a number, where it has a name.
-    pub fn half(number: u8) -> Option<Register> {
-        Register::of(number, true)
-    }
-
     /// The register of a number or its lower half.
     pub fn of(number: u8, is_half: bool) -> Option<Register> {
         if number < REGISTERS {

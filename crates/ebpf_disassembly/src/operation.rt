@@ -2,8 +2,9 @@
 
 use crate::arithmetic::{Arithmetic, decode_arithmetic};
 use crate::jumps::{Jump, decode_jump};
-use crate::loads::{Load, decode_first_class};
-use crate::memory::{Memory, decode_load, decode_number_store, decode_store};
+use crate::memory::{
+    Load, Memory, decode_first_class, decode_load, decode_number_store, decode_store,
+};
 use ebpf_parts::insn::bpf_insn;
 use ebpf_parts::insn::opcodes::{ALU, ALU64, LD, LDX, ST, STX};
 use std::fmt;
@@ -34,20 +35,7 @@ impl Operation {
 
     /// Whether it takes two slots: a wide load does.
     pub fn takes_two(&self) -> bool {
-        matches!(
-            self,
-            Operation::Load(Load::Wide { .. } | Load::Pseudo { .. })
-        )
-    }
-}
-
-/// What an access to memory does.
-fn decode_access(instruction: bpf_insn) -> Option<Memory> {
-    match instruction.code % 8 {
-        LDX => decode_load(instruction),
-        ST => decode_number_store(instruction),
-        STX => decode_store(instruction),
-        _ => None,
+        matches!(self, Operation::Load(Load::Wide(..) | Load::Pseudo(..)))
     }
 }
 
@@ -55,7 +43,9 @@ fn decode_access(instruction: bpf_insn) -> Option<Memory> {
 fn decode_class(instruction: bpf_insn, second: Option<bpf_insn>) -> Option<Operation> {
     match instruction.code % 8 {
         LD => Some(Operation::Load(decode_first_class(instruction, second)?)),
-        LDX | ST | STX => Some(Operation::Memory(decode_access(instruction)?)),
+        LDX => Some(Operation::Memory(decode_load(instruction)?)),
+        ST => Some(Operation::Memory(decode_number_store(instruction)?)),
+        STX => Some(Operation::Memory(decode_store(instruction)?)),
         ALU | ALU64 => Some(Operation::Arithmetic(decode_arithmetic(instruction)?)),
         _ => Some(Operation::Jump(decode_jump(instruction)?)),
     }

@@ -2,7 +2,7 @@
 use Rattle.std.proofs.Common.{◌≡◌, ◌≤◌, ℕ, Bool, not, length, map, filter, refl, arith}
 use Rattle.std.proofs.lemmas.List.Filters.{length-filter_both}
 use Rattle.std.specs.List.{range_with_len}
-use Rattle.ebpf_base.proofs.Ranges.{length-map-range}
+use Rattle.ebpf_base.proofs.Lists.{length-map-range}
 
 -- how many they are, mapped
 pub length_numbers : {X : Type 0} (f : ℕ → X) (a n : ℕ) → length (map f (range_with_len a n)) ≡ n

@@ -3,8 +3,7 @@
 ghost use Rattle.std.specs.Prelude.{◌≡◌, ◌<◌, ◌^◌, length, List, ℕ, None, Some, IfOk, OnOk, IfErr, option_map};
 ghost use Rattle.std.specs.List.{find};
 ghost use Rattle.std.specs.Option.{ForSome};
-ghost use Rattle.ebpf_base.specs.FirstFault.{IsFirstFault, IsClear, rows_of};
-ghost use Rattle.ebpf_base.specs.Faults.{first_of, first_in, fault_of};
+ghost use Rattle.ebpf_base.specs.Faults.{IsFirstFault, IsClear, rows_of, first_of, first_in, fault_of};
 ghost use Rattle.ebpf_elf.specs.Faults.{faults, names_faults, symbol_table_faults, relocation_faults};
 ghost use Rattle.ebpf_elf.specs.Headers.{ei_data};
 ghost use Rattle.ebpf_elf.specs.Names.{section_names, is_name};
@@ -116,7 +115,7 @@ impl<'a> ElfFile<'a> {
     ///    info is not 0.
     ///
     /// Type, machine and version of the file, section 0 and symbol 0 are not looked at.
-    #[tactic(auto, using(ebpf_base::proofs::FirstFaults::clear_rows, ebpf_base::proofs::FirstFaults::first_row))]
+    #[tactic(auto, using(ebpf_base::proofs::Faults::clear_rows, ebpf_base::proofs::Faults::first_row))]
     pub fn parse(bytes: &'a [u8]) -> Result<ElfFile<'a>, ElfReadError>
         ensures fault { fault_of result ≡ first_in (faults bytes.now) }
         ensures file { IfOk result (λ file. file ≡ bytes.now) }

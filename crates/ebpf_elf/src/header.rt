@@ -47,24 +47,6 @@ pub struct SectionHeader {
     pub sh_info: u32,
 }
 
-/// The section header in the 64 bytes from `offset` on.
-#[tactic(auto, unfolding(crate::specs::Headers::header_at))]
-pub fn read_header(order: Endianness, bytes: &[u8], offset: usize) -> SectionHeader
-    requires { offset + 64 ≤ length bytes.now }
-    ensures { result ≡ header_at order bytes.now offset }
-{
-    SectionHeader {
-        sh_name: read_u32(order, bytes, offset),
-        sh_type: read_u32(order, bytes, offset + 4),
-        sh_flags: read_u64(order, bytes, offset + 8),
-        sh_addr: read_u64(order, bytes, offset + 16),
-        sh_offset: read_u64(order, bytes, offset + 24),
-        sh_size: read_u64(order, bytes, offset + 32),
-        sh_link: read_u32(order, bytes, offset + 40),
-        sh_info: read_u32(order, bytes, offset + 44),
-    }
-}
-
 /// Where the section headers of a file stand.
 #[derive(Clone, Copy)]
 pub struct SectionTable<'a> {
@@ -120,12 +102,22 @@ pub fn section_table<'a>(
 
 impl<'a> SectionTable<'a> {
     /// The header of a section.
-    #[tactic(auto, unfolding(crate::specs::Headers::section))]
+    #[tactic(auto, unfolding(crate::specs::Headers::section, crate::specs::Headers::header_at))]
     pub fn header(&self, index: usize) -> SectionHeader
         requires { index < self.now.count }
         ensures { result ≡ section self.now.bytes.now index }
     {
-        read_header(self.endianness, self.bytes, self.start + 64 * index)
+        let (order, bytes, offset) = (self.endianness, self.bytes, self.start + 64 * index);
+        SectionHeader {
+            sh_name: read_u32(order, bytes, offset),
+            sh_type: read_u32(order, bytes, offset + 4),
+            sh_flags: read_u64(order, bytes, offset + 8),
+            sh_addr: read_u64(order, bytes, offset + 16),
+            sh_offset: read_u64(order, bytes, offset + 24),
+            sh_size: read_u64(order, bytes, offset + 32),
+            sh_link: read_u32(order, bytes, offset + 40),
+            sh_info: read_u32(order, bytes, offset + 44),
+        }
     }
 
     /// The range of a section, where it is inside the file.

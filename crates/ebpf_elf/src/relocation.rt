@@ -102,7 +102,7 @@ impl SymbolTable<'_> {
     }
 
     /// The index of the first section from `from` on with relocations against this table.
-    #[tactic(auto, using(ebpf_base::proofs::Ranges::range_more))]
+    #[tactic(auto, using(ebpf_base::proofs::Lists::range_more))]
     pub fn next_relocation_section(&self, from: usize) -> Option<usize>
         ensures none { IfNone result (relocation_sections_from self.now.table.bytes.now self.now.index from self.now.table.count ≡ []) }
         ensures from { IfSome result (λ j. from ≤ j) }
@@ -241,7 +241,7 @@ impl<'a> Iterator for RelocationEntries<'a> {
 
     ghost remaining = { item_count (λ s. s) };
 
-    #[tactic(auto, using(ebpf_base::proofs::Ranges::range_more))]
+    #[tactic(auto, using(ebpf_base::proofs::Lists::range_more))]
     fn next(&mut self) -> Option<ElfRelocation> {
         if self.next >= self.section.extent.count {
             return None;

@@ -38,19 +38,6 @@ impl<'a> Model for ElfSection<'a> {
     ghost invariant = { λ s. (s.index < s.layout.table.count) × (s.fields ≡ section s.layout.table.bytes.now s.index) };
 }
 
-/// The section with this index.
-pub fn section_at<'a>(layout: Layout<'a>, index: usize) -> ElfSection<'a>
-    requires { index < layout.table.count }
-    ensures file { result.file ≡ layout.entry.table.bytes.now }
-    ensures index { result.index ≡ index }
-{
-    ElfSection {
-        layout,
-        index,
-        fields: layout.table.header(index),
-    }
-}
-
 impl<'a> ElfSection<'a> {
     /// The section's index, from 1 on.
     pub fn index(&self) -> SectionIndex
@@ -163,14 +150,18 @@ impl<'a> Iterator for Sections<'a> {
 
     ghost remaining = { item_count (λ s. s) };
 
-    #[tactic(auto, using(ebpf_base::proofs::Ranges::range_more))]
+    #[tactic(auto, using(ebpf_base::proofs::Lists::range_more))]
     fn next(&mut self) -> Option<ElfSection<'a>> {
         if self.next >= self.layout.table.count {
             return None;
         }
         let index = self.next;
         self.next += 1;
-        Some(section_at(self.layout, index))
+        Some(ElfSection {
+            layout: self.layout,
+            index,
+            fields: self.layout.table.header(index),
+        })
     }
 }
 

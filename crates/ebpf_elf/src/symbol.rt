@@ -162,22 +162,6 @@ impl<'a> Model for ElfSymbol<'a> {
     ghost invariant = { λ s. s.fields ≡ entry record { file = s.symbols.table.bytes.now; table = s.symbols.index; index = s.index } };
 }
 
-/// The symbol with this index.
-#[tactic(auto, unfolding(crate::specs::Symbols::entry))]
-pub fn symbol_of<'a>(symbols: SymbolTable<'a>, index: usize) -> ElfSymbol<'a>
-    requires { index < symbols.count }
-    ensures file { result.file ≡ symbols.entry.table.bytes.now }
-    ensures table { result.table ≡ symbols.entry.index }
-    ensures index { result.index ≡ index }
-{
-    let offset = symbols.offset + 24 * index;
-    ElfSymbol {
-        symbols,
-        index,
-        fields: read_symbol(symbols.table.endianness, symbols.table.bytes, offset),
-    }
-}
-
 impl<'a> ElfSymbol<'a> {
     /// The symbol's index, from 1 on.
     pub fn index(&self) -> usize
@@ -293,7 +277,7 @@ impl<'a> Iterator for Symbols<'a> {
 
     ghost remaining = { item_count (λ s. s) };
 
-    #[tactic(auto, using(ebpf_base::proofs::Ranges::range_more))]
+    #[tactic(auto, unfolding(crate::specs::Symbols::entry), using(ebpf_base::proofs::Lists::range_more))]
     fn next(&mut self) -> Option<ElfSymbol<'a>> {
         let symbols = self.table?;
         if self.next >= symbols.count {
@@ -301,6 +285,11 @@ impl<'a> Iterator for Symbols<'a> {
         }
         let index = self.next;
         self.next += 1;
-        Some(symbol_of(symbols, index))
+        let offset = symbols.offset + 24 * index;
+        Some(ElfSymbol {
+            symbols,
+            index,
+            fields: read_symbol(symbols.table.endianness, symbols.table.bytes, offset),
+        })
     }
 }

@@ -5,7 +5,7 @@ use Rattle.ebpf_base.specs.Numbers.{number_at}
 use Rattle.ebpf_elf.specs.declared.constants.TheConstants.{MAGIC, ELFCLASS64, ELFDATA2LSB, ELFDATA2MSB, SHT_NOBITS}
 use Rattle.ebpf_elf.specs.declared.header.SectionHeader.{SectionHeader}
 use Rattle.ebpf_elf.specs.Headers.{header_at, ei_data, e_shoff, e_shnum}
-use Rattle.ebpf_embedded.specs.declared.header.TheConstants.{ET_REL, EM_BPF}
+use Rattle.ebpf_embedded.specs.declared.objects.TheConstants.{ET_REL, EM_BPF}
 use Rattle.ebpf_embedded.specs.declared.objects.ObjectRange.{ObjectRange}
 
 -- bytes that begin with the header of an ELF64 file, whose e_type (at 16) is ET_REL and whose e_machine (at 18) is EM_BPF

@@ -3,13 +3,11 @@ use Rattle.std.proofs.Common.{◌≡◌, ◌-◌, ◌<◌, ◌≤◌, ◌==◌, 
 use Rattle.std.specs.Prelude.{⊤, IfOk}
 use Rattle.std.proofs.lemmas.Bool.Decides.{nat_tests}
 use Rattle.std.specs.FinMap.{FinMap, empty}
-use Rattle.ebpf_base.specs.Faults.{first_of, Gives}
-use Rattle.ebpf_base.specs.Keyed.{put_all}
-use Rattle.ebpf_base.specs.Keys.{text_cmp}
-use Rattle.ebpf_base.specs.Results.{if_ok}
+use Rattle.ebpf_base.specs.Faults.{first_of, Gives, if_ok}
+use Rattle.ebpf_btf.specs.Next.{if_some}
+use Rattle.ebpf_base.specs.Maps.{put_all, text_cmp}
 use Rattle.ebpf_base.specs.declared.endianness.Endianness.{Endianness}
 use Rattle.ebpf_btf.specs.Memory.{is_btf_memory}
-use Rattle.ebpf_btf.specs.Next.{if_some}
 use Rattle.ebpf_btf.specs.declared.error.BtfError.{BtfError}
 use Rattle.ebpf_btf.specs.declared.error.BtfError.TheVariants.{InvalidInfo}
 use Rattle.ebpf_ext.specs.ExtFormat.{section_end, info_sec_fault, ext_header_fault, func_part, line_part, part_fault, record_size, core_relo_part, sections_end, sections_start}

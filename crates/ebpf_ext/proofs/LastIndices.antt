@@ -8,13 +8,12 @@ use Rattle.std.specs.Ordering.{eq_by_cmp}
 use Rattle.std.specs.Str.{bytes_eq}
 use Rattle.std.proofs.lemmas.Slice.Eq.{bytes_eq-Decides}
 use Rattle.ebpf_base.proofs.TextMaps.{text_exact, same_tests}
-use Rattle.ebpf_base.proofs.Orderings.{is_equal}
+use Rattle.ebpf_base.proofs.Maps.{is_equal}
 use Rattle.ebpf_base.specs.Faults.{fault_of}
-use Rattle.ebpf_base.specs.Keyed.{last_at}
-use Rattle.ebpf_base.specs.Keys.{text_cmp, text_total}
+use Rattle.ebpf_btf.specs.Next.{if_some}
+use Rattle.ebpf_base.specs.Maps.{last_at, text_cmp, text_total}
 use Rattle.ebpf_btf.proofs.LongNames.{too_long}
 use Rattle.ebpf_btf.specs.Memory.{is_btf_memory}
-use Rattle.ebpf_btf.specs.Next.{if_some}
 use Rattle.ebpf_btf.specs.Strings.{is_text, text_at}
 use Rattle.ebpf_btf.specs.declared.error.BtfError.{BtfError}
 use Rattle.ebpf_ext.specs.SectionNames.{by_offsets, sections_with_names}

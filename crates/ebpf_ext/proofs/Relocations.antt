@@ -2,7 +2,7 @@
 use Rattle.std.proofs.Common.{◌≡◌, ◌-◌, ◌+◌, ◌<◌, ℕ, suc, Bool, true, false, List, [], ◌∷◌, ◌++◌, map, Result, Ok, Err, MatchBool, refl, ap, sym, ◌∙◌, arith, append_assoc, None, Some}
 use Rattle.std.specs.Prelude.{⊤}
 use Rattle.std.specs.List.{range_with_len}
-use Rattle.ebpf_base.specs.Results.{if_ok}
+use Rattle.ebpf_base.specs.Faults.{if_ok}
 use Rattle.ebpf_btf.proofs.KindRows.{in_table}
 use Rattle.ebpf_btf.specs.Memory.{is_btf_memory}
 use Rattle.ebpf_btf.specs.declared.error.BtfError.{BtfError}

@@ -9,12 +9,11 @@ use Rattle.std.proofs.lemmas.Bool.{cases_lt}
 use Rattle.std.proofs.lemmas.Bool.Decides.{nat_tests}
 use Rattle.std.proofs.lemmas.Slice.Zip.{AllZip-long, all_zipped_more}
 use Rattle.std.proofs.lemmas.List.{drop_all, drop-append-le, length-take, take-append-drop, take-append-le, take_more}
-use Rattle.ebpf_base.proofs.Keyed.{later_text_stands, put_all-append}
+use Rattle.ebpf_base.proofs.Mapped.{later_text_stands, put_all-append}
 use Rattle.ebpf_base.proofs.TextMaps.{same_tests}
-use Rattle.ebpf_base.proofs.Walks.{rest_more, rest_none}
+use Rattle.ebpf_base.proofs.Lists.{rest_more, rest_none}
 use Rattle.ebpf_base.proofs.ZeroBytes.{front, front_take}
-use Rattle.ebpf_base.specs.Keyed.{last_at, put_all}
-use Rattle.ebpf_base.specs.Keys.{text_cmp}
+use Rattle.ebpf_base.specs.Maps.{last_at, put_all, text_cmp}
 use Rattle.ebpf_btf.specs.Strings.{is_text, text_at, before_zero, text_or_fault}
 use Rattle.ebpf_btf.specs.declared.error.BtfError.{BtfError}
 use Rattle.ebpf_ext.specs.SectionNames.{by_offsets, section_with_name, sections_with_names, with_offsets, AreCopied, IsCopied}

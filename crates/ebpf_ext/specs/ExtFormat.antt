@@ -2,7 +2,8 @@
 -- struct btf_ext_info_sec, and in include/uapi/linux/bpf.h struct bpf_core_relo).
 use Rattle.std.specs.Prelude.{ℕ, ◌+◌, ◌*◌, ◌/◌, List, [], ◌∷◌, map, length, Option, None, Result, Ok, Err, nat_lt, not, ◌&&◌, ◌==◌, if◌then◌else◌}
 use Rattle.std.specs.List.{range_with_len}
-use Rattle.ebpf_base.specs.Faults.{first_of}
+use Rattle.ebpf_base.specs.Faults.{first_of, if_ok}
+use Rattle.ebpf_btf.specs.Next.{if_some}
 use Rattle.ebpf_base.specs.declared.endianness.Endianness.{Endianness}
 use Rattle.ebpf_base.specs.declared.endianness.Endianness.TheVariants.{Little}
 use Rattle.ebpf_btf.specs.declared.error.BtfError.{BtfError}
@@ -16,8 +17,6 @@ use Rattle.ebpf_btf.specs.Format.{word}
 use Rattle.ebpf_btf.specs.Items.{items_at}
 use Rattle.ebpf_btf.specs.Reading.{header_length, magic}
 use Rattle.ebpf_ext.specs.RelocationKinds.{relocation_kind}
-use Rattle.ebpf_base.specs.Results.{if_ok}
-use Rattle.ebpf_btf.specs.Next.{if_some}
 
 -- ---- the header; offsets count from its end
 

@@ -1,11 +1,10 @@
 -- Func info and line info of `.BTF.ext`, by the names of sections.
 use Rattle.std.specs.Prelude.{ℕ, List, [], unwrap_or, zero, suc, ◌+◌, ◌-◌, ◌∷◌, Result, Ok, Err, ◌==◌, if◌then◌else◌, ◌≡◌, None}
 use Rattle.std.specs.FinMap.{FinMap, get, empty}
-use Rattle.ebpf_base.specs.Keyed.{put_all}
-use Rattle.ebpf_base.specs.Keys.{text_cmp}
-use Rattle.ebpf_base.specs.Results.{if_ok}
-use Rattle.ebpf_base.specs.declared.endianness.Endianness.{Endianness}
+use Rattle.ebpf_base.specs.Maps.{put_all, text_cmp}
+use Rattle.ebpf_base.specs.Faults.{if_ok}
 use Rattle.ebpf_btf.specs.Next.{if_some}
+use Rattle.ebpf_base.specs.declared.endianness.Endianness.{Endianness}
 use Rattle.ebpf_btf.specs.Strings.{text_at}
 use Rattle.ebpf_btf.specs.declared.error.BtfError.{BtfError}
 use Rattle.ebpf_btf.specs.declared.error.BtfError.TheVariants.{InvalidInfo}

@@ -1,11 +1,11 @@
 -- What contracts of private functions name and no public one.
 use Rattle.std.specs.Prelude.{◌+◌, List, ◌++◌, Result, Ok, ◌≡◌, ◌≤◌, ℕ, length, ⊤, Option, Some, None, Err, option_map, slice_get, if◌then◌else◌}
 use Rattle.ebpf_btf.specs.declared.error.BtfError.{BtfError}
-use Rattle.ebpf_base.specs.Results.{if_ok}
+use Rattle.ebpf_base.specs.Faults.{if_ok}
 use Rattle.ebpf_btf.specs.Next.{if_some}
 use Rattle.std.specs.Bool.{MatchBool}
 use Rattle.std.specs.FinMap.{FinMap, get, insert}
-use Rattle.ebpf_base.specs.Keys.{text_cmp}
+use Rattle.ebpf_base.specs.Maps.{text_cmp}
 use Rattle.ebpf_btf.specs.Memory.{is_btf_memory}
 use Rattle.ebpf_btf.specs.Strings.{is_text, text_at}
 use Rattle.ebpf_base.specs.declared.endianness.Endianness.{Endianness}

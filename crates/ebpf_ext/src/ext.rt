@@ -5,15 +5,15 @@ ghost use Rattle.ebpf_base.specs.Faults.{Gives};
 ghost use Rattle.ebpf_ext.specs.ExtReading.{ExtInfo, read_ext, func_sections, line_sections, core_relo_sections, SpellsExt};
 ghost use Rattle.ebpf_ext.specs.ExtFormat.{func_part, line_part, record_size};
 ghost use Rattle.ebpf_btf.specs.Memory.{is_btf_memory};
-ghost use Rattle.ebpf_btf.specs.Reading.{header_length};
 
 use crate::ext_infos::{FuncInfo, LineInfo};
-use crate::ext_part::{read_header_length, read_part};
-use crate::ext_sections::{read_func_sections, read_line_sections, read_relocation_sections};
+use crate::ext_part::{
+    read_func_sections, read_header_length, read_line_sections, read_part, read_relocation_sections,
+};
 use crate::relocation::Relocation;
 use ebpf_base::Items;
 use ebpf_btf::{Btf, BtfError, Endianness};
-use std::alloc::Global;
+use std::alloc::{AllocError, Global};
 use std::marker::Model;
 
 /// The offset in the header of `func_info_off` and `func_info_len`.
@@ -43,7 +43,7 @@ impl Model for BtfExt {
     ghost use Rattle.ebpf_ext.specs.ExtReading.{ExtInfo};
     ghost use Rattle.std.specs.Coded.{codes};
     ghost use Rattle.std.specs.FinMap as map;
-    ghost use Rattle.ebpf_base.specs.Keys.{coded_text, text_cmp};
+    ghost use Rattle.ebpf_base.specs.Maps.{coded_text, text_cmp};
     ghost use Rattle.ebpf_ext.specs.contracts.ext_infos.FuncSecInfo as funcs;
     ghost use Rattle.ebpf_ext.specs.contracts.ext_infos.LineSecInfo as lines;
 
@@ -133,5 +133,29 @@ impl BtfExt {
         ensures { result ≡ self.now.line_record_size }
     {
         self.line_info_rec_size
+    }
+}
+
+/// A copy of the relocations of all sections.
+#[tactic(auto, using(ebpf_btf::proofs::Copies::same_list))]
+fn copy_relocations(
+    sections: &Items<(u32, Items<Relocation>)>,
+) -> Result<Items<(u32, Items<Relocation>)>, AllocError>
+    ensures { IfOk result (λ copy. copy ≡ sections.now) }
+{
+    sections.clone()
+}
+
+impl Clone for BtfExt {
+    ghost is_clone = { λ old copy. copy ≡ old };
+
+    fn clone(&self) -> Result<BtfExt, AllocError> {
+        Ok(BtfExt {
+            func_info: self.func_info.clone()?,
+            line_info: self.line_info.clone()?,
+            relocations: copy_relocations(&self.relocations)?,
+            func_info_rec_size: self.func_info_rec_size,
+            line_info_rec_size: self.line_info_rec_size,
+        })
     }
 }

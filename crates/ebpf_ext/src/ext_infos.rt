@@ -1,10 +1,11 @@
-//! Func info and line info of `.BTF.ext`.
+//! Func info and line info of `.BTF.ext`, and copies of them.
 
 ghost use Rattle.std.specs.Prelude.{◌≡◌, ℕ, List};
 
 use crate::found_sections::SectionsByName;
 use ebpf_base::Items;
 use ebpf_btf::rows::Row;
+use std::alloc::AllocError;
 
 /// A func info record. It lies in memory as the kernel's `struct bpf_func_info`.
 #[repr(C)]
@@ -52,6 +53,30 @@ pub struct LineSecInfo {
     pub num_info: u32,
     /// The records, in order.
     pub line_info: Items<bpf_line_info>,
+}
+
+impl Clone for FuncSecInfo {
+    ghost is_clone = { λ old copy. copy ≡ old };
+
+    fn clone(&self) -> Result<FuncSecInfo, AllocError> {
+        Ok(FuncSecInfo {
+            sec_name_offset: self.sec_name_offset,
+            num_info: self.num_info,
+            func_info: self.func_info.copied()?,
+        })
+    }
+}
+
+impl Clone for LineSecInfo {
+    ghost is_clone = { λ old copy. copy ≡ old };
+
+    fn clone(&self) -> Result<LineSecInfo, AllocError> {
+        Ok(LineSecInfo {
+            sec_name_offset: self.sec_name_offset,
+            num_info: self.num_info,
+            line_info: self.line_info.copied()?,
+        })
+    }
 }
 
 /// Func info, by the names of their sections. Contracts see a finite map.

@@ -1,17 +1,20 @@
-//! The header of `.BTF.ext`, its parts, and the heads of their sections.
+//! The header of `.BTF.ext`, its parts, and their sections, read from bytes.
 
-ghost use Rattle.std.specs.Prelude.{◌≡◌, ◌+◌, ◌*◌, ◌≤◌, ◌<◌, length, IfOk};
+ghost use Rattle.std.specs.Prelude.{◌≡◌, ◌+◌, ◌-◌, ◌*◌, ◌≤◌, ◌<◌, length, IfOk};
 ghost use Rattle.ebpf_base.specs.Faults.{fault_of, Gives};
 ghost use Rattle.ebpf_btf.specs.Memory.{is_btf_memory};
 ghost use Rattle.ebpf_btf.specs.Reading.{header_length};
 ghost use Rattle.ebpf_ext.specs.ExtFormat.{ext_header_fault, part_fault, record_size, sections_start, sections_end, num_info_at, section_end, info_sec_fault, sec_name_off_at, func_record, line_record, core_relo_at, core_relos_at};
+ghost use Rattle.ebpf_ext.specs.ExtReading.{by_names, func_section, line_section, core_relo_section, sections_from};
+ghost use Rattle.ebpf_ext.specs.PrivateContracts.{GivesByOffset, info_section};
 
-use crate::ext_infos::{bpf_func_info, bpf_line_info};
+use crate::ext_infos::{FuncInfo, LineInfo, SectionInfo, bpf_func_info, bpf_line_info};
+use crate::found_sections::SectionsByName;
 use crate::relocation::{Relocation, RelocationKind};
 use ebpf_base::Items;
 use ebpf_base::numbers::{read_u16, read_u32};
-use ebpf_btf::rows::Row;
-use ebpf_btf::{BtfError, Endianness};
+use ebpf_btf::rows::{Row, read_rows};
+use ebpf_btf::{Btf, BtfError, Endianness};
 use std::alloc::Global;
 
 /// What `.BTF.ext` begins with.
@@ -21,7 +24,7 @@ const MAGIC: u16 = 0xeb9f;
 const HEADER_LENGTH: usize = 24;
 
 /// The length in bytes of what a section begins with: the offset of its name and the number of its records.
-pub const SECTION_HEAD: usize = 8;
+const SECTION_HEAD: usize = 8;
 
 /// Where a part's sections begin and end, and the size of their records in bytes.
 #[derive(Clone, Copy)]
@@ -33,10 +36,10 @@ pub struct Part {
 
 /// What a section begins with, and the offset after the section.
 #[derive(Clone, Copy)]
-pub struct SectionHead {
-    pub name_offset: u32,
-    pub count: u32,
-    pub next: usize,
+struct SectionHead {
+    name_offset: u32,
+    count: u32,
+    next: usize,
 }
 
 /// The length of the header, which is inside the bytes.
@@ -99,7 +102,7 @@ pub fn read_part(
 /// What the section at an offset begins with. `InvalidInfo` where the section goes past the end of its part, or has
 /// records that are shorter than `least` bytes.
 #[tactic(auto, unfolding(crate::specs::ExtFormat::info_sec_fault))]
-pub fn read_section_head(
+fn read_section_head(
     order: Endianness,
     bytes: &[u8],
     part: Part,
@@ -193,7 +196,7 @@ fn read_relocation(
 /// The relocations, `count` of them of a size from `offset` on. `InvalidRelocationKind` where the kind of one is
 /// none, of the first such.
 #[tactic(auto, using(ebpf_btf::proofs::InOrder::record_inside))]
-pub fn read_relocations(
+fn read_relocations(
     alloc: Global,
     bytes: &[u8],
     offset: usize,
@@ -209,4 +212,136 @@ pub fn read_relocations(
         items.push(read_relocation(bytes, offset, size, number)?)?;
     }
     Ok(Items::from_vec(items))
+}
+
+/// The least length of a func info record in bytes.
+const FUNC_RECORD: u32 = 8;
+
+/// The least length of a line info record in bytes.
+const LINE_RECORD: u32 = 16;
+
+/// The least length of a relocation in bytes.
+const RELOCATION: u32 = 16;
+
+/// The offset of the name of the section at an offset, its func info or line info, and the offset after it.
+#[tactic(auto, unfolding(crate::specs::ExtReading::checked_section))]
+fn read_info_section<S: SectionInfo>(
+    alloc: Global,
+    order: Endianness,
+    bytes: &[u8],
+    btf: &Btf,
+    part: Part,
+    least: u32,
+    offset: usize,
+) -> Result<((u32, S), usize), BtfError>
+    requires least { least ≡ S.Record.least }
+    requires before { offset < part.end }
+    requires inside { part.end ≤ length bytes.now }
+    ensures { GivesByOffset btf.now.strings result (info_section S.info_with S.Record.row_at least order bytes.now btf.now.strings part.record_size part.end offset) }
+{
+    let head = read_section_head(order, bytes, part, least, offset)?;
+    btf.is_name_at(head.name_offset, "")?;
+    let size = part.record_size as usize;
+    let count = head.count as usize;
+    let records = read_rows(alloc, order, bytes, offset + SECTION_HEAD, size, count)?;
+    let info = S::with(head.name_offset, head.count, records);
+    Ok(((head.name_offset, info), head.next))
+}
+
+/// The func info or line info of a part, whose records have at least so many bytes, by the names of its sections; of those
+/// with equal names the later.
+fn read_info_sections<S: SectionInfo>(
+    alloc: Global,
+    order: Endianness,
+    bytes: &[u8],
+    btf: &Btf,
+    part: Part,
+    least: u32,
+) -> Result<SectionsByName<S>, BtfError>
+    requires least { least ≡ S.Record.least }
+    requires before { part.offset ≤ part.end }
+    requires inside { part.end ≤ length bytes.now }
+    ensures { Gives is_btf_memory result (by_names (sections_from (part.end - part.offset) (info_section S.info_with S.Record.row_at least order bytes.now btf.now.strings part.record_size part.end) part.offset part.end)) }
+{
+    let mut sections = Items::new(alloc);
+    let mut offset = part.offset;
+    while offset < part.end {
+        let (section, next) = read_info_section(alloc, order, bytes, btf, part, least, offset)?;
+        sections.push(section)?;
+        offset = next;
+    }
+    Ok(SectionsByName::new(alloc, btf.strings(), sections)?)
+}
+
+/// The func info of a part, by the names of its sections; of those with equal names the later.
+#[tactic(auto, unfolding(crate::specs::ExtReading::named_func_info, crate::specs::ExtFormat::func_infos))]
+pub fn read_func_sections(
+    alloc: Global,
+    order: Endianness,
+    bytes: &[u8],
+    btf: &Btf,
+    part: Part,
+) -> Result<FuncInfo, BtfError>
+    requires before { part.offset ≤ part.end }
+    requires inside { part.end ≤ length bytes.now }
+    ensures { Gives is_btf_memory result (by_names (sections_from (part.end - part.offset) (func_section order bytes.now btf.now.strings part.record_size part.end) part.offset part.end)) }
+{
+    read_info_sections(alloc, order, bytes, btf, part, FUNC_RECORD)
+}
+
+/// The line info of a part, by the names of its sections; of those with equal names the later.
+#[tactic(auto, unfolding(crate::specs::ExtReading::named_line_info, crate::specs::ExtFormat::line_infos))]
+pub fn read_line_sections(
+    alloc: Global,
+    order: Endianness,
+    bytes: &[u8],
+    btf: &Btf,
+    part: Part,
+) -> Result<LineInfo, BtfError>
+    requires before { part.offset ≤ part.end }
+    requires inside { part.end ≤ length bytes.now }
+    ensures { Gives is_btf_memory result (by_names (sections_from (part.end - part.offset) (line_section order bytes.now btf.now.strings part.record_size part.end) part.offset part.end)) }
+{
+    read_info_sections(alloc, order, bytes, btf, part, LINE_RECORD)
+}
+
+/// The offset of a section's name, its relocations, and the offset after the section.
+#[tactic(auto, unfolding(crate::specs::ExtReading::checked_section, crate::specs::ExtReading::section_core_relos))]
+fn read_relocation_section(
+    alloc: Global,
+    order: Endianness,
+    bytes: &[u8],
+    part: Part,
+    offset: usize,
+) -> Result<((u32, Items<Relocation>), usize), BtfError>
+    requires before { offset < part.end }
+    requires inside { part.end ≤ length bytes.now }
+    ensures found { Gives is_btf_memory result (core_relo_section order bytes.now part.record_size part.end offset) }
+{
+    let head = read_section_head(order, bytes, part, RELOCATION, offset)?;
+    let size = part.record_size as usize;
+    let count = head.count as usize;
+    let relocations = read_relocations(alloc, bytes, offset + SECTION_HEAD, size, count)?;
+    Ok(((head.name_offset, relocations), head.next))
+}
+
+/// The sections of a part, in order.
+pub fn read_relocation_sections(
+    alloc: Global,
+    order: Endianness,
+    bytes: &[u8],
+    part: Part,
+) -> Result<Items<(u32, Items<Relocation>)>, BtfError>
+    requires before { part.offset ≤ part.end }
+    requires inside { part.end ≤ length bytes.now }
+    ensures { Gives is_btf_memory result (sections_from (part.end - part.offset) (core_relo_section order bytes.now part.record_size part.end) part.offset part.end) }
+{
+    let mut sections = Items::new(alloc);
+    let mut offset = part.offset;
+    while offset < part.end {
+        let (section, next) = read_relocation_section(alloc, order, bytes, part, offset)?;
+        sections.push(section)?;
+        offset = next;
+    }
+    Ok(sections)
 }

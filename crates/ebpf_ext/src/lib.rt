@@ -1,12 +1,9 @@
 //! `.BTF.ext` of an eBPF object file: func info, line info and the CO-RE relocations.
 #![tactic(auto)]
 
-mod copied_names;
 mod ext;
-mod ext_clones;
 mod ext_infos;
 mod ext_part;
-mod ext_sections;
 mod found_sections;
 pub mod laws;
 mod relocation;

@@ -6,10 +6,9 @@ use Rattle.std.specs.Option.{option_and_then}
 use Rattle.std.specs.Ordering.{eq_by_cmp, nat_cmp}
 use Rattle.std.specs.Cmp.{nat_cmp_total}
 use Rattle.std.specs.List.{flat_map}
-use Rattle.ebpf_base.proofs.Maps.{entries-empty}
-use Rattle.ebpf_base.proofs.Orderings.{is_equal}
+use Rattle.ebpf_base.proofs.Maps.{entries-empty, is_equal}
 use Rattle.ebpf_base.proofs.TextMaps.{text_exact}
-use Rattle.ebpf_base.specs.Keys.{text_cmp, text_total}
+use Rattle.ebpf_base.specs.Maps.{text_cmp, text_total}
 use Rattle.ebpf_initial_slots.specs.InitialSlots.{with_slot, LastSlotsStand, last_slot, standing_slot, slots_in_order}
 use Rattle.ebpf_initial_slots.specs.declared.slots.InitialSlot.{InitialSlot}
 

@@ -1,27 +1,28 @@
--- The one answer that no definition states: want of memory.
+-- The initial values of maps of maps and of programs.
 use Rattle.std.specs.Prelude.{Bool, true, false, ℕ, ◌+◌, ◌-◌, ◌/◌, ◌%◌, ◌==◌, ◌&&◌, ◌||◌, nat_le, nat_lt, not, List, [], ◌∷◌, map, fold, Option, Some, None, option_map, unwrap_or, Result, Ok, Err, if◌then◌else◌, ◌≡◌}
 use Rattle.std.specs.FinMap.{FinMap, get, insert, contains_key, entries, empty}
 use Rattle.std.specs.List.{find, flat_map}
 use Rattle.std.specs.Option.{option_and_then, option_map_or}
 use Rattle.std.specs.Ordering.{nat_cmp, eq_by_cmp}
-use Rattle.ebpf_base.specs.Faults.{fault_of, first_in, first_some, or_else}
-use Rattle.ebpf_base.specs.Keys.{text_cmp}
-use Rattle.ebpf_base.specs.Results.{if_ok}
+use Rattle.ebpf_base.specs.Faults.{fault_of, first_in, first_some, or_else, if_ok}
 use Rattle.ebpf_btf.specs.Next.{if_some}
+use Rattle.ebpf_base.specs.Maps.{text_cmp}
 use Rattle.ebpf_elf.specs.Faults.{faults}
 use Rattle.ebpf_elf.specs.Relocations.{relocations}
 use Rattle.ebpf_elf.specs.Sections.{sections}
 use Rattle.ebpf_elf.specs.declared.relocation.ElfRelocation.{ElfRelocation}
+use Rattle.ebpf_model.specs.declared.function.Program.{Program}
+use Rattle.ebpf_model.specs.declared.symbol.Symbol.{Symbol}
+use Rattle.ebpf_object.specs.declared.object.Object.{Object}
 use Rattle.ebpf_initial_slots.specs.MapVariables.{maps_section_name, map_variables}
 use Rattle.ebpf_initial_slots.specs.declared.error.InitialSlotError.{InitialSlotError}
 use Rattle.ebpf_initial_slots.specs.declared.error.InitialSlotError.TheVariants.{OutOfMemory, ElfError, UnknownSymbol, OutsideMaps, UnsupportedMapType, NotInMaps, UnsupportedKeySize, UnknownMap, UnknownProgram, NotAnEntryPoint, NoValues, OutsideValues, Misaligned}
 use Rattle.ebpf_initial_slots.specs.declared.slots.InitialSlot.{InitialSlot}
 use Rattle.ebpf_initial_slots.specs.declared.target.InitialTarget.{InitialTarget}
-use Rattle.ebpf_initial_slots.specs.declared.target.InitialTarget.TheVariants as targets
 use Rattle.ebpf_initial_slots.specs.declared.variables.MapVariable.{MapVariable}
-use Rattle.ebpf_model.specs.declared.program.Program.{Program}
-use Rattle.ebpf_model.specs.declared.symbol.Symbol.{Symbol}
-use Rattle.ebpf_object.specs.declared.object.Object.{Object}
+use Rattle.ebpf_initial_slots.specs.declared.target.InitialTarget.TheVariants as targets
+
+-- ---- the one answer that no definition states: want of memory.
 
 abbrev pub is_initial_slot_memory : InitialSlotError → Bool
 is_initial_slot_memory OutOfMemory = true
@@ -165,3 +166,9 @@ last_slot name index before slots =
 
 abbrev pub LastSlotsStand : Type 0
 LastSlotsStand = (slots : List InitialSlot) (name : List ℕ) (index : ℕ) → standing_slot (by_map_and_index slots) name index ≡ last_slot name index None slots
+
+-- ---- what contracts of private functions name and no public one.
+
+-- one more slot, beside those of its map
+abbrev pub with_slot_in : FinMap text_cmp (FinMap nat_cmp InitialSlot) → InitialSlot → Option (FinMap nat_cmp InitialSlot) → FinMap text_cmp (FinMap nat_cmp InitialSlot)
+with_slot_in found s own = insert found s.map (insert (unwrap_or own empty) s.index s)

@@ -1,3 +1,2 @@
 pub mod MapVariables
 pub mod InitialSlots
-pub mod PrivateContracts

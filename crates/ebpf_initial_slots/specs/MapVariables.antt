@@ -17,7 +17,7 @@ use Rattle.ebpf_btf.specs.declared.types.BtfType.TheVariants.{DataSec, Struct, V
 use Rattle.ebpf_initial_slots.specs.declared.variables.MapVariable.{MapVariable}
 use Rattle.ebpf_model.specs.declared.symbol.Symbol.{Symbol}
 use Rattle.ebpf_object.specs.declared.object.Object.{Object}
-use Rattle.ebpf_parts.specs.declared.maps.btf.BtfMap.{BtfMap}
+use Rattle.ebpf_parts.specs.declared.maps.either.BtfMap.{BtfMap}
 use Rattle.ebpf_parts.specs.declared.maps.either.Map.{Map}
 use Rattle.ebpf_parts.specs.declared.maps.either.Map.TheVariants.{Btf}
 

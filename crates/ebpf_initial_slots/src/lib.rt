@@ -2,7 +2,6 @@
 #![tactic(auto)]
 
 mod error;
-mod gather;
 pub mod laws;
 mod slots;
 mod target;

@@ -1,13 +1,13 @@
 //! The variables of the section `.maps`.
 
-ghost use Rattle.std.specs.Prelude.{◌≡◌, ◌++◌, [], IfOk, IfErr, true};
+ghost use Rattle.std.specs.Prelude.{◌≡◌, [], IfOk, IfErr, true};
 ghost use Rattle.std.specs.FinMap as finite;
-ghost use Rattle.std.specs.Option.{option_copied, option_to_list};
+ghost use Rattle.std.specs.Option.{option_copied};
 ghost use Rattle.std.specs.Result.{result_ok};
 ghost use Rattle.ebpf_btf.specs.Strings.{id_of_name, text_at};
 ghost use Rattle.ebpf_btf.specs.declared.kind.BtfKind.TheVariants as kinds;
 ghost use Rattle.ebpf_initial_slots.specs.InitialSlots.{is_initial_slot_memory};
-ghost use Rattle.ebpf_initial_slots.specs.MapVariables.{declared_in, lacks_offsets, map_variable, map_variables, maps_datasec, maps_entries, maps_section_name, name_and_type, named_variable, variable_of, variable_offset, variables_of};
+ghost use Rattle.ebpf_initial_slots.specs.MapVariables.{declared_in, lacks_offsets, map_variable, map_variables, maps_datasec, maps_entries, maps_section_name, name_and_type, named_variable, variable_offset, variables_of};
 
 use crate::error::InitialSlotError;
 use crate::slots::values_offset;
@@ -99,10 +99,9 @@ fn named_variable(
     let Some((name_offset, value_type)) = name_and_type(&ty) else {
         return Ok(None);
     };
-    match name_at(alloc, types, name_offset) {
-        Ok(Some(name)) => Ok(Some((name, value_type))),
-        Ok(None) => Ok(None),
-        Err(error) => Err(error),
+    match name_at(alloc, types, name_offset)? {
+        Some(name) => Ok(Some((name, value_type))),
+        None => Ok(None),
     }
 }
 
@@ -142,10 +141,8 @@ fn map_variable(
     ensures variable { IfOk result (λ v. v ≡ map_variable object.now types.now section unplaced entry.now) }
     ensures memory { IfErr result (λ e. is_initial_slot_memory e ≡ true) }
 {
-    let (name, value_type) = match named_variable(alloc, types, entry.btf_type) {
-        Ok(Some(named)) => named,
-        Ok(None) => return Ok(None),
-        Err(error) => return Err(error),
+    let Some((name, value_type)) = named_variable(alloc, types, entry.btf_type)? else {
+        return Ok(None);
     };
     let Some(map) = declared_in(section, object.maps.get(name.as_str())) else {
         return Ok(None);
@@ -159,23 +156,6 @@ fn map_variable(
         key_size: map.def.key_size,
         values: values_offset(types, value_type),
     }))
-}
-
-/// Adds the variable of an entry.
-fn add_variable(
-    variables: Items<MapVariable>,
-    variable: Option<MapVariable>,
-) -> Result<Items<MapVariable>, AllocError>
-    ensures { IfOk result (λ all. all ≡ variables ++ option_to_list variable) }
-{
-    let mut variables = variables;
-    match variable {
-        Some(variable) => {
-            variables.push(variable)?;
-            Ok(variables)
-        }
-        None => Ok(variables),
-    }
 }
 
 /// The variables of a DATASEC.
@@ -192,11 +172,10 @@ fn variables_of(
     let unplaced = lacks_offsets(ty);
     let mut variables = Items::new(alloc);
     for entry in maps_entries(ty).iter() {
-        let variable = match map_variable(alloc, object, types, section, unplaced, &entry) {
-            Ok(variable) => variable,
-            Err(error) => return Err(error),
+        let Some(variable) = map_variable(alloc, object, types, section, unplaced, &entry)? else {
+            continue;
         };
-        variables = add_variable(variables, variable)?;
+        variables.push(variable)?;
     }
     Ok(variables)
 }
@@ -218,10 +197,9 @@ fn maps_datasec(types: &Btf) -> Result<Option<BtfType<'_>>, InitialSlotError>
     ensures datasec { IfOk result (λ ty. ty ≡ maps_datasec types.now) }
     ensures memory { IfErr result (λ e. is_initial_slot_memory e ≡ true) }
 {
-    match maps_datasec_id(types) {
-        Ok(Some(id)) => Ok(types.get(id as usize)),
-        Ok(None) => Ok(None),
-        Err(error) => Err(error),
+    match maps_datasec_id(types)? {
+        Some(id) => Ok(types.get(id as usize)),
+        None => Ok(None),
     }
 }
 
@@ -237,9 +215,8 @@ pub fn map_variables(
     let Some(types) = &object.btf else {
         return Ok(Items::new(alloc));
     };
-    match maps_datasec(types) {
-        Ok(Some(ty)) => variables_of(alloc, object, types, section, &ty),
-        Ok(None) => Ok(Items::new(alloc)),
-        Err(error) => Err(error),
+    match maps_datasec(types)? {
+        Some(ty) => variables_of(alloc, object, types, section, &ty),
+        None => Ok(Items::new(alloc)),
     }
 }

@@ -1,9 +1,9 @@
 -- The maps of programs, one after the other.
-use Rattle.std.proofs.Common.{◌≡◌, inl, inr, ℕ, Bool, true, false, ◌+◌, ◌<◌, List, [], ◌∷◌, ◌++◌, map, length, drop, Bor, sym, ap, subst}
+use Rattle.std.proofs.Common.{◌≡◌, inl, inr, ℕ, Bool, true, false, ◌+◌, ◌<◌, List, [], ◌∷◌, ◌++◌, length, drop, Bor, sym, ap, subst}
 use Rattle.std.proofs.lemmas.List.{append_assoc, get_or_default}
 use Rattle.std.specs.List.{flat_map}
 use Rattle.std.specs.Prelude.{slice_index_or, MatchBool}
-use Rattle.ebpf_base.specs.Keys.{lent_bytes}
+use Rattle.ebpf_base.specs.Maps.{lent_bytes}
 use Rattle.ebpf_inspect.specs.Named.{AreMaps, OneRefused}
 use Rattle.ebpf_inspect.specs.declared.maps.NamedMap.{NamedMap}
 use Rattle.ebpf_object.specs.Prepared.{RefusesPreparing, NamesNothing, is_prepare_memory}
@@ -11,7 +11,7 @@ use Rattle.ebpf_object.specs.Stages.{Wrapped}
 use Rattle.ebpf_object.specs.declared.object.Object.{Object}
 use Rattle.ebpf_object.specs.declared.prepare_error.PrepareError.{PrepareError}
 use Rattle.ebpf_object.specs.declared.prepare_error.PrepareError.TheVariants.{Calls}
-use Rattle.ebpf_base.proofs.Walks.{rest_more}
+use Rattle.ebpf_base.proofs.Lists.{rest_more}
 use Rattle.ebpf_reloc.specs.Linking.{ProgramValue}
 use Rattle.ebpf_model.specs.declared.error.EbpfRelocationError.{EbpfRelocationError}
 

@@ -5,7 +5,7 @@ use Rattle.std.proofs.lemmas.Bool.{or_left, or_right, MatchBool-at_true}
 use Rattle.std.specs.Cmp.{eq_by_cmp_equiv}
 use Rattle.std.specs.FinMap.{get}
 use Rattle.std.specs.Ordering.{eq_by_cmp}
-use Rattle.ebpf_base.specs.Keys.{key_cmp, key_total}
+use Rattle.ebpf_base.specs.Maps.{key_cmp, key_total}
 use Rattle.ebpf_inspect.specs.Inspected.{IsReport, AreReports}
 use Rattle.ebpf_inspect.specs.Named.{IsNamedMap, AreMaps, OneRefused, function_slots, report_of}
 use Rattle.ebpf_inspect.specs.declared.maps.NamedMap.{NamedMap}

@@ -2,7 +2,7 @@
 
 ghost use Rattle.std.specs.Prelude.{◌≡◌, ◌++◌, List, IfOk, IfErr, OnOk};
 ghost use Rattle.std.specs.List.{flat_map};
-ghost use Rattle.ebpf_base.specs.Keys.{lent_bytes};
+ghost use Rattle.ebpf_base.specs.Maps.{lent_bytes};
 ghost use Rattle.ebpf_inspect.specs.Named.{AreMaps, OneRefused};
 ghost use Rattle.ebpf_object.specs.Headline.{linkable};
 ghost use Rattle.ebpf_object.specs.LinkedPrograms.{programs_in_order};

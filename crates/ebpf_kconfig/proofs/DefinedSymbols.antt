@@ -2,7 +2,7 @@
 use Rattle.std.proofs.Common.{◌≡◌, ℕ, Bool, true, false, ◌||◌, cond, List, [], ◌∷◌, Option, Some, None, refl, sym, ap, ◌∙◌, ◌+◌, ◌-◌, ◌<◌, ◌≤◌, ◌++◌, length, subst, arith, length-append}
 use Rattle.std.specs.Prelude.{fold, option_map, is_some, replicate, unwrap_or, ◌==◌}
 use Rattle.std.specs.Cmp.{nat_cmp_total, IsTotalOrder}
-use Rattle.std.specs.FinMap.{FinMap, get, entries, insert, get-insert, keys, contains_key, contains_key-keys, nat_cmp-IsAntisymmetric, empty, put, find, entries-insert, get-entries}
+use Rattle.std.specs.FinMap.{FinMap, get, entries, insert, get-insert, contains_key-keys, nat_cmp-IsAntisymmetric, empty, put, find, entries-insert, get-entries}
 use Rattle.std.specs.List.{list_any, AllByRecursion, flat_map}
 use Rattle.std.specs.Map.{keys_of}
 use Rattle.std.specs.Option.{option_and_then, option_to_list}
@@ -14,14 +14,11 @@ use Rattle.std.proofs.lemmas.Bool.{eqb-true}
 use Rattle.std.proofs.lemmas.List.{length-replicate}
 use Rattle.ebpf_base.proofs.Faults.{both_None}
 use Rattle.ebpf_base.proofs.Mapped.{map_values-from_get}
-use Rattle.ebpf_base.proofs.Maps.{entries-empty}
-use Rattle.ebpf_base.proofs.Orderings.{is_equal}
+use Rattle.ebpf_base.proofs.Maps.{entries-empty, is_equal}
 use Rattle.ebpf_base.specs.Faults.{first_some}
-use Rattle.ebpf_base.specs.Keys.{text_cmp, key_cmp, key_total, text_total}
-use Rattle.ebpf_base.specs.Mapped.{map_values}
-use Rattle.ebpf_kconfig.specs.KconfigLayout.{ExternsByName, KconfigValues, alignment_of, bytes_from, extern_end, extern_groups, extern_offset, extern_size, given_fault, group_externs, laid_out, layout_end, layout_key, rounded_up, value_fault, value_or_zeros, values_fault, with_extern}
-use Rattle.ebpf_kconfig.specs.KconfigMaps.{defined_at, defined_symbol, defined_in, with_defined, passes_made, PreparedIsFinished, DataIsValueSized}
-use Rattle.ebpf_kconfig.specs.KconfigTypes.{kconfig_alignment}
+use Rattle.ebpf_base.specs.Maps.{text_cmp, key_cmp, key_total, text_total, map_values}
+use Rattle.ebpf_kconfig.specs.KconfigMaps.{ExternsByName, KconfigValues, alignment_of, bytes_from, extern_end, extern_groups, extern_offset, extern_size, given_fault, group_externs, laid_out, layout_end, layout_key, rounded_up, value_fault, value_or_zeros, values_fault, with_extern, defined_at, defined_symbol, defined_in, with_defined, passes_made, PreparedIsFinished, DataIsValueSized}
+use Rattle.ebpf_kconfig.specs.KconfigExterns.{kconfig_alignment}
 use Rattle.ebpf_kconfig.specs.declared.externs.KconfigExtern.{KconfigExtern}
 use Rattle.ebpf_kconfig.specs.declared.kconfig_type.KconfigType.{KconfigType}
 use Rattle.ebpf_kconfig.specs.declared.kconfig_type.KconfigType.TheVariants as kconfig_types

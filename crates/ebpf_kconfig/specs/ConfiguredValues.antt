@@ -5,8 +5,7 @@ use Rattle.std.specs.Char.{digit_value}
 use Rattle.std.specs.Int.{w64, to_le_bytes, to_be_bytes}
 use Rattle.std.specs.List.{slice_split, starts_with}
 use Rattle.std.specs.Option.{option_and_then}
-use Rattle.ebpf_base.specs.Faults.{first_some}
-use Rattle.ebpf_base.specs.Results.{if_ok}
+use Rattle.ebpf_base.specs.Faults.{first_some, if_ok}
 use Rattle.ebpf_base.specs.declared.endianness.Endianness.{Endianness}
 use Rattle.ebpf_base.specs.declared.endianness.Endianness.TheVariants.{Little, Big}
 use Rattle.ebpf_kconfig.specs.declared.error.KconfigError.{KconfigError}
@@ -14,9 +13,9 @@ use Rattle.ebpf_kconfig.specs.declared.error.KconfigError.TheVariants.{UnsuitedV
 use Rattle.ebpf_kconfig.specs.declared.externs.KconfigExtern.{KconfigExtern}
 use Rattle.ebpf_kconfig.specs.declared.kconfig_type.KconfigType.{KconfigType}
 use Rattle.ebpf_kconfig.specs.declared.kconfig_type.KconfigType.TheVariants as kconfig_types
-use Rattle.ebpf_kconfig.specs.declared.numbers.ValueFault.{ValueFault}
-use Rattle.ebpf_kconfig.specs.declared.numbers.ValueFault.TheVariants as faults
-use Rattle.ebpf_kconfig.specs.declared.numbers.ValueFault.TheVariants.{Unsuited, OutOfRange}
+use Rattle.ebpf_kconfig.specs.declared.settings.ValueFault.{ValueFault}
+use Rattle.ebpf_kconfig.specs.declared.settings.ValueFault.TheVariants as faults
+use Rattle.ebpf_kconfig.specs.declared.settings.ValueFault.TheVariants.{Unsuited, OutOfRange}
 
 -- ---- numbers as text (C's strtoull at base 0, without white space and plus)
 

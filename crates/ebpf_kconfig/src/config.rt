@@ -9,8 +9,7 @@ ghost use Rattle.ebpf_kconfig.specs.KconfigExterns.{is_kconfig_memory};
 
 use crate::error::KconfigError;
 use crate::externs::KconfigExtern;
-use crate::numbers::ValueFault;
-use crate::settings::{loader_value, text_value};
+use crate::settings::{ValueFault, loader_value, text_value};
 use ebpf_base::{Endianness, Items, Text};
 use std::alloc::Global;
 
@@ -28,10 +27,7 @@ fn behind<'a>(prefix: &[u8], bytes: &'a [u8]) -> Option<&'a [u8]>
 fn given_in_line<'a>(name: &[u8], line: &'a [u8]) -> Option<&'a [u8]>
     ensures { option_copied result ≡ given_in_line name.now line.now }
 {
-    match behind(name, line) {
-        Some(rest) => behind(b"=", rest),
-        None => None,
-    }
+    behind(b"=", behind(name, line)?)
 }
 
 /// Where the first line ends.
@@ -57,10 +53,8 @@ fn first_line(text: &[u8]) -> Option<(&[u8], &[u8])>
     ensures less { IfSome result (λ parts. length parts.1.now < length text.now) }
     ensures last { IfNone result ((name : List ℕ) → setting text.now name ≡ given_in_line name text.now) }
 {
-    match line_end(text) {
-        Some(end) => Some((&text[..end], from_index(text, end + 1))),
-        None => None,
-    }
+    let end = line_end(text)?;
+    Some((&text[..end], from_index(text, end + 1)))
 }
 
 /// What the first line that gives the name something gives it.
@@ -81,10 +75,7 @@ fn setting<'a>(config: &'a [u8], name: &[u8]) -> Option<&'a [u8]>
 fn named_fault(name: &Text, fault: ValueFault) -> Result<Items<u8>, KconfigError>
     ensures { Gives is_kconfig_memory result (with_name name.now (Err fault)) }
 {
-    let name = match name.clone() {
-        Ok(name) => name,
-        Err(error) => return Err(error.into()),
-    };
+    let name = name.clone()?;
     match fault {
         ValueFault::Unsuited => Err(KconfigError::UnsuitedValue { name }),
         ValueFault::OutOfRange => Err(KconfigError::ValueOutOfRange { name }),
@@ -138,10 +129,7 @@ pub fn kconfig_value(
         return Ok(None);
     }
     match setting(config, wanted.name.as_str().as_bytes()) {
-        Some(text) => match value_of_text(alloc, order, wanted, text) {
-            Ok(value) => Ok(Some(value)),
-            Err(error) => Err(error),
-        },
+        Some(text) => Ok(Some(value_of_text(alloc, order, wanted, text)?)),
         None => Ok(None),
     }
 }

@@ -2,7 +2,7 @@
 
 ghost use Rattle.std.specs.Prelude.{◌≡◌, ◌<◌, ◌≤◌};
 ghost use Rattle.std.specs.Option.{option_and_then};
-ghost use Rattle.ebpf_kconfig.specs.KconfigTypes.{array_of_char, followed_type, int_of, integer_of, is_bool_int, is_enum64_size, kconfig_alignment, kconfig_size, kconfig_type, scalar_type, tristate_of, value_type};
+ghost use Rattle.ebpf_kconfig.specs.KconfigExterns.{array_of_char, followed_type, int_of, integer_of, is_bool_int, is_enum64_size, kconfig_alignment, kconfig_size, kconfig_type, scalar_type, tristate_of, value_type};
 
 use ebpf_btf::strings::is_text_at;
 use ebpf_btf::{Btf, BtfType};
@@ -110,7 +110,7 @@ fn is_enum64_size(size: u32) -> bool
 }
 
 /// What a type that is no array holds.
-#[tactic(auto, unfolding(crate::specs::KconfigTypes::scalar_type))]
+#[tactic(auto, unfolding(crate::specs::KconfigExterns::scalar_type))]
 fn scalar_type(types: &Btf, ty: &BtfType<'_>) -> Option<KconfigType>
     ensures { result ≡ scalar_type types.now ty.now }
 {
@@ -168,7 +168,7 @@ fn element_type(types: &Btf, type_id: u32) -> Option<KconfigType>
 }
 
 /// What a type holds.
-#[tactic(auto, unfolding(crate::specs::KconfigTypes::value_type))]
+#[tactic(auto, unfolding(crate::specs::KconfigExterns::value_type))]
 fn value_type(types: &Btf, ty: &BtfType<'_>) -> Option<KconfigType>
     ensures { result ≡ value_type types.now ty.now }
 {

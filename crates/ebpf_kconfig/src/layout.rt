@@ -1,18 +1,17 @@
-//! The order of externs in the value of the map, and their offsets.
+//! The order of externs in the value of the map, their offsets and their values.
 
-ghost use Rattle.std.specs.Prelude.{◌≡◌, ◌<◌, ◌≤◌, ◌+◌, ◌^◌, ◌++◌, IfOk, OnOk, None};
-ghost use Rattle.std.specs.FinMap as finite;
+ghost use Rattle.std.specs.Prelude.{◌≡◌, ◌<◌, ◌≤◌, ◌+◌, ◌^◌, ◌++◌, IfOk, OnOk, None, replicate, length};
 ghost use Rattle.std.specs.List.{flat_map};
 ghost use Rattle.std.specs.Option.{option_to_list};
-ghost use Rattle.ebpf_base.specs.Faults.{fault_of};
-ghost use Rattle.ebpf_base.specs.Keyed.{put_all};
-ghost use Rattle.ebpf_base.specs.Keys.{lent_bytes};
-ghost use Rattle.ebpf_kconfig.specs.KconfigLayout.{extern_end, extern_groups, extern_offset, extern_offsets, group_externs, layout_end, layout_key, size_fault_from};
-ghost use Rattle.ebpf_kconfig.specs.KconfigMaps.{lent_externs, with_extern_in};
+ghost use Rattle.ebpf_base.specs.Faults.{fault_of, Refuses, first_some};
+ghost use Rattle.ebpf_base.specs.Maps.{put_all, lent_bytes};
+ghost use Rattle.ebpf_kconfig.specs.KconfigMaps.{extern_end, extern_groups, extern_offset, extern_offsets, group_externs, layout_end, layout_key, size_fault_from, bytes_from, given_fault, value_fault, value_or_zeros, lent_externs, with_extern_in};
+ghost use Rattle.ebpf_kconfig.specs.KconfigExterns.{is_kconfig_memory};
+ghost use Rattle.std.specs.FinMap as finite;
 
 use crate::error::KconfigError;
 use crate::externs::KconfigExtern;
-use ebpf_base::{ByKey, ByName};
+use ebpf_base::{ByKey, ByName, Items};
 use std::alloc::{AllocError, Global};
 
 /// What externs are ordered by before their names: descending alignment, then ascending size.
@@ -161,4 +160,95 @@ pub fn extern_offsets(alloc: Global, externs: &[&KconfigExtern]) -> Result<ByNam
         end = extern_end(end, *wanted);
     }
     Ok(offsets)
+}
+
+/// Whether an extern that has no value may stay without one.
+fn check_without(wanted: &KconfigExtern) -> Result<(), KconfigError>
+    ensures { Refuses is_kconfig_memory result (given_fault wanted.now None) }
+{
+    if wanted.is_weak {
+        return Ok(());
+    }
+    let name = wanted.name.clone()?;
+    Err(KconfigError::NoValue { name })
+}
+
+/// Whether a value has the size of its extern.
+fn check_given(wanted: &KconfigExtern, value: &[u8]) -> Result<(), KconfigError>
+    ensures { Refuses is_kconfig_memory result (given_fault wanted.now (Some value.now)) }
+{
+    let size = wanted.kind.size();
+    if value.len() == size as usize {
+        return Ok(());
+    }
+    Err(KconfigError::WrongSize {
+        name: wanted.name.clone()?,
+        size,
+        length: value.len(),
+    })
+}
+
+/// Whether an extern can have its value.
+fn check_value(values: &ByName<Items<u8>>, wanted: &KconfigExtern) -> Result<(), KconfigError>
+    ensures { Refuses is_kconfig_memory result (value_fault values.now wanted.now) }
+{
+    match values.get(wanted.name.as_str()) {
+        Some(value) => check_given(wanted, value.as_slice()),
+        None => check_without(wanted),
+    }
+}
+
+/// Whether all externs can have their values.
+pub fn check_values(
+    values: &ByName<Items<u8>>,
+    externs: &[KconfigExtern],
+) -> Result<(), KconfigError>
+    ensures { Refuses is_kconfig_memory result (first_some (value_fault values.now) externs.now) }
+{
+    for wanted in externs {
+        check_value(values, wanted)?;
+    }
+    Ok(())
+}
+
+/// Adds so many zeros.
+fn add_zeros(bytes: &mut Items<u8>, count: usize) -> Result<(), AllocError>
+    ensures { OnOk result (bytes.new ≡ bytes.old ++ replicate count 0) }
+{
+    let alloc = *bytes.as_vec().allocator();
+    let zeros = vec![in alloc; 0u8; count]?;
+    bytes.extend_from_slice(zeros.as_slice())
+}
+
+/// Adds the value of an extern, zeros where none is given.
+fn add_value(
+    bytes: &mut Items<u8>,
+    values: &ByName<Items<u8>>,
+    wanted: &KconfigExtern,
+) -> Result<(), AllocError>
+    ensures { OnOk result (bytes.new ≡ bytes.old ++ value_or_zeros values.now wanted.now) }
+{
+    match values.get(wanted.name.as_str()) {
+        Some(value) => bytes.extend_from_slice(value.as_slice()),
+        None => add_zeros(bytes, wanted.kind.size() as usize),
+    }
+}
+
+/// The values of externs in a row, each behind zeros up to its offset.
+pub fn bytes_of(
+    alloc: Global,
+    values: &ByName<Items<u8>>,
+    externs: &[&KconfigExtern],
+) -> Result<Items<u8>, AllocError>
+    requires { size_fault_from 0 (lent_externs externs.now) ≡ None }
+    ensures { IfOk result (λ bytes. bytes ≡ bytes_from values.now 0 (lent_externs externs.now)) }
+{
+    let mut bytes = Items::new(alloc);
+    let mut end = 0;
+    for wanted in externs {
+        add_zeros(&mut bytes, (extern_offset(end, *wanted) - end) as usize)?;
+        add_value(&mut bytes, values, *wanted)?;
+        end = extern_end(end, *wanted);
+    }
+    Ok(bytes)
 }

@@ -8,12 +8,7 @@ mod externs;
 mod kconfig_type;
 pub mod laws;
 mod layout;
-mod numbers;
-mod plan;
-mod rows;
 mod settings;
-mod symbols;
-mod values;
 
 pub use config::{kconfig_number, kconfig_value};
 pub use define::{define_kconfig, kconfig};

@@ -6,26 +6,25 @@ use Rattle.std.proofs.lemmas.List.Elements.{All-drop, All-take}
 use Rattle.std.proofs.lemmas.List.{length-append}
 use Rattle.std.specs.Option.{option_map_or}
 use Rattle.std.proofs.lemmas.Bool.Decides.{nat_tests}
-use Rattle.ebpf_base.specs.Faults.{first_of}
+use Rattle.ebpf_base.specs.Faults.{first_of, if_ok}
 use Rattle.ebpf_base.specs.Numbers.{number_at}
-use Rattle.ebpf_base.specs.Results.{if_ok}
 use Rattle.ebpf_base.specs.declared.endianness.Endianness.{Endianness}
 use Rattle.ebpf_base.specs.declared.endianness.Endianness.TheVariants.{Little, Big}
 use Rattle.ebpf_btf.proofs.Header.{header_again, header_word, length_header, middle}
+use Rattle.ebpf_btf.proofs.Written.{written_type}
 use Rattle.ebpf_btf.proofs.InOrder.{items_none}
 use Rattle.ebpf_btf.proofs.Lengths.{length_here, at_least}
 use Rattle.ebpf_btf.proofs.SameWords.{spelled_same}
-use Rattle.ebpf_btf.proofs.Spelling.{found_spelled}
 use Rattle.ebpf_btf.proofs.WordsBehind.{word_front, word_behind}
-use Rattle.ebpf_btf.proofs.Written.{written_type}
+use Rattle.ebpf_btf.proofs.Spelling.{found_spelled}
 use Rattle.ebpf_btf.specs.Format.{IsTypeAt, entry_at, spelled, vlen_at, word, further_words, info_at, info_kind, info_vlen}
 use Rattle.ebpf_btf.specs.Header.{header_bytes}
+use Rattle.ebpf_btf.specs.Words.{type_length, count_of, flag_of, further_of, word_bytes, words_bytes, words_of}
 use Rattle.ebpf_btf.specs.Items.{items_at}
 use Rattle.ebpf_btf.specs.Offsets.{without_fallback}
 use Rattle.ebpf_btf.specs.Reading.{header_fault, header_length, magic, strings_end, type_info_of, types_end, types_part, types_start}
 use Rattle.ebpf_btf.specs.TypeInfo.{TypeInfo}
 use Rattle.ebpf_btf.specs.Types.{kind_of, kind_number, name_off, size_word, type_word}
-use Rattle.ebpf_btf.specs.Words.{type_length, count_of, flag_of, further_of, word_bytes, words_bytes, words_of}
 use Rattle.ebpf_btf.specs.declared.error.BtfError.{BtfError}
 use Rattle.ebpf_btf.specs.declared.error.BtfError.TheVariants as btf_errors
 use Rattle.ebpf_btf.specs.declared.kind.BtfKind.TheVariants as kinds
@@ -35,21 +34,32 @@ use Rattle.ebpf_btf.specs.declared.types.BtfType.TheVariants.{DataSec, Unknown, 
 use Rattle.ebpf_elf.specs.Headers.{ei_data}
 use Rattle.ebpf_elf.specs.Names.{is_name}
 use Rattle.ebpf_elf.specs.Sections.{SectionOf, data_of, header, sections, data_faults, section_name}
-use Rattle.ebpf_kernel_types.proofs.AllTurns.{words_turn}
-use Rattle.ebpf_kernel_types.proofs.Ready.{AreReady, no_fault, ok_then, same_ok}
-use Rattle.ebpf_kernel_types.proofs.SectionTurns.{position_within}
+use Rattle.ebpf_kernel_types.proofs.SectionTurns.{position_within, words_turn}
+use Rattle.ebpf_kernel_types.proofs.Turns.{AreReady, ArePlaced, Stands, is_placed, of_kind}
+use Rattle.ebpf_kernel_types.proofs.WrittenWords.{AreSmall, items_first, length_words_over}
 use Rattle.ebpf_kernel_types.proofs.Standing.{Tiled, place, type_there, type_kept, from_tiled, like_itself, starts_there, tiled_from, like_place, like_there}
-use Rattle.ebpf_kernel_types.proofs.Turned.{AreSmall, items_first, of_kind, length_words_over}
-use Rattle.ebpf_kernel_types.proofs.Turns.{ArePlaced, Stands, void_alone}
 use Rattle.ebpf_kernel_types.proofs.TypeIds.{before_others}
-use Rattle.ebpf_kernel_types.specs.FunctionLinkages.{linkage_by, linkage_in, linkages_of}
-use Rattle.ebpf_kernel_types.specs.KernelTypeList.{standin_types, KernelTypesAreRead, btf_bytes, sources_in, kernel_type_info, standins_of, type_info_with, types_changes, with_changes, FunctionLinkagesAreStated}
-use Rattle.ebpf_kernel_types.specs.KernelTypes.{all_types, assembled, btf_section, kernel_types_of, no_file_fault, part_of, sources_of, types_of_bytes, types_of_found, types_of_section, types_of_sources, types_or_fault, written_types, all_words, words_over}
-use Rattle.ebpf_kernel_types.specs.KsymsSections.{int_words, standin_bytes, variable_words, all_strings, first_int, is_int_of_4, standins_or_fault, standins_with}
-use Rattle.ebpf_kernel_types.specs.TypeSources.{type_end, type_starts}
-use Rattle.ebpf_kernel_types.specs.declared.appended.Standins.{Standins}
+use Rattle.ebpf_kernel_types.specs.KsymsSections.{linkage_by, linkage_in, linkages_of, int_words, standin_bytes, variable_words, all_strings, first_int, is_int_of_4, standins_or_fault, standins_with}
+use Rattle.ebpf_kernel_types.specs.KernelTypes.{standin_types, KernelTypesAreRead, btf_bytes, sources_in, kernel_type_info, standins_of, type_info_with, types_changes, with_changes, FunctionLinkagesAreStated, all_types, assembled, btf_section, kernel_types_of, no_file_fault, part_of, sources_of, types_of_bytes, types_of_found, types_of_section, types_of_sources, types_or_fault, written_types, all_words, words_over}
+use Rattle.ebpf_kernel_types.specs.TypeSources.{if_no_fault, start_of, type_end, type_starts}
+use Rattle.ebpf_kernel_types.specs.declared.ksyms.Standins.{Standins}
+use Rattle.ebpf_kernel_types.specs.declared.error.KernelTypesError.{KernelTypesError}
 use Rattle.ebpf_kernel_types.specs.declared.error.KernelTypesError.TheVariants.{ElfError, TooLarge}
 use Rattle.ebpf_kernel_types.specs.declared.words.WrittenWord.{WrittenWord}
+
+-- ---- answers without a fault
+
+no_fault : {X : Type 0} (f : Option KernelTypesError) (r : Result X KernelTypesError) (y : X) → if_no_fault f r ≡ Ok y → (f ≡ None) × (r ≡ Ok y)
+no_fault None r y is = (refl, is)
+no_fault (Some e) r y is = cc
+
+ok_then : {A X : Type 0} (r : Result A KernelTypesError) (next : A → Result X KernelTypesError) (y : X) → if_ok r next ≡ Ok y
+    → (x : A) × (r ≡ Ok x) × (next x ≡ Ok y)
+ok_then (Ok x) next y is = (x, refl, is)
+ok_then (Err e) next y is = cc
+
+same_ok : {X : Type 0} (x y : X) → ◌≡◌ {A = Result X KernelTypesError} (Ok x) (Ok y) → x ≡ y
+same_ok x y is = cc
 
 -- ---- fields of types that are read of bytes have 32 bits
 
@@ -342,7 +352,7 @@ module _ (file bytes : List ℕ) (types : TypeInfo) (small : AreBytes bytes) (re
       let o = ei_data file in
       let part = part_of o bytes in
       let changes = types_changes g h.s 0 types.types in
-      let turned = (words_turn g h.s h.first h.ready h.words h.found).0 part h.first (record { tiled = h.tiled; like = like_itself h.s.name_offset h.first }) in
+      let turned = (words_turn g h.s h.first h.ready h.words h.found).turns part h.first (record { tiled = h.tiled; like = like_itself h.s.name_offset h.first }) in
       let after = turned.0 in
       let changed : with_changes types.types changes ≡ Unknown ∷ after = ap (λ ts. with_changes ts changes) h.all ∙ turned.1 in
       record {
@@ -430,47 +440,36 @@ place_front p [] us k t is = cc
 place_front p (v ∷ vs) us zero t is = refl
 place_front p (v ∷ vs) us (suc k) t is = place_front (p + type_length v) vs us k t is
 
-linkage_read : (o : Endianness) (part : List ℕ) (ts : List BtfType) (k : ℕ) (t : BtfType) → Tiled o part 0 ts → slice_get ts k ≡ Some t
-    → linkage_in o part (Unknown ∷ ts) (suc k) ≡ info_vlen (word o part (place 0 ts k + 4))
-linkage_read o part ts k t tiled is = ap (λ p. info_vlen (word o part (p + 4))) (are_placed o part ts tiled k t is)
-
 module _ (file bytes : List ℕ) (types : TypeInfo) (small : AreBytes bytes) (read : type_info_of (ei_data file) bytes ≡ Ok types) where
-  of_function : (handed : List ℕ) (h : IsHanded file bytes types small read handed) (k name proto : ℕ) → slice_get h.first k ≡ Some (Func name proto)
-      → linkage_in (ei_data file) (types_part (ei_data file) handed) (type_info_with (sources_of file bytes types) h.s).types (suc k)
-      ≡ linkage_by (linkages_of (sources_of file bytes types)) (suc k) (linkage_in (ei_data file) (types_part (ei_data file) bytes) types.types (suc k))
-  of_function handed h k name proto is =
+  of_function : (handed : List ℕ) (h : IsHanded file bytes types small read handed) (id name proto : ℕ) → slice_get types.types id ≡ Some (Func name proto)
+      → linkage_in (ei_data file) (types_part (ei_data file) handed) (type_info_with (sources_of file bytes types) h.s).types id
+      ≡ linkage_by (linkages_of (sources_of file bytes types)) id (linkage_in (ei_data file) (types_part (ei_data file) bytes) types.types id)
+  unfolding kind_of kind_number
+  of_function handed h id name proto func =
       let g = sources_of file bytes types in
       let o = ei_data file in
       let part = part_of o bytes in
       let over = words_over o part h.words in
       let all = all_types g h.s h.words in
       let are = are_handed file bytes types small read handed h in
-      let there = like_there h.s.name_offset h.first are.after k (Func name proto) are.stands.like is in
+      let n = is_placed g h.s h.first h.ready id (Func name proto) func (omega arith) in
+      let p = start_of g.starts id in
+      let there = like_there h.s.name_offset h.first are.after n.k (Func name proto) are.stands.like n.here in
       let ts = are.after ++ standin_types types h.s in
-      let here : slice_get ts k ≡ Some there.0 = before_others are.after (standin_types types h.s) k there.0 there.1 in
-      let at : place 0 ts k ≡ place 0 h.first k =
-      place_front 0 are.after (standin_types types h.s) k there.0 there.1 ∙ like_place h.s.name_offset 0 h.first are.after k are.stands.like in
+      let here : slice_get ts n.k ≡ Some there.0 = before_others are.after (standin_types types h.s) n.k there.0 there.1 in
+      let at : start_of (type_starts o all 0 (Unknown ∷ ts)) id ≡ p =
+      ap (start_of (type_starts o all 0 (Unknown ∷ ts))) n.index ∙ are_placed o all ts are.tiled n.k there.0 here
+      ∙ place_front 0 are.after (standin_types types h.s) n.k there.0 there.1 ∙ like_place h.s.name_offset 0 h.first are.after n.k are.stands.like ∙ sym n.at in
       let out = written file bytes types small read handed all (all_strings types h.s) h.made in
       let whole : types_part o handed ≡ all = ap (types_part o) (sym out.2) ∙ part_again o all (all_strings types h.s) out.0 in
-      let inside = h.ready.inside k (Func name proto) is in
+      let inside = h.ready.inside n.k (Func name proto) n.here in
       let enough = at_least (Func name proto) in
       let long = length_words_over o part h.words in
-      let front : word o all (place 0 h.first k + 4) ≡ word o over (place 0 h.first k + 4) =
-      word_front o over (standin_bytes o (length types.strings) h.s) (place 0 h.first k + 4) (omega arith) in
-      let set = (words_turn g h.s h.first h.ready h.words h.found).1 part refl k name proto is in
-      let was : linkage_in o (types_part o bytes) types.types (suc k) ≡ info_vlen (word o part (place 0 h.first k + 4)) =
-      (λ i. linkage_in o (sym h.part i) (h.all i) (suc k)) ∙ linkage_read o part h.first k (Func name proto) h.tiled is in
-      (λ i. linkage_in o (whole i) (sym are.list i) (suc k))
-      ∙ linkage_read o all ts k there.0 are.tiled here
-      ∙ ap (λ p. info_vlen (word o all (p + 4))) at
-      ∙ ap info_vlen front ∙ set ∙ ap (linkage_by (linkages_of g) (suc k)) (sym was)
-
-  by_id : (handed : List ℕ) (h : IsHanded file bytes types small read handed) (id name proto : ℕ) → slice_get (Unknown ∷ h.first) id ≡ Some (Func name proto)
-      → linkage_in (ei_data file) (types_part (ei_data file) handed) (type_info_with (sources_of file bytes types) h.s).types id
-      ≡ linkage_by (linkages_of (sources_of file bytes types)) id (linkage_in (ei_data file) (types_part (ei_data file) bytes) types.types id)
-  unfolding kind_of kind_number
-  by_id handed h zero name proto is = absurd (void_alone (Func name proto) is (omega arith))
-  by_id handed h (suc k) name proto is = of_function handed h k name proto is
+      let front : word o all (p + 4) ≡ word o over (p + 4) = word_front o over (standin_bytes o (length types.strings) h.s) (p + 4) (omega (arith, n.at)) in
+      let set = (words_turn g h.s h.first h.ready h.words h.found).sets part refl id name proto func in
+      (λ i. linkage_in o (whole i) (sym are.list i) id)
+      ∙ ap (λ q. info_vlen (word o all (q + 4))) at
+      ∙ ap info_vlen front ∙ set ∙ ap (λ xs. linkage_by (linkages_of g) id (linkage_in o xs types.types id)) h.part
 
 pub function_linkages_are_stated : FunctionLinkagesAreStated
 unfolding kernel_type_info
@@ -481,9 +480,8 @@ function_linkages_are_stated file handed types small gives read id name proto fu
     let g = sources_in file types in
     let o = ei_data file in
     let h = is_handed file (btf_bytes file) types from.2 read handed made in
-    let here : slice_get (Unknown ∷ h.first) id ≡ Some (Func name proto) = ap (λ ts. slice_get ts id) (sym h.all) ∙ func in
     ap (λ s. linkage_in o (types_part o handed) (type_info_with g s).types id) (sym h.standins)
-    ∙ by_id file (btf_bytes file) types from.2 read handed h id name proto here
+    ∙ of_function file (btf_bytes file) types from.2 read handed h id name proto func
   where
     read_once : (a b : TypeInfo) → ◌≡◌ {A = Result TypeInfo BtfError} (Ok a) (Ok b) → a ≡ b
     read_once a b e = cc

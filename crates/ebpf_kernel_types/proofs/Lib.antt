@@ -1,8 +1,6 @@
-mod AllTurns
-mod SectionTurns
 mod Handed
-mod Ready
-mod Turns
+mod SectionTurns
 mod Standing
-mod Turned
+mod Turns
 mod TypeIds
+mod WrittenWords

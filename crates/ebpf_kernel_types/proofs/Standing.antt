@@ -9,12 +9,12 @@ use Rattle.ebpf_btf.specs.declared.members.BtfParam.{BtfParam}
 use Rattle.ebpf_btf.specs.declared.types.BtfType.{BtfType}
 use Rattle.ebpf_btf.specs.declared.types.BtfType.TheVariants.{FuncProto}
 use Rattle.ebpf_btf.specs.Format.{AreTypesAt, IsTypeAt, end_of, further_words, info_at, info_kind, info_kind_number, info_vlen, word}
-use Rattle.ebpf_btf.specs.Types.{kind_of, kind_number}
 use Rattle.ebpf_btf.specs.Words.{count_of, type_length}
+use Rattle.ebpf_btf.specs.Types.{kind_of, kind_number}
 use Rattle.ebpf_btf.proofs.KindRows.{kinds_by_number}
 use Rattle.ebpf_btf.proofs.Lengths.{length_here}
 use Rattle.ebpf_btf.proofs.SameWords.{spelled_same}
-use Rattle.ebpf_kernel_types.specs.KernelTypeList.{changed_at, named_param}
+use Rattle.ebpf_kernel_types.specs.KernelTypes.{changed_at, named_param}
 use Rattle.ebpf_kernel_types.specs.TypeSources.{type_end, type_starts}
 
 -- ---- types by their lengths

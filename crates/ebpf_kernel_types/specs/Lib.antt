@@ -1,10 +1,6 @@
-pub mod DataSections
-pub mod FunctionLinkages
-pub mod KconfigSections
-pub mod KernelSymbols
-pub mod KernelTypeList
-pub mod KernelTypes
+pub mod SectionWords
 pub mod KsymsSections
 pub mod TypeSources
+pub mod KernelTypes
 
 -- What only private contracts and proofs name.

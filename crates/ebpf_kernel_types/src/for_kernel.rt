@@ -1,24 +1,93 @@
-//! The bytes that the kernel takes.
+//! The words that are written, and the bytes that the kernel takes.
 
-ghost use Rattle.std.specs.Prelude.{◌≡◌, ◌<◌, ◌^◌, length, option_map, IfOk, Ok};
-ghost use Rattle.std.specs.Option.{option_copied};
+ghost use Rattle.std.specs.Prelude.{◌≡◌, ◌<◌, ◌+◌, IfOk, ◌^◌, length, option_map, Ok};
 ghost use Rattle.ebpf_base.specs.Faults.{Gives, Refuses, fault_of};
-ghost use Rattle.ebpf_btf.specs.Header.{first_word, header_bytes};
-ghost use Rattle.ebpf_kernel_types.specs.KernelTypes.{all_types, assembled, btf_section, no_file_fault, kernel_types_of, part_of, types_read, sources_of, types_of_bytes, types_of_found, types_of_section, types_of_sources, written_types, is_kernel_types_memory};
+ghost use Rattle.ebpf_kernel_types.specs.KernelTypes.{is_kernel_types_memory, all_words, section_type_words, type_words_fault, types_words, all_types, assembled, btf_section, no_file_fault, kernel_types_of, part_of, types_read, types_of_bytes, types_of_found, types_of_section, types_of_sources, written_types};
 ghost use Rattle.ebpf_kernel_types.specs.TypeSources.{given_of};
+ghost use Rattle.ebpf_btf.specs.Header.{first_word, header_bytes};
 
-use crate::appended::{Standins, all_strings, append_types, append_words, standins_for};
+use crate::data_sections::data_words;
 use crate::error::KernelTypesError;
-use crate::places::type_starts;
-use crate::plan::all_words;
-use crate::sections::Sources;
-use crate::symbols::symbol_table;
+use crate::kconfig::kconfig_words;
+use crate::ksyms::{Standins, all_strings, append_types, append_words, ksyms_words, standins_for};
+use crate::sections::{Sources, type_starts};
+use crate::symbols::{hidden_words, symbol_table};
 use crate::words::{WrittenWord, write_words};
 use ebpf_base::numbers::read_u32;
 use ebpf_base::{Endianness, Items};
-use ebpf_btf::{Btf, BtfError};
+use ebpf_btf::strings::is_text_at;
+use ebpf_btf::{Btf, BtfError, BtfType, DataSecEntry, Rows};
 use ebpf_elf::{ElfFile, ElfSection};
 use std::alloc::{AllocError, Global};
+
+/// The most entries that a DATASEC of a file has.
+const MOST: usize = 65_535;
+
+/// The words of a type, where it is a DATASEC: by its name.
+#[tactic(auto, unfolding(crate::specs::KernelTypes::section_type_words))]
+fn section_type_words(
+    alloc: Global,
+    sources: &Sources<'_>,
+    standins: Standins,
+    type_id: u32,
+    ty: &BtfType<'_>,
+) -> Result<Items<WrittenWord>, KernelTypesError>
+    ensures { Gives is_kernel_types_memory result (section_type_words (given_of sources.now) standins type_id ty.now) }
+{
+    match ty {
+        BtfType::DataSec {
+            name_offset,
+            size,
+            entries,
+        } => {
+            if entries.len() > MOST {
+                return Err(KernelTypesError::TooLarge);
+            }
+            if is_text_at(sources.types.strings(), *name_offset, ".ksyms") {
+                return ksyms_words(alloc, sources, standins, type_id, entries);
+            }
+            if is_text_at(sources.types.strings(), *name_offset, ".kconfig") {
+                return kconfig_words(alloc, sources, type_id, entries);
+            }
+            data_words(alloc, sources, type_id, *name_offset, *size, entries)
+        }
+        _ => Ok(Items::new(alloc)),
+    }
+}
+
+/// The words of all DATASECs.
+fn types_words(
+    alloc: Global,
+    sources: &Sources<'_>,
+    standins: Standins,
+) -> Result<Items<WrittenWord>, KernelTypesError>
+    ensures words { IfOk result (λ words. words ≡ types_words (given_of sources.now) standins 0 sources.now.types.now.types) }
+    ensures fault { Refuses is_kernel_types_memory result (type_words_fault (given_of sources.now) standins 0 sources.now.types.now.types) }
+{
+    let mut words = Items::new(alloc);
+    let mut id = 0usize;
+    for ty in sources.types.types() {
+        let type_id = id as u32;
+        id += 1;
+        let found = section_type_words(alloc, sources, standins, type_id, &ty)?;
+        words.extend_from_slice(found.as_slice())?;
+    }
+    Ok(words)
+}
+
+/// All words that are written, later ones over earlier ones.
+pub fn all_words(
+    alloc: Global,
+    sources: &Sources<'_>,
+    standins: Standins,
+) -> Result<Items<WrittenWord>, KernelTypesError>
+    ensures { Gives is_kernel_types_memory result (all_words (given_of sources.now) standins) }
+{
+    let mut words = types_words(alloc, sources, standins)?;
+    let others = hidden_words(alloc, sources)?;
+    words.extend_from_slice(others.as_slice())?;
+    Ok(words)
+}
 
 /// The number of bytes of the header.
 const HEADER_LENGTH: u32 = 24;
@@ -119,37 +188,9 @@ fn written_types(
 fn types_of_sources(alloc: Global, sources: &Sources<'_>) -> Result<Items<u8>, KernelTypesError>
     ensures { Gives is_kernel_types_memory result (types_of_sources (given_of sources.now)) }
 {
-    let standins = match standins_for(sources.types) {
-        Ok(found) => found,
-        Err(error) => return Err(error),
-    };
-    match all_words(alloc, sources, standins) {
-        Ok(words) => written_types(alloc, sources, standins, words.as_slice()),
-        Err(error) => Err(error),
-    }
-}
-
-/// What `.BTF` of a file comes to, whose types these are.
-fn types_of_file(
-    alloc: Global,
-    file: &ElfFile<'_>,
-    bytes: &[u8],
-    types: &Btf,
-) -> Result<Items<u8>, KernelTypesError>
-    ensures { Gives is_kernel_types_memory result (types_of_sources (sources_of file.now bytes.now types.now)) }
-{
-    let order = file.endianness();
-    let part = part_of(order, bytes);
-    let starts = type_starts(alloc, order, part, types)?;
-    let sources = Sources {
-        order,
-        part,
-        types,
-        starts: starts.as_slice(),
-        file,
-        table: symbol_table(file),
-    };
-    types_of_sources(alloc, &sources)
+    let standins = standins_for(sources.types)?;
+    let words = all_words(alloc, sources, standins)?;
+    written_types(alloc, sources, standins, words.as_slice())
 }
 
 /// The types of `.BTF`.
@@ -171,11 +212,19 @@ fn types_of_bytes(
 ) -> Result<Items<u8>, KernelTypesError>
     ensures { Gives is_kernel_types_memory result (types_of_bytes file.now bytes.now) }
 {
-    let types = match types_read(alloc, file.endianness(), bytes) {
-        Ok(types) => types,
-        Err(error) => return Err(error),
+    let order = file.endianness();
+    let types = types_read(alloc, order, bytes)?;
+    let part = part_of(order, bytes);
+    let starts = type_starts(alloc, order, part, &types)?;
+    let sources = Sources {
+        order,
+        part,
+        types: &types,
+        starts: starts.as_slice(),
+        file,
+        table: symbol_table(file),
     };
-    types_of_file(alloc, file, bytes, &types)
+    types_of_sources(alloc, &sources)
 }
 
 /// What the section `.BTF` of a file comes to.
@@ -204,35 +253,13 @@ fn parsed(file: &[u8]) -> Result<ElfFile<'_>, KernelTypesError>
     }
 }
 
-/// The first section `.BTF`.
+/// What `.BTF` of a file comes to; None without one.
 #[tactic(auto, unfolding(crate::specs::KernelTypes::btf_section))]
-fn btf_section<'a>(file: &ElfFile<'a>) -> Option<ElfSection<'a>>
-    ensures { result ≡ btf_section file.now }
-{
-    file.section_by_name(".BTF")
-}
-
-/// What a file's `.BTF` comes to; None without one.
 fn types_of_parsed(alloc: Global, file: &ElfFile<'_>) -> Result<Option<Items<u8>>, KernelTypesError>
     ensures { Gives is_kernel_types_memory result (types_of_found file.now (btf_section file.now)) }
 {
-    let section = btf_section(file);
-    types_of_found(alloc, file, section.as_ref())
-}
-
-/// What a section `.BTF` of a file comes to, where there is one.
-fn types_of_found(
-    alloc: Global,
-    file: &ElfFile<'_>,
-    section: Option<&ElfSection<'_>>,
-) -> Result<Option<Items<u8>>, KernelTypesError>
-    ensures { Gives is_kernel_types_memory result (types_of_found file.now (option_copied section.entry)) }
-{
-    match section {
-        Some(section) => match types_of_section(alloc, file, section) {
-            Ok(types) => Ok(Some(types)),
-            Err(error) => Err(error),
-        },
+    match file.section_by_name(".BTF") {
+        Some(section) => Ok(Some(types_of_section(alloc, file, &section)?)),
         None => Ok(None),
     }
 }
@@ -242,10 +269,7 @@ fn types_of_found(
 fn types_in(alloc: Global, file: &[u8]) -> Result<Option<Items<u8>>, KernelTypesError>
     ensures { Gives is_kernel_types_memory result (kernel_types_of file.now) }
 {
-    match parsed(file) {
-        Ok(file) => types_of_parsed(alloc, &file),
-        Err(error) => Err(error),
-    }
+    types_of_parsed(alloc, &parsed(file)?)
 }
 
 /// The types of an object as the kernel takes them (`BPF_BTF_LOAD`), of the bytes of an ELF64 file; None where it has no
@@ -281,9 +305,8 @@ pub fn kernel_types(alloc: Global, file: &[u8]) -> Result<Option<Vec<u8>>, Kerne
     ensures types { IfOk result (λ types. kernel_types_of file.now ≡ Ok (option_map (λ bytes. bytes.items) types)) }
     ensures fault { Refuses is_kernel_types_memory result (fault_of (kernel_types_of file.now)) }
 {
-    match types_in(alloc, file) {
-        Ok(Some(types)) => Ok(Some(types.into_vec())),
-        Ok(None) => Ok(None),
-        Err(error) => Err(error),
+    match types_in(alloc, file)? {
+        Some(types) => Ok(Some(types.into_vec())),
+        None => Ok(None),
     }
 }

@@ -1,20 +1,221 @@
-//! The DATASEC of the kernel's symbols.
+//! The DATASEC of the kernel's symbols, and what stands in for the kernel's functions and variables.
 
-ghost use Rattle.std.specs.Prelude.{◌≡◌, ◌+◌, ◌*◌, ◌<◌, ◌^◌, length, IfOk};
+ghost use Rattle.std.specs.Prelude.{◌≡◌, ◌++◌, ◌==◌, ◌<◌, ◌^◌, IfOk, OnOk, length, ◌+◌, ◌*◌};
+ghost use Rattle.std.specs.List.{list_any, flat_map};
+ghost use Rattle.ebpf_btf.specs.Words.{word_bytes};
+ghost use Rattle.ebpf_kernel_types.specs.KsymsSections.{all_strings, first_int, is_func, is_int_of_4, names_func, standin_bytes, standins_or_fault, takes_functions, takes_variables, extern_function_words, extern_variable_words, extern_words, ksyms_fault, externs_words, ksyms_rows, ksyms_words, params_or_fault, params_words, proto_words, standing_type};
 ghost use Rattle.ebpf_base.specs.Faults.{Gives, Refuses};
 ghost use Rattle.ebpf_kernel_types.specs.KernelTypes.{is_kernel_types_memory};
-ghost use Rattle.ebpf_kernel_types.specs.KsymsSections.{extern_function_words, extern_variable_words, extern_words, ksyms_fault, externs_words, ksyms_rows, ksyms_words, own_ksyms_words, params_or_fault, params_words, proto_words, standing_type};
 ghost use Rattle.ebpf_kernel_types.specs.TypeSources.{given_of};
 
-use crate::appended::{Standins, is_func};
 use crate::error::KernelTypesError;
-use crate::places::start_of;
-use crate::sections::{Sources, place_in};
-use crate::sorted::section_words;
-use crate::words::WrittenWord;
-use ebpf_base::Items;
+use crate::sections::{Sources, place_in, start_of};
+use crate::words::{WrittenWord, section_words};
+use ebpf_base::{Endianness, Items};
+use ebpf_btf::strings::is_text_at;
 use ebpf_btf::{Btf, BtfParam, BtfType, DataSecEntry, Rows};
 use std::alloc::{AllocError, Global};
+
+/// The types that stand in for what `.ksyms` names.
+#[derive(Clone, Copy)]
+pub struct Standins {
+    /// The id of an INT of 4 bytes.
+    pub int_id: u32,
+    /// Whether it is appended.
+    pub adds_int: bool,
+    /// The id of the variable that stands in for functions.
+    pub variable_id: u32,
+    /// The offset of its name.
+    pub name_offset: u32,
+    /// Whether it is appended.
+    pub adds_variable: bool,
+}
+
+/// Whether a type is an INT of 4 bytes.
+#[tactic(auto, unfolding(crate::specs::KsymsSections::is_int_of_4))]
+fn is_int_of_4(ty: &BtfType<'_>) -> bool
+    ensures { result ≡ is_int_of_4 ty.now }
+{
+    match ty {
+        BtfType::Int { size, .. } => *size == 4,
+        _ => false,
+    }
+}
+
+/// The id of the first INT of 4 bytes.
+fn first_int(types: &Btf) -> Option<u32>
+    ensures { result ≡ first_int types.now }
+{
+    for id in 0..types.len() {
+        if is_int_of_4(&types.at(id)) {
+            return Some(id as u32);
+        }
+    }
+    None
+}
+
+/// Whether the type with an id is a FUNC.
+#[tactic(auto, unfolding(crate::specs::KsymsSections::is_func))]
+pub fn is_func(types: &Btf, type_id: u32) -> bool
+    ensures { result ≡ is_func types.now type_id }
+{
+    match types.type_by_id(type_id) {
+        Ok(BtfType::Func { .. }) => true,
+        _ => false,
+    }
+}
+
+/// Whether some entry names a FUNC.
+fn names_func(types: &Btf, rows: &Rows<'_, DataSecEntry>) -> bool
+    ensures { result ≡ names_func types.now rows.now }
+{
+    for row in rows.iter() {
+        if is_func(types, row.btf_type) {
+            return true;
+        }
+    }
+    false
+}
+
+/// Whether a type is a DATASEC `.ksyms` with entries.
+#[tactic(auto, unfolding(crate::specs::KsymsSections::takes_variables))]
+fn takes_variables(types: &Btf, ty: &BtfType<'_>) -> bool
+    ensures { result ≡ takes_variables types.now ty.now }
+{
+    match ty {
+        BtfType::DataSec {
+            name_offset,
+            entries,
+            ..
+        } => is_text_at(types.strings(), *name_offset, ".ksyms") && !entries.is_empty(),
+        _ => false,
+    }
+}
+
+/// Whether a type is a DATASEC `.ksyms` that names a FUNC.
+#[tactic(auto, unfolding(crate::specs::KsymsSections::takes_functions))]
+fn takes_functions(types: &Btf, ty: &BtfType<'_>) -> bool
+    ensures { result ≡ takes_functions types.now ty.now }
+{
+    match ty {
+        BtfType::DataSec {
+            name_offset,
+            entries,
+            ..
+        } => is_text_at(types.strings(), *name_offset, ".ksyms") && names_func(types, entries),
+        _ => false,
+    }
+}
+
+/// Whether some DATASEC `.ksyms` has entries.
+fn any_variables(types: &Btf) -> bool
+    ensures { result ≡ list_any (takes_variables types.now) types.now.types }
+{
+    for ty in types.types() {
+        if takes_variables(types, &ty) {
+            return true;
+        }
+    }
+    false
+}
+
+/// Whether some DATASEC `.ksyms` names a FUNC.
+fn any_functions(types: &Btf) -> bool
+    ensures { result ≡ list_any (takes_functions types.now) types.now.types }
+{
+    for ty in types.types() {
+        if takes_functions(types, &ty) {
+            return true;
+        }
+    }
+    false
+}
+
+/// The types that stand in. `TooLarge` where an id or an offset passes 32 bits.
+pub fn standins_for(types: &Btf) -> Result<Standins, KernelTypesError>
+    ensures standins { result ≡ standins_or_fault types.now }
+    ensures small { IfOk result (λ _. length types.now.strings < 2 ^ 32) }
+{
+    let count = types.len();
+    let strings = types.string_len();
+    if count > 0xffff_fff0 || strings > 0xffff_ff00 {
+        return Err(KernelTypesError::TooLarge);
+    }
+    let adds_variable = any_functions(types);
+    match first_int(types) {
+        Some(int_id) => Ok(Standins {
+            int_id,
+            adds_int: false,
+            variable_id: count as u32,
+            name_offset: strings as u32,
+            adds_variable,
+        }),
+        None => {
+            let adds_int = any_variables(types);
+            Ok(Standins {
+                int_id: count as u32,
+                adds_int,
+                variable_id: count as u32 + 1,
+                name_offset: strings as u32 + 4,
+                adds_variable,
+            })
+        }
+    }
+}
+
+/// Appends the four bytes of a word.
+#[tactic(auto, unfolding(ebpf_btf::specs::Words::word_bytes))]
+fn append_word(order: Endianness, out: &mut Vec<u8>, word: u32) -> Result<(), AllocError>
+    ensures { OnOk result (out.new.items ≡ out.old.items ++ word_bytes order word) }
+{
+    match order {
+        Endianness::Little => out.extend_from_slice(&word.to_le_bytes()),
+        Endianness::Big => out.extend_from_slice(&word.to_be_bytes()),
+    }
+}
+
+/// Appends the bytes of words.
+pub fn append_words(order: Endianness, out: &mut Vec<u8>, words: &[u32]) -> Result<(), AllocError>
+    ensures { OnOk result (out.new.items ≡ out.old.items ++ flat_map (word_bytes order) words.now) }
+{
+    for word in words {
+        append_word(order, out, *word)?;
+    }
+    Ok(())
+}
+
+/// Appends the types that stand in: the INT, whose name is at an offset, and the variable.
+pub fn append_types(
+    order: Endianness,
+    int_name: u32,
+    standins: Standins,
+    part: &mut Vec<u8>,
+) -> Result<(), AllocError>
+    ensures { OnOk result (part.new.items ≡ part.old.items ++ standin_bytes order int_name standins) }
+{
+    if standins.adds_int {
+        append_words(order, part, &[int_name, 0x0100_0000, 4, 0x0100_0020])?;
+    }
+    if standins.adds_variable {
+        let name = standins.name_offset;
+        append_words(order, part, &[name, 0x0e00_0000, standins.int_id, 1])?;
+    }
+    Ok(())
+}
+
+/// The strings, and the names of the types that stand in.
+pub fn all_strings(alloc: Global, types: &Btf, standins: Standins) -> Result<Vec<u8>, AllocError>
+    ensures { IfOk result (λ strings. strings.items ≡ all_strings types.now standins) }
+{
+    let mut strings = Vec::from_slice(alloc, types.strings())?;
+    if standins.adds_int {
+        strings.extend_from_slice("int\0".as_bytes())?;
+    }
+    if standins.adds_variable {
+        strings.extend_from_slice("ksym_func_placeholder\0".as_bytes())?;
+    }
+    Ok(strings)
+}
 
 /// The number of bytes of each entry.
 const SIZE: u32 = 4;
@@ -70,10 +271,7 @@ fn params_or_fault(
                 return Err(KernelTypesError::TooLarge);
             }
             let start = place_in(sources, proto, 12);
-            match params_words(alloc, name_offset, start, params) {
-                Ok(words) => Ok(words),
-                Err(error) => Err(error.into()),
-            }
+            Ok(params_words(alloc, name_offset, start, params)?)
         }
         _ => Ok(Items::new(alloc)),
     }
@@ -109,13 +307,9 @@ fn function_words(
         offset: place_in(sources, type_id, 4),
         value: GLOBAL_FUNC,
     })?;
-    match proto_words(alloc, sources, name_offset, proto) {
-        Ok(others) => {
-            words.extend_from_slice(others.as_slice())?;
-            Ok(words)
-        }
-        Err(error) => Err(error),
-    }
+    let others = proto_words(alloc, sources, name_offset, proto)?;
+    words.extend_from_slice(others.as_slice())?;
+    Ok(words)
 }
 
 /// The words of a VAR.
@@ -153,12 +347,7 @@ fn extern_words(
         Ok(BtfType::Func { btf_type, .. }) => {
             function_words(alloc, sources, standins.name_offset, type_id, btf_type)
         }
-        Ok(BtfType::Var { .. }) => {
-            match variable_words(alloc, sources, standins.int_id, type_id) {
-                Ok(words) => Ok(words),
-                Err(error) => Err(error.into()),
-            }
-        }
+        Ok(BtfType::Var { .. }) => { Ok(variable_words(alloc, sources, standins.int_id, type_id)?) }
         _ => Err(KernelTypesError::NotAVariable { type_id }),
     }
 }
@@ -175,10 +364,8 @@ fn externs_words(
 {
     let mut words = Items::new(alloc);
     for row in rows.iter() {
-        match extern_words(alloc, sources, standins, row.btf_type) {
-            Ok(found) => words.extend_from_slice(found.as_slice())?,
-            Err(error) => return Err(error),
-        }
+        let found = extern_words(alloc, sources, standins, row.btf_type)?;
+        words.extend_from_slice(found.as_slice())?;
     }
     Ok(words)
 }
@@ -217,22 +404,6 @@ fn ksyms_rows(
     Ok(all)
 }
 
-/// The words of the section itself.
-fn own_words(
-    alloc: Global,
-    sources: &Sources<'_>,
-    standins: Standins,
-    type_id: u32,
-    rows: &Rows<'_, DataSecEntry>,
-) -> Result<Items<WrittenWord>, AllocError>
-    requires { length rows.now < 2 ^ 16 }
-    ensures { IfOk result (λ words. words ≡ own_ksyms_words (given_of sources.now) standins type_id rows.now) }
-{
-    let placed = ksyms_rows(alloc, sources.types, standins, rows)?;
-    let size = rows.len() as u32 * SIZE;
-    section_words(alloc, start_of(sources.starts, type_id), size, &placed)
-}
-
 /// The words of a DATASEC of the kernel's symbols.
 pub fn ksyms_words(
     alloc: Global,
@@ -244,12 +415,10 @@ pub fn ksyms_words(
     requires { length rows.now < 2 ^ 16 }
     ensures { Gives is_kernel_types_memory result (ksyms_words (given_of sources.now) standins type_id rows.now) }
 {
-    match externs_words(alloc, sources, standins, rows) {
-        Ok(others) => {
-            let mut words = own_words(alloc, sources, standins, type_id, rows)?;
-            words.extend_from_slice(others.as_slice())?;
-            Ok(words)
-        }
-        Err(error) => Err(error),
-    }
+    let others = externs_words(alloc, sources, standins, rows)?;
+    let placed = ksyms_rows(alloc, sources.types, standins, rows)?;
+    let size = rows.len() as u32 * SIZE;
+    let mut words = section_words(alloc, start_of(sources.starts, type_id), size, &placed)?;
+    words.extend_from_slice(others.as_slice())?;
+    Ok(words)
 }

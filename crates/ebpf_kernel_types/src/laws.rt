@@ -1,6 +1,6 @@
 //! What holds of the bytes that the kernel is handed.
 
-ghost use Rattle.ebpf_kernel_types.specs.KernelTypeList.{FunctionLinkagesAreStated, KernelTypesAreRead, OtherTypesStay, StandinsAreLast, TypesKeepIds};
+ghost use Rattle.ebpf_kernel_types.specs.KernelTypes.{FunctionLinkagesAreStated, KernelTypesAreRead, OtherTypesStay, StandinsAreLast, TypesKeepIds};
 
 /// What `kernel_types` gives is read by `Btf::parse` as the types of the file's `.BTF`, with what becomes of them and the
 /// types that stand in behind them, and as its strings with their names behind them. The linkages of FUNCs, which no type

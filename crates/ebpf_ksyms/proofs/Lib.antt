@@ -1,7 +1,5 @@
-pub mod Cuts
+pub mod Reading
 pub mod Outcomes
 pub mod FromText
-pub mod Listed
-pub mod Pieces
-pub mod Reading
 pub mod Resolving
+pub mod Pieces

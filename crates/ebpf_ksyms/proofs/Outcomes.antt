@@ -11,22 +11,21 @@ use Rattle.std.specs.Str.{bytes_eq}
 use Rattle.std.proofs.lemmas.Bool.{or_right}
 use Rattle.ebpf_base.specs.Faults.{or_else, fault_of, first_some}
 use Rattle.ebpf_btf.specs.EssentialNames.{essential_name, flavor_mark}
-use Rattle.ebpf_btf.specs.Steps.{type_at}
 use Rattle.ebpf_btf.specs.Strings.{is_named, is_text, type_name}
+use Rattle.ebpf_btf.specs.Steps.{type_at}
 use Rattle.ebpf_btf.specs.TypeInfo.{TypeInfo}
 use Rattle.ebpf_btf.specs.Types.{is_kind, kind_number, kind_of, name_off}
 use Rattle.ebpf_btf.specs.declared.error.BtfError.{BtfError}
 use Rattle.ebpf_btf.specs.declared.kind.BtfKind.{BtfKind}
-use Rattle.ebpf_btf.specs.declared.kind.BtfKind.TheVariants as kinds
 use Rattle.ebpf_btf.specs.declared.types.BtfType.{BtfType}
 use Rattle.ebpf_btf.specs.declared.types.BtfType.TheVariants.{Func, Var}
 use Rattle.ebpf_ksyms.specs.Addresses.{is_one_of}
-use Rattle.ebpf_ksyms.specs.Externs.{NamedExtern, kernel_ids_of, is_typed, outcome_by, renewed, with_outcome}
-use Rattle.ebpf_ksyms.specs.KernelOutcomes.{at_found, at_lookup_key, at_type, kernel_ids_in, lookup_key_of, LookupKeyValue}
+use Rattle.ebpf_ksyms.specs.Externs.{NamedExtern, kernel_ids_of, is_typed, outcome_by, renewed, with_outcome, at_found, at_lookup_key, at_type, kernel_ids_in, lookup_key_of, LookupKeyValue}
 use Rattle.ebpf_ksyms.specs.PrivateContracts.{finished, sort_of, with_sort, with_type_ids, sort_of_kind, with_head_ids, id_at, id_of, ids_in, only_at, lookup_name, lookup_names, typed_as, typed_refused}
 use Rattle.ebpf_ksyms.specs.declared.ids.Ids.{Ids}
-use Rattle.ebpf_ksyms.specs.declared.lookup_key.Sort.{Sort}
-use Rattle.ebpf_ksyms.specs.declared.lookup_key.Sort.TheVariants.{Function, Variable}
+use Rattle.ebpf_ksyms.specs.declared.ids.Sort.{Sort}
+use Rattle.ebpf_ksyms.specs.declared.ids.Sort.TheVariants.{Function, Variable}
+use Rattle.ebpf_btf.specs.declared.kind.BtfKind.TheVariants as kinds
 
 -- ---- the name before the first three underscores, by where a search finds them
 

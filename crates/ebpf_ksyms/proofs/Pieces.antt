@@ -16,9 +16,8 @@ use Rattle.ebpf_base.proofs.Faults.{both_None}
 use Rattle.ebpf_btf.specs.TypeInfo.{TypeInfo}
 use Rattle.ebpf_ksyms.specs.declared.error.KsymsError.{KsymsError}
 use Rattle.ebpf_ksyms.specs.declared.error.KsymsError.TheVariants.{KallsymsAccessError, OutOfMemory}
-use Rattle.ebpf_ksyms.specs.Addresses.{Item, Line, line_fault, line_of_item, lines_fault, with_before, Counts, is_one_of}
+use Rattle.ebpf_ksyms.specs.Addresses.{Item, Line, line_fault, line_of_item, lines_fault, with_before, Counts, is_one_of, is_ksyms_memory, is_memory_kind, line_read_fault}
 use Rattle.ebpf_ksyms.specs.Externs.{Externs, IsResolutionFault, IsResolved, lines_refused, names_read, names_refused, reads_lines, resolved_externs, types_refused}
-use Rattle.ebpf_ksyms.specs.Faults.{is_ksyms_memory, is_memory_kind, line_read_fault}
 use Rattle.ebpf_ksyms.specs.Sources.{AreFirst, AreTexts, CameAll, CameFirst, CountsLines, IsRefusedIn, IsResolvedIn, StopsAtAccessIn, after_lines, read_lines}
 use Rattle.ebpf_ksyms.proofs.Reading.{lines_fault-push, match_then}
 

@@ -1,17 +1,43 @@
--- The lines in which a kernel tells its symbols, and the addresses that they give names.
-use Rattle.std.specs.Prelude.{ℕ, ◌^◌, Bool, ◌&&◌, List, [], ◌∷◌, length, filter, nat_lt, Option, Some, None, if◌then◌else◌, ◌≡◌, true, false, ◌++◌, Result, Ok, Err, ◌==◌, slice_get, string_bytes}
-use Rattle.std.specs.List.{slice_split, list_all, list_any, filter_map}
+-- Refusals of the layers below, the lines in which a kernel tells its symbols, and the addresses that they give names.
 use Rattle.std.specs.Char.{digit_value, is_ascii_whitespace}
-use Rattle.std.specs.Str.Parse.{digits_value, without_leading_plus}
+use Rattle.std.specs.IoError.{error_kind}
 use Rattle.std.specs.Iterator.{Drains}
+use Rattle.std.specs.List.{slice_split, list_all, list_any, filter_map}
+use Rattle.std.specs.Prelude.{Bool, true, false, if◌then◌else◌, ℕ, ◌^◌, ◌&&◌, List, [], ◌∷◌, length, filter, nat_lt, Option, Some, None, ◌≡◌, ◌++◌, Result, Ok, Err, ◌==◌, slice_get, string_bytes}
 use Rattle.std.specs.Str.{bytes_eq}
+use Rattle.std.specs.Str.Parse.{digits_value, without_leading_plus}
 use Rattle.std.specs.declared.alloc.Global.{Global}
 use Rattle.std.specs.declared.io.Error.{Error}
+use Rattle.std.specs.declared.io.ErrorKind.{ErrorKind}
+use Rattle.std.specs.declared.io.ErrorKind.TheVariants as kinds
 use Rattle.std.specs.declared.string.String.{String}
 use Rattle.ebpf_base.specs.Faults.{first_some}
-use Rattle.ebpf_ksyms.specs.Faults.{line_read_fault}
+use Rattle.ebpf_btf.specs.declared.error.BtfError.{BtfError}
+use Rattle.ebpf_btf.specs.declared.error.BtfError.TheVariants as types
 use Rattle.ebpf_ksyms.specs.declared.error.KsymsError.{KsymsError}
-use Rattle.ebpf_ksyms.specs.declared.error.KsymsError.TheVariants.{AmbiguousResolution, KallsymsParseError}
+use Rattle.ebpf_ksyms.specs.declared.error.KsymsError.TheVariants.{BtfError as BtfFault, KallsymsAccessError, OutOfMemory, AmbiguousResolution, KallsymsParseError}
+
+-- ---- refusals of the layers below, as refusals of resolution
+
+-- the one answer that no definition states: want of memory
+abbrev pub is_ksyms_memory : KsymsError → Bool
+is_ksyms_memory OutOfMemory = true
+is_ksyms_memory _ = false
+
+-- the refusal for a fault of types
+abbrev pub of_type_fault : BtfError → KsymsError
+of_type_fault types.OutOfMemory = OutOfMemory
+of_type_fault e = BtfFault e
+
+abbrev pub is_memory_kind : ErrorKind → Bool
+is_memory_kind kinds.OutOfMemory = true
+is_memory_kind _ = false
+
+-- the refusal for a line that could not be read
+abbrev pub line_read_fault : Error → KsymsError
+line_read_fault e = if is_memory_kind (error_kind e) then OutOfMemory else KallsymsAccessError e
+
+-- ---- the lines in which a kernel tells its symbols, and the addresses that they give names
 
 -- The lines in which a kernel tells its symbols: each an address in hexadecimal digits, a letter for the kind, a name,
 -- and more (proc(5), "/proc/kallsyms"; the kernel's kernel/kallsyms.c, s_show).

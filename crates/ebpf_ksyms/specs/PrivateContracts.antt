@@ -7,24 +7,22 @@ use Rattle.std.specs.BTreeMap.{get_by}
 use Rattle.std.specs.Iterator.{Yields}
 use Rattle.std.specs.Result.{result_ok}
 use Rattle.ebpf_base.specs.Faults.{or_else, fault_of}
-use Rattle.ebpf_base.specs.Keyed.{put_all}
-use Rattle.ebpf_base.specs.Keys.{text_cmp}
+use Rattle.ebpf_base.specs.Maps.{put_all, text_cmp}
 use Rattle.ebpf_btf.specs.Steps.{type_at}
 use Rattle.ebpf_btf.specs.Strings.{is_named, is_text, id_of_name, type_name, text_at}
 use Rattle.ebpf_btf.specs.TypeInfo.{TypeInfo}
 use Rattle.ebpf_btf.specs.declared.kind.BtfKind.{BtfKind}
-use Rattle.ebpf_btf.specs.declared.kind.BtfKind.TheVariants as kinds
 use Rattle.ebpf_btf.specs.declared.types.BtfType.{BtfType}
 use Rattle.ebpf_btf.specs.declared.types.BtfType.TheVariants.{Func, Var}
 use Rattle.ebpf_ksyms.specs.Addresses.{is_one_of, Item, Line, address_of, line_of_item, lines_fault, address_if_named, stated_fault, Counts, address_and_name, stated_address}
-use Rattle.ebpf_ksyms.specs.Externs.{NamedExtern, Externs, is_typeless, left_without, with_address, is_typed, outcome_by, with_outcome}
-use Rattle.ebpf_ksyms.specs.KernelOutcomes.{KernelIds, lookup_key_of}
+use Rattle.ebpf_ksyms.specs.Externs.{NamedExtern, Externs, is_typeless, left_without, with_address, is_typed, outcome_by, with_outcome, KernelIds, lookup_key_of}
 use Rattle.ebpf_ksyms.specs.declared.error.KsymsError.{KsymsError}
 use Rattle.ebpf_ksyms.specs.declared.ids.Ids.{Ids}
-use Rattle.ebpf_ksyms.specs.declared.lookup_key.Sort.{Sort}
-use Rattle.ebpf_ksyms.specs.declared.lookup_key.Sort.TheVariants.{Function, Variable}
+use Rattle.ebpf_ksyms.specs.declared.ids.Sort.{Sort}
+use Rattle.ebpf_ksyms.specs.declared.ids.Sort.TheVariants.{Function, Variable}
 use Rattle.ebpf_ksyms.specs.declared.named.Named.{Named}
-use Rattle.ebpf_model.specs.declared.extern_desc.ExternDesc.{ExternDesc}
+use Rattle.ebpf_model.specs.declared.symbol.ExternDesc.{ExternDesc}
+use Rattle.ebpf_btf.specs.declared.kind.BtfKind.TheVariants as kinds
 
 -- ---- externs as a list and as a map
 

@@ -9,9 +9,8 @@ use Rattle.std.specs.Str.Lines.{lines}
 use Rattle.std.specs.declared.io.ErrorKind.TheVariants.{InvalidData}
 use Rattle.ebpf_base.specs.Faults.{or_else}
 use Rattle.ebpf_btf.specs.TypeInfo.{TypeInfo}
-use Rattle.ebpf_ksyms.specs.Addresses.{Line, Item}
+use Rattle.ebpf_ksyms.specs.Addresses.{Line, Item, is_memory_kind}
 use Rattle.ebpf_ksyms.specs.Externs.{Externs, lines_refused, names_refused, reads_lines, resolved_externs, types_refused}
-use Rattle.ebpf_ksyms.specs.Faults.{is_memory_kind}
 use Rattle.ebpf_ksyms.specs.declared.error.KsymsError.{KsymsError}
 use Rattle.ebpf_ksyms.specs.declared.error.KsymsError.TheVariants.{KallsymsAccessError}
 

@@ -1,7 +1,7 @@
 //! Why an object's externs could not be resolved.
 
 ghost use Rattle.std.specs.Prelude.{◌≡◌};
-ghost use Rattle.ebpf_ksyms.specs.Faults.{of_type_fault};
+ghost use Rattle.ebpf_ksyms.specs.Addresses.{of_type_fault};
 ghost use Rattle.ebpf_ksyms.specs.declared.error.KsymsError.TheVariants.{OutOfMemory};
 
 use ebpf_base::Text;

@@ -12,9 +12,8 @@ use Rattle.std.specs.FinMap.Entries.{by_order}
 use Rattle.std.specs.List.{AllByRecursion, find, flat_map}
 use Rattle.std.specs.Map.{keys_of}
 use Rattle.std.specs.Ordering.{eq_by_cmp}
-use Rattle.ebpf_base.proofs.Maps.{entries-empty}
-use Rattle.ebpf_base.proofs.Sorted.{entries_rise}
-use Rattle.ebpf_base.specs.Keyed.{put_all}
+use Rattle.ebpf_base.proofs.Maps.{entries-empty, entries_rise}
+use Rattle.ebpf_base.specs.Maps.{put_all}
 use Rattle.ebpf_limits.specs.OwnedBytes.{total, name_bytes}
 use Rattle.ebpf_parsing.proofs.InOrder.{begin_in_order, part_among}
 use Rattle.ebpf_parsing.specs.Records.{RowsBeginAt, is_among_slots}

@@ -1,11 +1,7 @@
 pub mod Counts
-pub mod OwnedRecords
-pub mod OwnedTables
-pub mod OwnedParts
-pub mod OwnedFunctions
-pub mod OwnedPrograms
-pub mod OwnedMaps
-pub mod OwnedExterns
 pub mod OwnedTypes
+pub mod OwnedTables
+pub mod OwnedFunctions
+pub mod OwnedMaps
 pub mod OwnedRelocations
 pub mod OwnedObjects

@@ -1,4 +1,4 @@
--- The bytes of a function's code and records, no more than what is counted for its symbol.
+-- The functions and the programs of a file, by its symbols.
 use Rattle.std.proofs.Common.{◌≡◌, ℕ, ◌+◌, ◌-◌, ◌*◌, ◌/◌, ◌%◌, ◌^◌, ◌<◌, ◌≤◌, Bool, true, false, List, [], filter, length, Option, Some, refl, arith, zero, suc, cond, ◌∷◌, map, None, sym, ap, subst, ◌∙◌, eqb-true}
 use Rattle.std.specs.Prelude.{slice_range, ◌==◌, if◌then◌else◌, unwrap_or, nat_lt}
 use Rattle.std.proofs.lemmas.List.{length-take, length-drop, length-map}
@@ -8,31 +8,38 @@ use Rattle.std.specs.List.{AllByRecursion}
 use Rattle.std.proofs.lemmas.Bool.Decides.{nat_tests}
 use Rattle.std.proofs.lemmas.Bool.{and_parts}
 use Rattle.ebpf_base.proofs.Maps.{key_exact}
-use Rattle.ebpf_base.specs.Keys.{key_total}
+use Rattle.ebpf_base.specs.Maps.{key_total, text_total}
 use Rattle.ebpf_elf.specs.Headers.{range_of}
 use Rattle.ebpf_elf.specs.Sections.{SectionOf, header, data_of, sections}
 use Rattle.ebpf_elf.specs.Symbols.{SymbolOf, entry, symbols, symbol_name, symbol_kind, symbol_section_index}
 use Rattle.ebpf_elf.specs.declared.constants.TheConstants.{SHT_NOBITS}
 use Rattle.ebpf_elf.specs.declared.symbol.SymbolEntry.{SymbolEntry}
 use Rattle.ebpf_ext.specs.ExtReading.{ExtInfo}
-use Rattle.ebpf_limits.proofs.Counts.{filter_short, Among, Counted, covered, all_map, all_flat_map, all_filter, each_at, found_among, name_within}
-use Rattle.ebpf_limits.proofs.OwnedParts.{function_in, its_facts, its_name, its_function}
-use Rattle.ebpf_limits.proofs.OwnedTables.{sections_all, symbols_all, facts_here, file_of}
-use Rattle.ebpf_limits.specs.OwnedBytes.{SectionFacts, entry_bytes, func_count, line_count, offset_by, first_slot, code_bytes, record_bytes, function_bytes, facts_of, facts_at, function_row, total}
 use Rattle.ebpf_model.specs.Symbols.{FunctionKey}
 use Rattle.ebpf_model.specs.declared.function.Function.{Function}
-use Rattle.ebpf_parsing.specs.FileContents.{own_symbols, functions, function_entries}
+use Rattle.ebpf_parsing.specs.FileContents.{own_symbols, functions, function_entries, programs_as, program_entries}
+use Rattle.ebpf_parsing.specs.OfSection.{functions_by, functions_in, programs_by, programs_in}
 use Rattle.ebpf_parsing.specs.FileTypes.{ext_of}
-use Rattle.ebpf_parsing.specs.OfSection.{functions_by, functions_in}
-use Rattle.ebpf_parsing.specs.Programs.{is_program_symbol, program_function, with_key}
+use Rattle.ebpf_parsing.specs.LicenseAndVersion.{license_as, kernel_version_of}
+use Rattle.ebpf_parsing.specs.Programs.{is_program_symbol, program_function, with_key, program_of, programs_of}
+use Rattle.ebpf_parsing.specs.Texts.{address_at, function_at, text_function, text_function_of, symbol_at_offset, is_text_at, offsets_from, offsets, size_at}
 use Rattle.ebpf_parsing.specs.Records.{is_func_at, is_line_in, slot_of_func, slot_of_line, slot_of, rises_from, FuncAndLineInfo, func_and_line_info_of, funcs_at, lines_in, func_from, line_from}
 use Rattle.ebpf_parsing.specs.Sections.{object_sections}
 use Rattle.ebpf_parsing.specs.Symbols.{symbol_of, SymbolValue, is_text_symbol}
-use Rattle.ebpf_parsing.specs.Texts.{address_at, function_at, text_function, text_function_of, symbol_at_offset, is_text_at, offsets_from, offsets, size_at}
 use Rattle.ebpf_parts.specs.Sections.{SectionValue, section_of, section_with}
 use Rattle.ebpf_parts.specs.Slots.{slots_of, slot_at}
-use Rattle.ebpf_parts.specs.declared.section_kind.EbpfSectionKind.{EbpfSectionKind}
-use Rattle.ebpf_parts.specs.declared.section_kind.EbpfSectionKind.TheVariants.{Text, Program as Programs}
+use Rattle.ebpf_parts.specs.declared.section.EbpfSectionKind.{EbpfSectionKind}
+use Rattle.ebpf_parts.specs.declared.section.EbpfSectionKind.TheVariants.{Text, Program as Programs}
+use Rattle.ebpf_base.proofs.TextMaps.{text_exact}
+use Rattle.ebpf_model.specs.declared.function.Program.{Program}
+use Rattle.ebpf_parts.specs.ProgramTypes.{section_as}
+use Rattle.ebpf_parts.specs.declared.program_section.ProgramSection.{ProgramSection}
+use Rattle.ebpf_parts.specs.declared.reading.Reading.{Reading}
+use Rattle.ebpf_limits.proofs.Counts.{filter_short, Among, Counted, covered, all_map, all_flat_map, all_filter, each_at, found_among, name_within}
+use Rattle.ebpf_limits.proofs.OwnedTables.{facts_in, function_in, its_facts, its_name, its_function, sections_all, symbols_all, facts_here, file_of, program_in, its_program}
+use Rattle.ebpf_limits.specs.OwnedBytes.{SectionFacts, entry_bytes, func_count, line_count, offset_by, first_slot, code_bytes, record_bytes, function_bytes, facts_of, facts_at, function_row, total, program_row}
+
+-- ---- the bytes of a function's code and records, no more than what is counted for its symbol.
 
 -- ---- code
 
@@ -117,14 +124,11 @@ offsets_inside s ys (suc left) offset =
     ] refl
 
 module _ (file : List ℕ) (license : ℕ) (ext : Option ExtInfo) where
-  abbrev all : List SectionFacts
-  all = map (facts_of ext) (sections file)
-
   abbrev key_of : SymbolOf → ℕ × ℕ
   key_of y = (unwrap_or (symbol_section_index (entry y)) 0, (entry y).st_value)
 
   abbrev IsFunction : FunctionKey × Function → Type 0
-  IsFunction = Counted key_total key_exact key_of function_row (its_function file license all) (symbols file)
+  IsFunction = Counted key_total key_exact key_of function_row (its_function file license (facts_in file ext)) (symbols file)
 
   module _ (s : SectionOf) (of_file : Among s (sections file)) where
     abbrev infos : FuncAndLineInfo
@@ -144,15 +148,15 @@ module _ (file : List ℕ) (license : ℕ) (ext : Option ExtInfo) where
     one_program y here inside code is_text =
         let f = facts_of ext s in
         let e = entry y in
-        let facts : its_facts file license all y ≡ Some f = ap (facts_at all) inside ∙ facts_here file ext s of_file in
-        let counts : its_function file license all y ≡ function_bytes (its_name file license all y) f e = function_here (its_facts file license all y) f _ (its_name file license all y) e facts is_text code in
+        let facts : its_facts file license (facts_in file ext) y ≡ Some f = ap (facts_at (facts_in file ext)) inside ∙ facts_here file ext s of_file in
+        let counts : its_function file license (facts_in file ext) y ≡ function_bytes (its_name file license (facts_in file ext) y) f e = function_here (its_facts file license (facts_in file ext) y) f _ (its_name file license (facts_in file ext) y) e facts is_text code in
         let place : first_slot f e ≡ slot_of (e.st_value - f.address) = ap slot_of (place_in_code f.kind f.address e.st_value code) in
         let named = name_within file (symbol_name y) in
         let funcs : length (map (func_from (slot_of (e.st_value - f.address))) (filter (is_func_at (slot_of (e.st_value - f.address))) f.funcs)) ≤ func_count f (first_slot f e) =
         (let few = funcs_within f (slot_of (e.st_value - f.address)) in rw (length-map (filter (is_func_at (slot_of (e.st_value - f.address))) f.funcs) (func_from (slot_of (e.st_value - f.address))), place) few) in
         let lines : length (map (line_from (slot_of (e.st_value - f.address))) (filter (is_line_in (slot_of (e.st_value - f.address)) (slot_of e.st_size)) f.lines)) ≤ line_count f (first_slot f e) (slot_of e.st_size) =
         (let few = lines_within f (slot_of (e.st_value - f.address)) (slot_of e.st_size) in rw (length-map (filter (is_line_in (slot_of (e.st_value - f.address)) (slot_of e.st_size)) f.lines) (line_from (slot_of (e.st_value - f.address))), place) few) in
-        let row = row_within (its_name file license all y) (length (unwrap_or (symbol_name y) [])) f e _ _ _ (omega (arith, named)) (code_within f e (data_of s) e.st_value (data_short s)) funcs lines in
+        let row = row_within (its_name file license (facts_in file ext) y) (length (unwrap_or (symbol_name y) [])) f e _ _ _ (omega (arith, named)) (code_within f e (data_of s) e.st_value (data_short s)) funcs lines in
         (y, here, one_key y inside, omega (arith, counts, row))
 
     -- ---- functions of a text section
@@ -166,8 +170,8 @@ module _ (file : List ℕ) (license : ℕ) (ext : Option ExtInfo) where
         let tests = and_parts _ _ found in
         let is_text : is_text_symbol (symbol_kind e) ≡ true = (and_parts _ _ tests.0).0 in
         let at : e.st_value ≡ (f.address + offset) % 2 ^ 64 = eqb-true e.st_value _ tests.1 in
-        let facts : its_facts file license all y ≡ Some f = ap (facts_at all) inside ∙ facts_here file ext s of_file in
-        let counts : its_function file license all y ≡ function_bytes (its_name file license all y) f e = text_here (its_facts file license all y) f _ (its_name file license all y) e facts is_text code in
+        let facts : its_facts file license (facts_in file ext) y ≡ Some f = ap (facts_at (facts_in file ext)) inside ∙ facts_here file ext s of_file in
+        let counts : its_function file license (facts_in file ext) y ≡ function_bytes (its_name file license (facts_in file ext) y) f e = text_here (its_facts file license (facts_in file ext) y) f _ (its_name file license (facts_in file ext) y) e facts is_text code in
         let whole : length (data_of s) ≤ length file = subst (λ b. length (data_of s) ≤ length b) (file_of file s of_file) (data_within s) in
         let place : first_slot f e ≡ slot_of offset = ap slot_of (place_in_text f.kind f.address e.st_value offset code at (omega (arith, whole, below, short))) in
         let named = name_within file (symbol_name y) in
@@ -175,7 +179,7 @@ module _ (file : List ℕ) (license : ℕ) (ext : Option ExtInfo) where
         (let few = funcs_within f (slot_of offset) in rw (length-map (filter (is_func_at (slot_of offset)) f.funcs) (func_from 0), place) few) in
         let lines : length (map (line_from 0) (filter (is_line_in (slot_of offset) (slot_of e.st_size)) f.lines)) ≤ line_count f (first_slot f e) (slot_of e.st_size) =
         (let few = lines_within f (slot_of offset) (slot_of e.st_size) in rw (length-map (filter (is_line_in (slot_of offset) (slot_of e.st_size)) f.lines) (line_from 0), place) few) in
-        let row = row_within (its_name file license all y) (length (unwrap_or (symbol_name y) [])) f e _ _ _ (omega (arith, named)) (code_within f e (data_of s) offset (data_short s)) funcs lines in
+        let row = row_within (its_name file license (facts_in file ext) y) (length (unwrap_or (symbol_name y) [])) f e _ _ _ (omega (arith, named)) (code_within f e (data_of s) offset (data_short s)) funcs lines in
         (y, here, one_key y inside, omega (arith, counts, row))
 
     -- ---- both kinds
@@ -214,14 +218,58 @@ module _ (file : List ℕ) (license : ℕ) (ext : Option ExtInfo) where
     of_kind short _ other = tt
 
 module _ (file : List ℕ) (license : ℕ) where
-  with_records : length file < 2 ^ 64 → total function_row (entries (functions file)) ≤ total (its_function file license (map (facts_of (ext_of file)) (sections file))) (symbols file)
+  with_records : length file < 2 ^ 64 → total function_row (entries (functions file)) ≤ total (its_function file license (facts_in file (ext_of file))) (symbols file)
   unfolding functions function_entries functions_in
   with_records short =
       let ext = ext_of file in
-      covered key_total key_exact (key_of file license ext) function_row (its_function file license (map (facts_of ext) (sections file))) (function_entries ext file) (symbols file)
+      covered key_total key_exact (key_of file license ext) function_row (its_function file license (facts_in file ext)) (function_entries ext file) (symbols file)
       (all_flat_map (IsFunction file license ext) (λ s. functions_in ext s (own_symbols file s)) (object_sections file)
       (sections_all file (λ s. AllByRecursion (IsFunction file license ext) (functions_in ext s (own_symbols file s))) (λ s here. of_kind file license ext s here short (section_of s).kind refl)))
 
-  pub functions_owned : (ext : Option ExtInfo) → ext ≡ ext_of file → length file < 2 ^ 64 → total function_row (entries (functions file)) ≤ total (its_function file license (map (facts_of ext) (sections file))) (symbols file)
+  pub functions_owned : (ext : Option ExtInfo) → ext ≡ ext_of file → length file < 2 ^ 64 → total function_row (entries (functions file)) ≤ total (its_function file license (facts_in file ext)) (symbols file)
   functions_owned ext same short =
-      subst (λ x. total function_row (entries (functions file)) ≤ total (its_function file license (map (facts_of x) (sections file))) (symbols file)) (sym same) (with_records short)
+      subst (λ x. total function_row (entries (functions file)) ≤ total (its_function file license (facts_in file x)) (symbols file)) (sym same) (with_records short)
+
+-- ---- the programs of a file, by its symbols.
+
+program_here : (o : Option SectionFacts) (f : SectionFacts) (t : Bool) (license named : ℕ) → o ≡ Some f → f.kind ≡ Programs → t ≡ true → program_in o t license named ≡ named + license
+program_here o f t license named a b c = rw (a, b, c) refl
+
+module _ (reading : Reading) (file : List ℕ) (license : ℕ) (ext : Option ExtInfo) where
+  abbrev name_of : SymbolOf → List ℕ
+  name_of y = unwrap_or (symbol_name y) []
+
+  abbrev IsProgram : List ℕ × Program → Type 0
+  IsProgram = Counted text_total text_exact name_of program_row (its_program file license (facts_in file ext)) (symbols file)
+
+  module _ (words : List ℕ) (short : length words ≤ license) (version : Option ℕ) (s : SectionOf) (of_file : Among s (sections file)) where
+    program_counted : (kind : ProgramSection) (y : SymbolOf) → Among y (symbols file) → symbol_section_index (entry y) ≡ Some s.index → (section_of s).kind ≡ Programs
+        → is_text_symbol (symbol_of y).kind ≡ true → IsProgram (program_of words version (section_of s) kind (symbol_of y))
+    unfolding symbol_of section_of section_with facts_of
+    program_counted kind y here inside code is_text =
+        let facts : its_facts file license (facts_in file ext) y ≡ Some (facts_of ext s) = ap (facts_at (facts_in file ext)) inside ∙ facts_here file ext s of_file in
+        let counts : its_program file license (facts_in file ext) y ≡ its_name file license (facts_in file ext) y + license = program_here (its_facts file license (facts_in file ext) y) (facts_of ext s) _ license (its_name file license (facts_in file ext) y) facts code is_text in
+        let named = name_within file (symbol_name y) in
+        (y, here, refl, omega (arith, counts, named, short))
+
+    each_program : (kind : Option ProgramSection) → (section_of s).kind ≡ Programs → AllByRecursion IsProgram (programs_of words version (section_of s) (own_symbols file (section_of s)) kind)
+    unfolding section_of section_with
+    each_program None code = tt
+    each_program (Some kind) code =
+        let row : SymbolValue → List ℕ × Program = program_of words version (section_of s) kind in
+        all_map IsProgram row (filter is_program_symbol (own_symbols file (section_of s)))
+        (all_filter (λ y. IsProgram (row y)) is_program_symbol (own_symbols file (section_of s))
+        (symbols_all file (λ y. is_program_symbol y ≡ true → IsProgram (row y)) s.index (λ y here inside passes. program_counted kind y here inside code (and_parts _ _ passes).0)))
+
+    programs_of_kind : (kind : EbpfSectionKind) → (section_of s).kind ≡ kind → AllByRecursion IsProgram (programs_by kind reading words version (section_of s) (own_symbols file (section_of s)))
+    programs_of_kind Programs code = each_program (section_as reading (section_of s).name) code
+    programs_of_kind _ other = tt
+
+  pub programs_owned : length (license_as reading file) ≤ license → total program_row (entries (programs_as reading file)) ≤ total (its_program file license (facts_in file ext)) (symbols file)
+  unfolding programs_as program_entries programs_in
+  programs_owned short =
+      let words = license_as reading file in
+      let version = kernel_version_of file in
+      covered text_total text_exact name_of program_row (its_program file license (facts_in file ext)) (program_entries reading words version file) (symbols file)
+      (all_flat_map IsProgram (λ s. programs_in reading words version s (own_symbols file s)) (object_sections file)
+      (sections_all file (λ s. AllByRecursion IsProgram (programs_in reading words version s (own_symbols file s))) (λ s here. programs_of_kind words short version s here (section_of s).kind refl)))

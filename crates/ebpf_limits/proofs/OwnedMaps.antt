@@ -1,34 +1,31 @@
 -- The maps of a file, by its sections of data and its symbols.
 use Rattle.std.proofs.Common.{◌≡◌, ◌⊎◌, inl, inr, ℕ, zero, suc, ◌+◌, ◌≤◌, List, [], ◌∷◌, ◌++◌, map, length, Option, Some, None, Result, Ok, Err, refl, sym, ap, ◌∙◌, arith}
-use Rattle.std.specs.Prelude.{unwrap_or, replicate}
+use Rattle.std.specs.Prelude.{unwrap_or}
 use Rattle.std.specs.FinMap.{entries, get}
 use Rattle.std.specs.List.{AllByRecursion}
 use Rattle.std.proofs.lemmas.List.{length-replicate}
-use Rattle.ebpf_base.specs.Keys.{text_cmp, text_total}
-use Rattle.ebpf_base.proofs.Keyed.{later_text_stands}
+use Rattle.ebpf_base.specs.Maps.{text_cmp, text_total}
+use Rattle.ebpf_base.proofs.Mapped.{later_text_stands}
 use Rattle.ebpf_base.proofs.TextMaps.{text_exact}
 use Rattle.ebpf_btf.specs.Next.{if_some}
 use Rattle.ebpf_btf.specs.TypeInfo.{TypeInfo}
 use Rattle.ebpf_btf.specs.declared.error.BtfError.{BtfError}
-use Rattle.ebpf_declarations.specs.Attempts.{given}
-use Rattle.ebpf_declarations.specs.DataSections.{DatasecMatch, Named, UnreadableName, datasec_match}
-use Rattle.ebpf_declarations.specs.Maps.{declared, map_at, entry_map, type_maps, map_with_symbol, matched_maps as maps_of_entries}
-use Rattle.ebpf_declarations.specs.TypesInReading.{TypesInReading, types_in_reading}
-use Rattle.ebpf_declarations.specs.declared.definitions.MapDefinitions.{MapDefinitions}
+use Rattle.ebpf_declarations.specs.DataSections.{given, DatasecMatch, Named, UnreadableName, datasec_match}
+use Rattle.ebpf_declarations.specs.Maps.{declared, map_at, entry_map, type_maps, map_with_symbol, matched_maps as maps_of_entries, TypesInReading, types_in_reading}
+use Rattle.ebpf_declarations.specs.declared.members.MapDefinitions.{MapDefinitions}
 use Rattle.ebpf_elf.specs.Sections.{SectionOf, header, sections, section_name}
 use Rattle.ebpf_elf.specs.Symbols.{SymbolOf, entry, symbols, symbol_name, symbol_section_index}
 use Rattle.ebpf_ext.specs.ExtReading.{ExtInfo}
 use Rattle.ebpf_limits.specs.OwnedBytes.{SectionFacts, facts_of, facts_at, named_bytes, contents_by, contents_bytes, map_row, total}
 use Rattle.ebpf_limits.proofs.Counts.{Among, Counted, covered, all_map, all_flat_map, all_of, name_within, total_append, total_map}
 use Rattle.ebpf_limits.proofs.OwnedFunctions.{data_short}
-use Rattle.ebpf_limits.proofs.OwnedParts.{map_in, its_facts, its_name, its_map}
-use Rattle.ebpf_limits.proofs.OwnedTables.{sections_all, symbols_all, facts_here}
+use Rattle.ebpf_limits.proofs.OwnedTables.{facts_in, map_in, its_facts, its_name, its_map, sections_all, symbols_all, facts_here}
 use Rattle.ebpf_parsing.specs.Maps.{btf_defined_maps, data_bytes, data_map, data_maps, legacy_entry, legacy_map, legacy_maps}
 use Rattle.ebpf_parsing.specs.Sections.{object_sections}
 use Rattle.ebpf_parsing.specs.FileContents.{own_symbols, maps_as, map_entries}
+use Rattle.ebpf_parsing.specs.OfSection.{maps_by, maps_in}
 use Rattle.ebpf_parsing.specs.FileTypes.{types_of_file}
 use Rattle.ebpf_parsing.specs.Symbols.{symbol_of, name_and_index, symbol_indices_by_name, SymbolValue}
-use Rattle.ebpf_parsing.specs.OfSection.{maps_by, maps_in}
 use Rattle.ebpf_parsing.proofs.Entries.{stands}
 use Rattle.ebpf_parts.specs.Maps.{bytes_of}
 use Rattle.ebpf_parts.specs.Sections.{SectionValue, section_of, section_with, name_or_empty}
@@ -36,8 +33,8 @@ use Rattle.ebpf_parts.specs.declared.error.ParseError.{ParseError}
 use Rattle.ebpf_parts.specs.declared.error.ParseError.TheVariants.{SymbolNotFound}
 use Rattle.ebpf_parts.specs.declared.maps.either.Map.{Map}
 use Rattle.ebpf_parts.specs.declared.reading.Reading.{Reading}
-use Rattle.ebpf_parts.specs.declared.section_kind.EbpfSectionKind.{EbpfSectionKind}
-use Rattle.ebpf_parts.specs.declared.section_kind.EbpfSectionKind.TheVariants.{Maps, BtfMaps, Data, Rodata, Bss}
+use Rattle.ebpf_parts.specs.declared.section.EbpfSectionKind.{EbpfSectionKind}
+use Rattle.ebpf_parts.specs.declared.section.EbpfSectionKind.TheVariants.{Maps, BtfMaps, Data, Rodata, Bss}
 
 -- ---- places in two lists, one behind the other
 
@@ -83,9 +80,6 @@ btf_map_here : (o : Option SectionFacts) (f : SectionFacts) (named : ℕ) → o 
 btf_map_here o f named a b = rw (a, b) refl
 
 module _ (file : List ℕ) (license : ℕ) (ext : Option ExtInfo) where
-  abbrev all : List SectionFacts
-  all = map (facts_of ext) (sections file)
-
   abbrev Source : Type 0
   Source = SectionOf ⊎ SymbolOf
 
@@ -95,7 +89,7 @@ module _ (file : List ℕ) (license : ℕ) (ext : Option ExtInfo) where
 
   abbrev counted_of : Source → ℕ
   counted_of (inl s) = contents_bytes file ext s
-  counted_of (inr y) = its_map file license all y
+  counted_of (inr y) = its_map file license (facts_in file ext) y
 
   abbrev sources : List Source
   sources = map inl (sections file) ++ map inr (symbols file)
@@ -144,8 +138,8 @@ module _ (file : List ℕ) (license : ℕ) (ext : Option ExtInfo) where
     named_counted : (name : List ℕ) (m : Map) → Names name → bytes_of m ≡ [] → ((o : Option SectionFacts) (named : ℕ) → o ≡ Some (facts_of ext s) → map_in o named ≡ named) → IsMap (name, m)
     named_counted name m of_symbol none counts =
         let y = of_symbol.0 in
-        let facts : its_facts file license all y ≡ Some (facts_of ext s) = ap (facts_at all) of_symbol.3 ∙ facts_here file ext s of_file in
-        let count = counts (its_facts file license all y) (its_name file license all y) facts in
+        let facts : its_facts file license (facts_in file ext) y ≡ Some (facts_of ext s) = ap (facts_at (facts_in file ext)) of_symbol.3 ∙ facts_here file ext s of_file in
+        let count = counts (its_facts file license (facts_in file ext) y) (its_name file license (facts_in file ext) y) facts in
         let short = name_within file (symbol_name y) in
         let same : length name ≡ length (unwrap_or (symbol_name y) []) = ap length (sym of_symbol.2) in
         let empty_data : length (bytes_of m) ≡ 0 = ap length none in
@@ -195,7 +189,7 @@ module _ (file : List ℕ) (license : ℕ) (ext : Option ExtInfo) where
     of_kind reading types BtfMaps code = of_types code (types_in_reading reading types)
     of_kind reading types _ other = tt
 
-  pub maps_owned : (reading : Reading) → total map_row (entries (maps_as reading file)) ≤ total (contents_bytes file ext) (sections file) + total (its_map file license all) (symbols file)
+  pub maps_owned : (reading : Reading) → total map_row (entries (maps_as reading file)) ≤ total (contents_bytes file ext) (sections file) + total (its_map file license (facts_in file ext)) (symbols file)
   unfolding maps_as map_entries maps_in
   maps_owned reading =
       let types = types_of_file file in

@@ -1,27 +1,22 @@
 -- The object of a file without a fault owns no more than what is made of the file.
-use Rattle.std.proofs.Common.{◌≡◌, ℕ, ◌≤◌, List, ◌<◌, ◌^◌, map, length, Option, None, Result, Ok, Err, IfOk, option_map, sym, subst, arith}
+use Rattle.std.proofs.Common.{◌≡◌, ℕ, ◌≤◌, List, ◌<◌, ◌^◌, length, Option, None, Result, Ok, Err, IfOk, option_map, sym, subst, arith}
 use Rattle.ebpf_base.specs.Faults.{first_in, Refuses}
 use Rattle.ebpf_base.proofs.Faults.{both_None}
 use Rattle.ebpf_elf.specs.Faults.{faults}
 use Rattle.ebpf_elf.specs.Symbols.{symbols}
 use Rattle.ebpf_ext.specs.ExtReading.{ExtInfo}
-use Rattle.ebpf_limits.specs.OwnedBytes.{license_bytes, type_information_bytes, all_facts, made_bytes, owned_bytes, ObjectsOwnWhatIsMade}
-use Rattle.ebpf_limits.specs.ReadableData.{readable_ext}
-use Rattle.ebpf_limits.proofs.OwnedRecords.{ext_owned}
-use Rattle.ebpf_limits.proofs.OwnedExterns.{externs_owned}
-use Rattle.ebpf_limits.proofs.OwnedFunctions.{functions_owned}
+use Rattle.ebpf_limits.specs.OwnedBytes.{license_bytes, type_information_bytes, all_facts, made_bytes, owned_bytes, ObjectsOwnWhatIsMade, readable_ext}
+use Rattle.ebpf_limits.proofs.OwnedTypes.{ext_owned, license_owned, types_owned, ext_same}
+use Rattle.ebpf_limits.proofs.OwnedTables.{externs_owned, all_parts, symbols_owned, names_owned}
+use Rattle.ebpf_limits.proofs.OwnedFunctions.{functions_owned, programs_owned}
 use Rattle.ebpf_limits.proofs.OwnedMaps.{maps_owned}
-use Rattle.ebpf_limits.proofs.OwnedParts.{all_parts}
-use Rattle.ebpf_limits.proofs.OwnedPrograms.{programs_owned}
 use Rattle.ebpf_limits.proofs.OwnedRelocations.{relocations_owned}
-use Rattle.ebpf_limits.proofs.OwnedTables.{symbols_owned, names_owned}
-use Rattle.ebpf_limits.proofs.OwnedTypes.{license_owned, types_owned, ext_same}
 use Rattle.ebpf_object.specs.Objects.{object_as, parse_fault_as}
 use Rattle.ebpf_object.specs.declared.object.Object.{Object}
 use Rattle.ebpf_parsing.specs.Sections.{order_fault_as}
 use Rattle.ebpf_parsing.specs.FileTypes.{btf_fault, ext_fault, file_types_fault}
-use Rattle.ebpf_parsing.specs.Symbols.{symbols_fault}
 use Rattle.ebpf_parsing.specs.LicenseAndVersion.{license_fault_as, version_fault}
+use Rattle.ebpf_parsing.specs.Symbols.{symbols_fault}
 use Rattle.ebpf_parts.specs.Memory.{is_parse_memory}
 use Rattle.ebpf_parts.specs.declared.error.ParseError.{ParseError}
 use Rattle.ebpf_parts.specs.declared.error.ParseError.TheVariants.{ElfError}

@@ -1,27 +1,27 @@
 -- The relocations of sections of code, by the sections of relocations.
-use Rattle.std.proofs.Common.{◌≡◌, ℕ, zero, suc, ◌+◌, ◌-◌, ◌*◌, ◌<◌, ◌≤◌, true, false, cond, List, [], ◌∷◌, ◌++◌, map, filter, length, Option, Some, refl, sym, ap, subst, ◌∙◌, arith, slice_get, eqb-true}
+use Rattle.std.proofs.Common.{◌≡◌, ℕ, zero, suc, ◌+◌, ◌-◌, ◌*◌, ◌<◌, ◌≤◌, true, false, cond, List, [], ◌∷◌, ◌++◌, map, filter, length, Option, Some, refl, ap, subst, ◌∙◌, arith, slice_get, eqb-true}
 use Rattle.std.specs.Prelude.{◌==◌, if◌then◌else◌}
 use Rattle.std.specs.Cmp.{nat_cmp_total}
 use Rattle.std.specs.FinMap.{FinMap, entries, nat_cmp-IsAntisymmetric}
 use Rattle.std.specs.List.{AllByRecursion, flat_map, range_with_len}
 use Rattle.std.specs.Ordering.{nat_cmp}
 use Rattle.std.proofs.lemmas.Bool.Decides.{nat_tests}
-use Rattle.std.proofs.lemmas.List.{length-append, length-map}
+use Rattle.std.proofs.lemmas.List.{length-append}
 use Rattle.std.proofs.lemmas.List.FromFn.{length-map-range_with_len}
 use Rattle.ebpf_elf.specs.Relocations.{relocation_sections, relocated_section, entry_count, table_entry, table_entries, entries_for, relocations}
 use Rattle.ebpf_elf.specs.Sections.{SectionOf, sections}
 use Rattle.ebpf_elf.specs.declared.relocation.ElfRelocation.{ElfRelocation}
 use Rattle.ebpf_ext.specs.ExtReading.{ExtInfo}
-use Rattle.ebpf_limits.specs.OwnedBytes.{SectionFacts, entry_bytes, facts_of, facts_at, relocation_bytes, relocations_row, total}
+use Rattle.ebpf_limits.specs.OwnedBytes.{entry_bytes, facts_of, facts_at, relocation_bytes, relocations_row, total}
 use Rattle.ebpf_limits.proofs.Counts.{Among, Counted, covered, all_map, all_flat_map, all_of}
-use Rattle.ebpf_limits.proofs.OwnedTables.{sections_all, facts_here}
+use Rattle.ebpf_limits.proofs.OwnedTables.{facts_in, sections_all, facts_here}
 use Rattle.ebpf_parsing.specs.Sections.{is_kind_of_code, object_sections}
+use Rattle.ebpf_parsing.specs.Relocations.{offset_of, relocations_by_offset, relocation_table_at}
 use Rattle.ebpf_parsing.specs.FileContents.{relocation_tables, relocation_entries}
 use Rattle.ebpf_parsing.specs.OfSection.{relocations_by, relocations_in}
-use Rattle.ebpf_parsing.specs.Relocations.{offset_of, relocations_by_offset, relocation_table_at}
 use Rattle.ebpf_parts.specs.Sections.{section_of, section_with}
-use Rattle.ebpf_parts.specs.declared.section_kind.EbpfSectionKind.{EbpfSectionKind}
-use Rattle.ebpf_parts.specs.declared.section_kind.EbpfSectionKind.TheVariants.{Text, Program as Programs}
+use Rattle.ebpf_parts.specs.declared.section.EbpfSectionKind.{EbpfSectionKind}
+use Rattle.ebpf_parts.specs.declared.section.EbpfSectionKind.TheVariants.{Text, Program as Programs}
 
 -- ---- one table
 
@@ -42,9 +42,6 @@ table_short rs =
     each rs = all_map _ offset_of rs (all_of (λ r. Counted nat_cmp_total nat_cmp-IsAntisymmetric (λ (r : ElfRelocation). r.offset) (λ e. 1) (λ r. 1) rs (offset_of r)) rs (λ r here. (r, here, refl, omega arith)))
 
 module _ (file : List ℕ) (ext : Option ExtInfo) where
-  abbrev all : List SectionFacts
-  all = map (facts_of ext) (sections file)
-
   -- what counts for a section
   abbrev own_bytes : SectionOf → ℕ
   own_bytes s = if is_kind_of_code (facts_of ext s).kind then entry_bytes * length (relocations s) else 0
@@ -139,15 +136,15 @@ module _ (file : List ℕ) (ext : Option ExtInfo) where
   at_number a (suc n) zero below = ap (λ i. Some (numbered i)) (let same : a ≡ a + 0 = omega arith in same)
   at_number a (suc n) (suc k) below = at_number (a + 1) n k (omega (arith, below)) ∙ ap (λ i. Some (numbered i)) (let same : a + 1 + k ≡ a + suc k = omega arith in same)
 
-  counts_at : (r : SectionOf) (i : ℕ) → relocated_section r ≡ i → facts_at all (Some i) ≡ Some (facts_of ext (numbered i))
-      → (if is_kind_of_code (facts_of ext (numbered i)).kind then entry_bytes * entry_count r else 0) ≤ relocation_bytes all r
+  counts_at : (r : SectionOf) (i : ℕ) → relocated_section r ≡ i → facts_at (facts_in file ext) (Some i) ≡ Some (facts_of ext (numbered i))
+      → (if is_kind_of_code (facts_of ext (numbered i)).kind then entry_bytes * entry_count r else 0) ≤ relocation_bytes (facts_in file ext) r
   unfolding relocation_bytes
   counts_at r i there facts = rw (there, facts) (omega arith)
 
-  one_within : (r : SectionOf) → total (one_for r) (sections file) ≤ relocation_bytes all r
-  one_within r = at_most r (relocation_bytes all r) 1 _ (λ k below there. counts_at r (1 + k) there (facts_here file ext (numbered (1 + k)) (k, at_number 1 _ k below)))
+  one_within : (r : SectionOf) → total (one_for r) (sections file) ≤ relocation_bytes (facts_in file ext) r
+  one_within r = at_most r (relocation_bytes (facts_in file ext) r) 1 _ (λ k below there. counts_at r (1 + k) there (facts_here file ext (numbered (1 + k)) (k, at_number 1 _ k below)))
 
-  exchanged : (tables : List SectionOf) → total (for_section tables) (sections file) ≤ total (relocation_bytes all) tables
+  exchanged : (tables : List SectionOf) → total (for_section tables) (sections file) ≤ total (relocation_bytes (facts_in file ext)) tables
   exchanged [] = let none = none_for (sections file) in omega (arith, none)
   exchanged (r ∷ tables) =
       let parts = split_all r tables (sections file) in
@@ -159,7 +156,7 @@ module _ (file : List ℕ) (ext : Option ExtInfo) where
   own_same [] = refl
   own_same (n ∷ ns) = let rest = own_same ns in omega (arith, rest)
 
-  pub relocations_owned : total relocations_row (entries (relocation_tables file)) ≤ total (relocation_bytes all) (relocation_sections file)
+  pub relocations_owned : total relocations_row (entries (relocation_tables file)) ≤ total (relocation_bytes (facts_in file ext)) (relocation_sections file)
   relocations_owned =
       let a = tables_owned in
       let b : total own_bytes (sections file) ≡ total (for_section (relocation_sections file)) (sections file) = own_same _ in

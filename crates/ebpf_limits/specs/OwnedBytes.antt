@@ -1,41 +1,73 @@
--- Sums over lists.
-use Rattle.std.specs.Prelude.{ℕ, ◌+◌, List, [], ◌∷◌, ◌*◌, length, Option, Some, None, ◌-◌, ◌%◌, ◌^◌, Bool, true, false, map, filter, codes, nat_lt, min, if◌then◌else◌, slice_get, ◌≡◌, ◌≤◌, ◌<◌, unwrap_or}
-use Rattle.std.specs.FinMap.{entries, FinMap, len}
+-- How many bytes an object owns, and how many what is made of a file owns at most.
+use Rattle.std.specs.Prelude.{ℕ, List, [], Option, Some, None, is_some, if◌then◌else◌, ◌+◌, ◌∷◌, ◌*◌, length, ◌-◌, ◌%◌, ◌^◌, Bool, true, false, map, filter, codes, nat_lt, min, slice_get, ◌≡◌, ◌≤◌, ◌<◌, unwrap_or}
+use Rattle.std.specs.Result.{result_ok}
+use Rattle.std.specs.FinMap.{entries, FinMap, empty}
 use Rattle.std.specs.Ordering.{nat_cmp}
+use Rattle.ebpf_base.specs.Faults.{first_of}
+use Rattle.ebpf_btf.specs.Reading.{type_info_of}
+use Rattle.ebpf_btf.specs.TypeInfo.{TypeInfo}
+use Rattle.ebpf_elf.specs.Headers.{ei_data}
+use Rattle.ebpf_elf.specs.Sections.{SectionOf, data_faults, data_of, header, sections, section_name}
+use Rattle.ebpf_ext.specs.ExtReading.{ExtInfo, read_ext, func_info_at, line_info_at}
+use Rattle.ebpf_parsing.specs.FileTypes.{types_section, ext_section}
+use Rattle.ebpf_parsing.specs.Sections.{first_section_named, is_kind_of_code}
 use Rattle.ebpf_base.specs.declared.endianness.Endianness.{Endianness}
 use Rattle.ebpf_btf.specs.Format.{word}
-use Rattle.ebpf_btf.specs.TypeInfo.{TypeInfo}
 use Rattle.ebpf_btf.specs.Words.{types_length}
-use Rattle.ebpf_elf.specs.Headers.{ei_data}
 use Rattle.ebpf_elf.specs.Relocations.{relocation_sections, relocated_section, entry_count}
-use Rattle.ebpf_elf.specs.Sections.{SectionOf, header, sections, section_name}
 use Rattle.ebpf_elf.specs.Symbols.{SymbolOf, entry, symbols, symbol_name, symbol_kind, symbol_section_index}
 use Rattle.ebpf_elf.specs.declared.relocation.ElfRelocation.{ElfRelocation}
 use Rattle.ebpf_elf.specs.declared.symbol.SymbolEntry.{SymbolEntry}
 use Rattle.ebpf_ext.specs.ExtFormat.{func_part, line_part, core_relo_part, part_length}
-use Rattle.ebpf_ext.specs.ExtReading.{ExtInfo, func_info_at, line_info_at}
 use Rattle.ebpf_ext.specs.declared.ext_infos.FuncSecInfo.{FuncSecInfo}
 use Rattle.ebpf_ext.specs.declared.ext_infos.LineSecInfo.{LineSecInfo}
 use Rattle.ebpf_ext.specs.declared.ext_infos.bpf_func_info.{bpf_func_info}
 use Rattle.ebpf_ext.specs.declared.ext_infos.bpf_line_info.{bpf_line_info}
 use Rattle.ebpf_ext.specs.declared.relocation.Relocation.{Relocation}
-use Rattle.ebpf_limits.specs.ReadableData.{data_in, readable_data, readable_ext, readable_types}
 use Rattle.ebpf_model.specs.Symbols.{FunctionKey}
 use Rattle.ebpf_model.specs.declared.function.Function.{Function}
-use Rattle.ebpf_model.specs.declared.program.Program.{Program}
+use Rattle.ebpf_model.specs.declared.function.Program.{Program}
 use Rattle.ebpf_model.specs.declared.symbol.Symbol.{Symbol}
 use Rattle.ebpf_object.specs.Objects.{object_as, parse_fault_as}
 use Rattle.ebpf_object.specs.declared.object.Object.{Object}
-use Rattle.ebpf_parsing.specs.FileTypes.{types_section, ext_section}
 use Rattle.ebpf_parsing.specs.Records.{func_info_of, line_info_of, is_func_at, is_line_in, slot_of_func, slot_of_line, slot_of, rises_from}
-use Rattle.ebpf_parsing.specs.Sections.{is_kind_of_code, first_section_named}
 use Rattle.ebpf_parsing.specs.Symbols.{is_text_symbol}
 use Rattle.ebpf_parts.specs.Maps.{bytes_of}
 use Rattle.ebpf_parts.specs.Sections.{kind_of_section, name_or_empty}
 use Rattle.ebpf_parts.specs.declared.maps.either.Map.{Map}
 use Rattle.ebpf_parts.specs.declared.reading.Reading.{Reading}
-use Rattle.ebpf_parts.specs.declared.section_kind.EbpfSectionKind.{EbpfSectionKind}
-use Rattle.ebpf_parts.specs.declared.section_kind.EbpfSectionKind.TheVariants.{Maps, BtfMaps, Data, Rodata, Bss, Text, Program as Programs}
+use Rattle.ebpf_parts.specs.declared.section.EbpfSectionKind.{EbpfSectionKind}
+use Rattle.ebpf_parts.specs.declared.section.EbpfSectionKind.TheVariants.{Maps, BtfMaps, Data, Rodata, Bss, Text, Program as Programs}
+use Rattle.ebpf_base.specs.Maps.{text_cmp}
+
+-- ---- what can be read of a file's sections before any other fault of the file is known. Data outside the file, and type
+-- information with a fault, is none here: a file with such a section is refused.
+
+-- the data of a section
+unfoldable pub readable_data : SectionOf → List ℕ
+readable_data s = if is_some (first_of (data_faults s)) then [] else data_of s
+
+-- of the first section of a name, where there is one
+abbrev pub data_in : Option SectionOf → List ℕ
+data_in None = []
+data_in (Some s) = readable_data s
+
+abbrev pub data_named : List ℕ → List ℕ → List ℕ
+data_named name file = data_in (first_section_named name file)
+
+-- the types in its section `.BTF`
+unfoldable pub readable_types : List ℕ → Option TypeInfo
+readable_types file = result_ok (type_info_of (ei_data file) (data_in (types_section file)))
+
+-- the records in its section `.BTF.ext`
+abbrev pub ext_beside_types : List ℕ → Option TypeInfo → Option ExtInfo
+ext_beside_types file None = None
+ext_beside_types file (Some types) = result_ok (read_ext (ei_data file) (data_in (ext_section file)) types.strings)
+
+unfoldable pub readable_ext : List ℕ → Option ExtInfo
+readable_ext file = ext_beside_types file (readable_types file)
+
+-- ---- sums over lists.
 
 -- the sum of what each item counts
 abbrev pub total : {X : Type 0} → (X → ℕ) → List X → ℕ
@@ -270,3 +302,32 @@ owned_bytes o =
 -- 2 ^ 64 bytes
 abbrev pub ObjectsOwnWhatIsMade : Type 0
 ObjectsOwnWhatIsMade = (reading : Reading) (file : List ℕ) → length file < 2 ^ 64 → parse_fault_as reading file ≡ None → owned_bytes (object_as reading file) ≤ made_bytes file
+
+-- ---- what contracts of private functions name and no public one.
+
+-- records that may have been found
+abbrev pub found_funcs : Option (FinMap text_cmp FuncSecInfo) → FinMap text_cmp FuncSecInfo
+found_funcs found = unwrap_or found empty
+
+abbrev pub found_lines : Option (FinMap text_cmp LineSecInfo) → FinMap text_cmp LineSecInfo
+found_lines found = unwrap_or found empty
+
+-- what taking bytes from a limit leaves of it, with what is made where they fit
+abbrev pub Took : {X : Type 0} → Option X → ℕ → ℕ → ℕ → Type 0
+Took None before after bytes = before < bytes
+Took (Some x) before after bytes = after + bytes ≡ before
+
+-- the sum in three parts
+abbrev pub first_bytes : List ℕ → ℕ
+first_bytes file = license_bytes file + total (section_entry_bytes file) (sections file)
+
+abbrev pub last_bytes : List ℕ → ℕ
+last_bytes file =
+    total (symbol_bytes file (license_bytes file) (all_facts file)) (symbols file)
+    + total (relocation_bytes (all_facts file)) (relocation_sections file)
+
+abbrev pub later_bytes : List ℕ → ℕ
+later_bytes file =
+    type_information_bytes file
+    + total (contents_bytes file (readable_ext file)) (sections file)
+    + last_bytes file

@@ -2,10 +2,8 @@
 #![tactic(auto)]
 
 mod facts;
-mod found_records;
 pub mod laws;
 mod limits;
-mod made;
 mod readable;
 mod symbols;
 

@@ -1,19 +1,136 @@
-//! Parsing within a limit.
+//! How many bytes are made of a file, and parsing within a limit.
 
-ghost use Rattle.std.specs.Prelude.{◌≡◌, ◌≤◌, ◌<◌, ◌^◌, IfOk, OnOk, length, option_map};
+ghost use Rattle.std.specs.Prelude.{◌≡◌, ◌+◌, ◌<◌, IfOk, nat_le, Some, ◌≤◌, ◌^◌, OnOk, length, option_map};
+ghost use Rattle.std.specs.Bool.{OnTrue, OnFalse};
+ghost use Rattle.ebpf_elf.specs.Relocations.{relocation_sections, relocated_section};
+ghost use Rattle.ebpf_limits.specs.OwnedBytes.{all_facts, made_bytes, total, facts_at, relocated_kind, relocation_bytes, owned_bytes, first_bytes, later_bytes, last_bytes};
 ghost use Rattle.ebpf_base.specs.Faults.{Refuses, fault_of, first_in};
 ghost use Rattle.ebpf_elf.specs.Faults.{faults};
-ghost use Rattle.ebpf_limits.specs.OwnedBytes.{made_bytes, owned_bytes};
 ghost use Rattle.ebpf_limits.specs.Within.{size_fault, within_fault};
 ghost use Rattle.ebpf_object.specs.Objects.{object_as};
 ghost use Rattle.ebpf_parts.specs.Memory.{is_parse_memory};
 ghost use Rattle.ebpf_parts.specs.declared.error.ParseError.TheVariants.{ElfError};
 
-use crate::made::fits;
-use ebpf_elf::ElfFile;
+use crate::facts::{Facts, FoundRecords};
+use crate::readable::{license_bytes, readable_ext, readable_types, type_information_bytes};
+use crate::symbols::{ENTRY, facts_at, take_names, take_sections, take_symbols};
+use ebpf_elf::{ElfFile, ElfRelocationSection};
 use ebpf_object::Object;
-use ebpf_parts::{ParseError, Reading};
-use std::alloc::Global;
+use ebpf_parts::{EbpfSectionKind, ParseError, Reading};
+use std::alloc::{AllocError, Global};
+
+/// Takes the names of sections and the license. The names come first: sections are looked for by their names then.
+fn take_first(room: &mut Room, bytes: &[u8], file: &ElfFile<'_>) -> bool
+    requires { file.now ≡ bytes.now }
+    ensures fits { OnTrue result (room.new.left + first_bytes file.now ≡ room.old.left) }
+    ensures over { OnFalse result (room.old.left < first_bytes file.now) }
+{
+    take_names(room, bytes, file) && room.take(license_bytes(file) as u128)
+}
+
+/// Takes what the symbols and the relocations give.
+fn take_last(room: &mut Room, bytes: &[u8], file: &ElfFile<'_>, all: &[Facts<'_>]) -> bool
+    requires same { file.now ≡ bytes.now }
+    requires facts { all.now ≡ all_facts file.now }
+    ensures fits { OnTrue result (room.new.left + last_bytes file.now ≡ room.old.left) }
+    ensures over { OnFalse result (room.old.left < last_bytes file.now) }
+{
+    take_symbols(room, bytes, file, license_bytes(file), all) && take_relocations(room, file, all)
+}
+
+/// Takes what the type information, the sections, the symbols and the relocations give.
+fn take_later(
+    alloc: Global,
+    room: &mut Room,
+    bytes: &[u8],
+    file: &ElfFile<'_>,
+) -> Result<bool, AllocError>
+    requires { file.now ≡ bytes.now }
+    ensures fits { IfOk result (λ fits. OnTrue fits (room.new.left + later_bytes file.now ≡ room.old.left)) }
+    ensures over { IfOk result (λ fits. OnFalse fits (room.old.left < later_bytes file.now)) }
+{
+    let types = readable_types(alloc, file)?;
+    let ext = readable_ext(alloc, file, &types)?;
+    if !room.take(type_information_bytes(file, &types, &ext)) {
+        return Ok(false);
+    }
+    let records = FoundRecords::of(alloc, file, &ext)?;
+    let Some(all) = take_sections(alloc, room, bytes, file, &records)? else {
+        return Ok(false);
+    };
+    Ok(take_last(room, bytes, file, &all))
+}
+
+/// Whether what is made of a file owns at most so many bytes.
+pub fn fits(
+    alloc: Global,
+    bytes: &[u8],
+    file: &ElfFile<'_>,
+    most_bytes: u64,
+) -> Result<bool, AllocError>
+    requires { file.now ≡ bytes.now }
+    ensures { IfOk result (λ fits. fits ≡ nat_le (made_bytes file.now) most_bytes) }
+{
+    let mut room = Room { left: most_bytes };
+    if !take_first(&mut room, bytes, file) {
+        return Ok(false);
+    }
+    take_later(alloc, &mut room, bytes, file)
+}
+
+/// Whether the section that relocations patch is one of code.
+fn patches_code(all: &[Facts<'_>], section: &ElfRelocationSection<'_>) -> bool
+    ensures { result ≡ relocated_kind (facts_at all.now (Some (relocated_section section.now))) }
+{
+    match facts_at(all, Some(section.target())) {
+        Some(facts) => matches!(facts.kind, EbpfSectionKind::Text | EbpfSectionKind::Program),
+        None => false,
+    }
+}
+
+/// The bytes of the entries of a section of relocations.
+#[tactic(auto, unfolding(crate::specs::OwnedBytes::relocation_bytes))]
+fn relocation_bytes(all: &[Facts<'_>], section: &ElfRelocationSection<'_>) -> u128
+    ensures { result ≡ relocation_bytes all.now section.now }
+{
+    if !patches_code(all, section) {
+        return 0;
+    }
+    ENTRY * section.extent().count as u128
+}
+
+/// Takes an entry for each relocation of a section of code.
+pub fn take_relocations(room: &mut Room, file: &ElfFile<'_>, all: &[Facts<'_>]) -> bool
+    ensures fits { OnTrue result (room.new.left + total (relocation_bytes all.now) (relocation_sections file.now) ≡ room.old.left) }
+    ensures over { OnFalse result (room.old.left < total (relocation_bytes all.now) (relocation_sections file.now)) }
+{
+    for section in file.relocation_sections() {
+        if !room.take(relocation_bytes(all, &section)) {
+            return false;
+        }
+    }
+    true
+}
+
+/// How many bytes may still be made. It counts down, since a sum over a file may pass 64 bits.
+#[derive(Drop)]
+pub struct Room {
+    pub left: u64,
+}
+
+impl Room {
+    /// Takes so many bytes. `false` where there are not as many; then nothing is taken.
+    pub fn take(&mut self, bytes: u128) -> bool
+        ensures taken { OnTrue result (self.new.left + bytes ≡ self.old.left) }
+        ensures over { OnFalse result (self.old.left < bytes) }
+    {
+        if u128::from(self.left) < bytes {
+            return false;
+        }
+        self.left -= bytes as u64;
+        true
+    }
+}
 
 /// A limit on what is made of a file.
 #[derive(Clone, Copy, Debug, PartialEq, Eq)]

@@ -4,8 +4,7 @@ ghost use Rattle.std.specs.Prelude.{◌≡◌, ◌<◌, ◌≤◌, ◌^◌, IfOk
 ghost use Rattle.std.specs.Result.{result_ok};
 ghost use Rattle.ebpf_btf.specs.Reading.{type_info_of};
 ghost use Rattle.ebpf_ext.specs.ExtReading.{read_ext};
-ghost use Rattle.ebpf_limits.specs.OwnedBytes.{license_bytes, type_information_bytes, types_in_bytes, part_bytes, ext_in_bytes};
-ghost use Rattle.ebpf_limits.specs.ReadableData.{readable_data, data_named, readable_types, readable_ext};
+ghost use Rattle.ebpf_limits.specs.OwnedBytes.{license_bytes, type_information_bytes, types_in_bytes, part_bytes, ext_in_bytes, readable_data, data_named, readable_types, readable_ext};
 
 use crate::symbols::ENTRY;
 use ebpf_base::numbers::read_u32;
@@ -15,7 +14,7 @@ use ebpf_ext::BtfExt;
 use std::alloc::{AllocError, Global};
 
 /// The data of a section, none where it is outside the file.
-#[tactic(auto, unfolding(crate::specs::ReadableData::readable_data))]
+#[tactic(auto, unfolding(crate::specs::OwnedBytes::readable_data))]
 fn readable_data<'a>(section: &ElfSection<'a>) -> &'a [u8]
     ensures { result.now ≡ readable_data section.now }
 {
@@ -63,7 +62,7 @@ fn ext_in(
 }
 
 /// The types of a file, where they can be read.
-#[tactic(auto, unfolding(crate::specs::ReadableData::readable_types))]
+#[tactic(auto, unfolding(crate::specs::OwnedBytes::readable_types))]
 pub fn readable_types(alloc: Global, file: &ElfFile<'_>) -> Result<Option<Btf>, AllocError>
     ensures { IfOk result (λ types. types ≡ readable_types file.now) }
 {
@@ -71,7 +70,7 @@ pub fn readable_types(alloc: Global, file: &ElfFile<'_>) -> Result<Option<Btf>, 
 }
 
 /// The records in the section `.BTF.ext` of a file, beside its types.
-#[tactic(auto, unfolding(crate::specs::ReadableData::readable_ext))]
+#[tactic(auto, unfolding(crate::specs::OwnedBytes::readable_ext))]
 pub fn readable_ext(
     alloc: Global,
     file: &ElfFile<'_>,

@@ -5,13 +5,11 @@ ghost use Rattle.std.specs.Bool.{OnTrue, OnFalse};
 ghost use Rattle.std.specs.Option.{option_copied};
 ghost use Rattle.ebpf_elf.specs.Sections.{section_name, sections};
 ghost use Rattle.ebpf_elf.specs.Symbols.{entry, symbols, symbol_name};
-ghost use Rattle.ebpf_limits.specs.OwnedBytes.{total, facts_at, placed_in, symbol_bytes, named_bytes, section_entry_bytes, contents_bytes, facts_of};
-ghost use Rattle.ebpf_limits.specs.PrivateContracts.{Took};
+ghost use Rattle.ebpf_limits.specs.OwnedBytes.{total, facts_at, placed_in, symbol_bytes, named_bytes, section_entry_bytes, contents_bytes, facts_of, Took};
 ghost use Rattle.ebpf_parts.specs.Sections.{name_or_empty};
 
-use crate::facts::{Facts, contents_bytes};
-use crate::found_records::FoundRecords;
-use crate::made::Room;
+use crate::facts::{Facts, FoundRecords, contents_bytes};
+use crate::limits::Room;
 use ebpf_elf::{ElfFile, ElfSection, ElfSymbol};
 use ebpf_parts::EbpfSectionKind;
 use std::alloc::{AllocError, Global};

@@ -4,7 +4,7 @@ use Rattle.std.proofs.lemmas.List.{get_or_default}
 use Rattle.std.specs.Io.KnownBytes.{Appends}
 use Rattle.std.specs.List.{flat_map}
 use Rattle.std.specs.Prelude.{slice_index_or}
-use Rattle.ebpf_base.proofs.Walks.{rest_more}
+use Rattle.ebpf_base.proofs.Lists.{rest_more}
 use Rattle.ebpf_commands.proofs.Appending.{both}
 use Rattle.ebpf_link_command.specs.Written.{program_name}
 use Rattle.ebpf_report.specs.declared.programs.ObjectProgram.{ObjectProgram}

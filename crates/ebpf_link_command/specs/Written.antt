@@ -1,5 +1,5 @@
 -- What `ebpf link --bytes` writes: the lines of `ebpf-link`, but for names as they are shown.
-use Rattle.std.specs.Prelude.{ℕ, List, [], Option, Some, None, map}
+use Rattle.std.specs.Prelude.{ℕ, List, [], Option, Some, None}
 use Rattle.std.specs.Io.KnownBytes.{Appends}
 use Rattle.std.specs.List.{flat_map}
 use Rattle.ebpf_btf.specs.TypeInfo.{TypeInfo}

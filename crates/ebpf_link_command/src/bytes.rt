@@ -58,7 +58,7 @@ fn write_named<W: Write>(object: &Object, name: &str, out: &mut W) -> io::Result
 }
 
 /// Writes these programs of an object.
-#[tactic(auto, using(crate::proofs::Lines::one_program, ebpf_base::proofs::Walks::rest_none, ebpf_commands::proofs::Appending::nothing_more))]
+#[tactic(auto, using(crate::proofs::Lines::one_program, ebpf_base::proofs::Lists::rest_none, ebpf_commands::proofs::Appending::nothing_more))]
 fn write_named_programs<W: Write>(
     object: &Object,
     programs: &[ObjectProgram],

@@ -5,7 +5,6 @@ use Rattle.std.proofs.lemmas.Bool.{cases_eq}
 use Rattle.std.proofs.lemmas.List.{drop_all}
 use Rattle.ebpf_linker.specs.declared.reference.Fault.{Fault}
 use Rattle.ebpf_linker.specs.declared.reference.Call.{Call}
-use Rattle.ebpf_linker.specs.declared.reference.Target.TheVariants.{Function}
 use Rattle.ebpf_linker.specs.declared.search.Open.{Open}
 use Rattle.ebpf_linker.specs.Functions.{Functions, Among}
 use Rattle.ebpf_linker.specs.Search.{Search}

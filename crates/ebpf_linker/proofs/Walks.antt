@@ -5,7 +5,7 @@ use Rattle.std.specs.declared.alloc.Global.{Global}
 use Rattle.std.proofs.lemmas.Bool.{ltb-false, ne_eqb, leb-false, or_parts}
 use Rattle.std.proofs.lemmas.List.Elements.{All-set}
 use Rattle.std.proofs.lemmas.Option.{slice_get_read}
-use Rattle.ebpf_base.proofs.Walks.{rest_more}
+use Rattle.ebpf_base.proofs.Lists.{rest_more}
 use Rattle.ebpf_base.specs.Faults.{first_of}
 use Rattle.ebpf_ext.specs.declared.ext_infos.bpf_func_info.{bpf_func_info}
 use Rattle.ebpf_ext.specs.declared.ext_infos.bpf_line_info.{bpf_line_info}

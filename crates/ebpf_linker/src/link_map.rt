@@ -95,7 +95,7 @@ fn reference_at(body: &[bpf_insn], call: Call, bases: &[usize], base: usize) -> 
 }
 
 // Adds the references of a function whose copy begins at a base.
-#[tactic(auto, using(crate::proofs::Walks::reference_here, crate::proofs::Walks::no_linked_reference, ebpf_base::proofs::Walks::rest_none))]
+#[tactic(auto, using(crate::proofs::Walks::reference_here, crate::proofs::Walks::no_linked_reference, ebpf_base::proofs::Lists::rest_none))]
 fn add_references(
     references: &mut Vec<Reference>,
     body: &[bpf_insn],

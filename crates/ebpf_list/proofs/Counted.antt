@@ -3,14 +3,13 @@ use Rattle.std.proofs.Common.{◌≡◌, ℕ, ◌+◌, ◌-◌, ◌^◌, ◌<◌
 use Rattle.std.specs.Prelude.{count_by, min, slice_index_or, unwrap_or}
 use Rattle.std.proofs.lemmas.List.{get_or_default}
 use Rattle.std.proofs.lemmas.List.Sums.{sum_by-append, sum_by-cons}
-use Rattle.ebpf_base.proofs.Walks.{rest_more}
+use Rattle.ebpf_base.proofs.Lists.{rest_more}
 use Rattle.ebpf_ext.specs.declared.relocation.Relocation.{Relocation}
 use Rattle.std.specs.BTreeMap.{BTreeMap, Updates, get}
 use Rattle.std.specs.Cmp.{IsTotalOrder, nat_cmp_total, on_total, then_total}
 use Rattle.std.specs.FinMap.{from_entries, get_tied}
 use Rattle.std.specs.Ordering.{eq_by_cmp}
-use Rattle.ebpf_base.proofs.Maps.{get-view}
-use Rattle.ebpf_base.proofs.Orderings.{is_equal}
+use Rattle.ebpf_base.proofs.Maps.{get-view, is_equal}
 use Rattle.ebpf_list.specs.PrivateContracts.{CountsMore, with_one}
 use Rattle.ebpf_list.specs.RecordCounts.{asked_cmp, asks, count_at, kind_cmp, section_records}
 use Rattle.ebpf_report.specs.contracts.kinds.KindOrd.TheImpl.Laws as kind_laws

@@ -1,6 +1,3 @@
-pub mod ReachedKeys
+pub mod Using
 pub mod Counted
 pub mod Listed
-pub mod MadeLayouts
-pub mod Noted
-pub mod Using

@@ -1,19 +1,26 @@
-//! What the programs of an object are made of.
+//! What the programs of an object are made of, and the functions that none of them reaches.
 
-ghost use Rattle.std.specs.Prelude.{◌≡◌, false, IfOk, MatchBool, MatchOption};
-ghost use Rattle.std.specs.List.{AllZip};
-ghost use Rattle.ebpf_list.specs.Layouts.{AreLayouts, IsLayout, IsOfCopies, IsOfOne};
+ghost use Rattle.std.specs.Prelude.{◌≡◌, false, IfOk, MatchBool, MatchOption, [], fold, not, OnOk};
+ghost use Rattle.std.specs.List.{AllZip, filter};
+ghost use Rattle.std.specs.BTreeSet.{contains, insert_key};
+ghost use Rattle.std.specs.Map.{keys_of};
+ghost use Rattle.ebpf_list.specs.Listings.{AreLayouts, IsLayout, IsOfCopies, IsOfOne, unreached_keys, WritesExterns};
 ghost use Rattle.ebpf_model.specs.Memory.{is_memory_at};
 ghost use Rattle.ebpf_object.specs.Headline.{linkable};
 ghost use Rattle.ebpf_reloc.specs.SlotTargets.{read};
+ghost use Rattle.ebpf_base.specs.Maps.{key_cmp};
+ghost use Rattle.ebpf_list.specs.PrivateContracts.{reached_keys};
+ghost use Rattle.ebpf_report.specs.ObjectPrograms.{known_externs};
+ghost use Rattle.std.specs.FinMap as finite;
 
-use crate::written_externs::is_memory;
-use ebpf_base::Items;
-use ebpf_model::EbpfRelocationError;
+use ebpf_base::{ByName, Items, Text};
+use ebpf_model::{EbpfRelocationError, ExternDesc, RelocationError};
 use ebpf_object::Object;
 use ebpf_object::relocation::{CodeCopy, LinkMap, ProgramMaps};
 use ebpf_report::programs::ObjectProgram;
+use ebpf_report::unknown_externs::{add_settings, add_unknown};
 use std::alloc::{AllocError, Global};
+use std::collections::BTreeSet;
 
 /// What a program is made of.
 #[derive(Drop)]
@@ -153,5 +160,101 @@ pub fn layouts_if(
         layouts(alloc, object, programs)
     } else {
         unlinked_layouts(alloc, programs)
+    }
+}
+
+/// Adds the functions of a program.
+fn add_reached(
+    reached: &mut BTreeSet<(usize, u64)>,
+    functions: &[(usize, u64)],
+) -> Result<(), AllocError>
+    ensures { OnOk result (reached.new.keys ≡ fold (insert_key key_cmp) reached.old.keys functions.now) }
+{
+    for function in functions {
+        reached.insert(*function)?;
+    }
+    Ok(())
+}
+
+/// The keys of the functions that some program reaches.
+fn reached_by_some(alloc: Global, layouts: &[Layout]) -> Result<BTreeSet<(usize, u64)>, AllocError>
+    ensures { IfOk result (λ reached. reached.keys ≡ fold (insert_key key_cmp) [] (reached_keys layouts.now)) }
+{
+    let mut reached = BTreeSet::new(alloc);
+    for layout in layouts {
+        add_reached(&mut reached, layout.functions.as_slice())?;
+    }
+    Ok(reached)
+}
+
+/// The keys of an object's functions that aren't among some keys.
+fn keys_beside(
+    alloc: Global,
+    object: &Object,
+    reached: &BTreeSet<(usize, u64)>,
+) -> Result<Vec<(usize, u64)>, AllocError>
+    ensures { IfOk result (λ keys. keys.items ≡ filter (λ key. not (contains key_cmp reached.now key)) (keys_of (finite.entries object.now.functions))) }
+{
+    let mut keys = Vec::new(alloc);
+    for (key, _) in object.functions.iter() {
+        if reached.contains(key) {
+            continue;
+        }
+        keys.push(*key)?;
+    }
+    Ok(keys)
+}
+
+/// The keys of the functions that no program reaches.
+pub fn unreached(
+    alloc: Global,
+    object: &Object,
+    layouts: &[Layout],
+) -> Result<Vec<(usize, u64)>, AllocError>
+    ensures { IfOk result (λ keys. keys.items ≡ unreached_keys object.now layouts.now) }
+{
+    let reached = reached_by_some(alloc, layouts)?;
+    keys_beside(alloc, object, &reached)
+}
+
+/// Whether memory was refused.
+pub fn is_memory(error: &EbpfRelocationError) -> bool
+    ensures { result ≡ is_memory_at error.now }
+{
+    matches!(error.error, RelocationError::OutOfMemory)
+}
+
+/// The externs of an object as if a kernel had them all.
+fn all_known(
+    alloc: Global,
+    object: &Object,
+    settings: &[Text],
+) -> Result<ByName<ExternDesc>, AllocError>
+    ensures { IfOk result (λ known. known ≡ known_externs object.now.externs settings.now) }
+{
+    let mut known = ByName::new(alloc);
+    add_unknown(&object.externs, &mut known)?;
+    add_settings(settings, &mut known)?;
+    Ok(known)
+}
+
+/// Writes externs as if a kernel had them all, so that what calls them counts as no reference to a function; whether they
+/// could be written.
+pub fn write_externs(
+    alloc: Global,
+    object: &mut Object,
+    settings: &[Text],
+) -> Result<bool, AllocError>
+    ensures { IfOk result (λ is_written. WritesExterns object.old settings.now object.new is_written) }
+{
+    object.externs = all_known(alloc, object, settings)?;
+    match object.relocate_externs() {
+        Ok(()) => Ok(true),
+        Err(error) => {
+            if is_memory(&error) {
+                return Err(AllocError);
+            }
+            Ok(false)
+        }
     }
 }

@@ -2,16 +2,12 @@
 
 ghost use Rattle.std.specs.Prelude.{◌≡◌, IfOk};
 ghost use Rattle.std.specs.Option.{option_copied};
-ghost use Rattle.ebpf_list.specs.ExternRows.{extern_row, extern_rows, is_func, is_function};
-ghost use Rattle.ebpf_list.specs.Listings.{AreObjectLayouts, IsListed, IsListing, IsWanted};
+ghost use Rattle.ebpf_list.specs.Listings.{extern_row, extern_rows, is_func, is_function, AreObjectLayouts, IsListed, IsListing, IsWanted};
 ghost use Rattle.ebpf_object.specs.declared.object.Object.{Object};
 
-use crate::helpers::helper_users;
-use crate::layout::{Layout, layouts_if};
-use crate::maps::map_users;
-use crate::reaching::unreached;
+use crate::layout::{Layout, layouts_if, unreached, write_externs};
 use crate::records::{Asked, counted_records};
-use crate::written_externs::write_externs;
+use crate::users::{helper_users, map_users};
 use ebpf_base::{ByKey, ByName, ByNumber, Items, Text};
 use ebpf_btf::{Btf, BtfError, BtfType};
 use ebpf_elf::ElfFile;
@@ -131,7 +127,7 @@ pub struct Listing<'a> {
 }
 
 /// Whether the type of an id is a function.
-#[tactic(auto, unfolding(crate::specs::ExternRows::is_func))]
+#[tactic(auto, unfolding(crate::specs::Listings::is_func))]
 fn is_func(types: &Btf, id: u32) -> bool
     ensures { result ≡ is_func types.now id }
 {

@@ -9,9 +9,9 @@ use Rattle.std.proofs.lemmas.Str.{IsUtf8-from_is_utf8, is_utf8-from_IsUtf8}
 use Rattle.std.proofs.lemmas.Str.Pattern.{starts_text}
 use denote.Ref.{Bor}
 use Rattle.ebpf_base.proofs.Faults.{or_else-assoc}
-use Rattle.ebpf_base.proofs.Walks.{rest_more}
+use Rattle.ebpf_base.proofs.Lists.{rest_more}
 use Rattle.ebpf_base.specs.Faults.{first_some, or_else}
-use Rattle.ebpf_loading.specs.Texts.{as_text, without_prefix}
+use Rattle.ebpf_loading.specs.KernelNumbers.{as_text, without_prefix}
 
 -- what was found or the item has, or else what is left behind it
 pub found_more : {X Y : Type 0} (f : X → Option Y) (found next : Option Y) (xs : List X) (i : ℕ) (x : X) → i < length xs

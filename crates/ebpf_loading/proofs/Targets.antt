@@ -7,12 +7,12 @@ use Rattle.std.proofs.lemmas.Bool.{and_parts, cases_Bool, eqb-true, not-true, or
 use Rattle.std.proofs.lemmas.Slice.Eq.{bytes_eq-Decides}
 use Rattle.std.specs.Option.{option_map_or}
 use Rattle.ebpf_loading.specs.AttachTargets.{targets, WantedAsKinds}
-use Rattle.ebpf_loading.specs.declared.target.TargetKind.{TargetKind}
+use Rattle.ebpf_loading.specs.declared.attach.TargetKind.{TargetKind}
 use Rattle.ebpf_parts.proofs.ProgramKinds.{has_slash, own_piece, target_piece, of_longest}
 use Rattle.ebpf_parts.specs.ProgramTypes.{name_fits, has_target, row_name, first_piece, is_marked, longer, longest_fit, program_kind, unmarked, lookup_piece}
 use Rattle.ebpf_parts.specs.declared.programs.kind.NamedKind.{NamedKind}
 use Rattle.ebpf_parts.specs.declared.programs.kind.ProgramKind.{ProgramKind}
-use Rattle.ebpf_parts.specs.declared.programs.named_kinds.TheConstants.{NAMED_KINDS}
+use Rattle.ebpf_parts.specs.declared.programs.kind.TheConstants.{NAMED_KINDS}
 
 abbrev length_before : List ℕ → ℕ
 length_before name = position_or_len (λ b. b == 47) name

@@ -7,11 +7,11 @@ use Rattle.ebpf_btf.specs.Strings.{id_of_name}
 use Rattle.ebpf_btf.specs.TypeInfo.{TypeInfo}
 use Rattle.ebpf_btf.specs.declared.kind.BtfKind.{BtfKind}
 use Rattle.ebpf_btf.specs.declared.kind.BtfKind.TheVariants as kinds
-use Rattle.ebpf_loading.specs.Texts.{without_prefix}
+use Rattle.ebpf_loading.specs.KernelNumbers.{without_prefix}
 use Rattle.ebpf_loading.specs.declared.attach.AttachTarget.{AttachTarget}
 use Rattle.ebpf_loading.specs.declared.attach.AttachTarget.TheVariants.{NotWanted, Unnamed, Found, NotFound}
-use Rattle.ebpf_loading.specs.declared.target.TargetKind.{TargetKind}
-use Rattle.ebpf_loading.specs.declared.target.TargetKind.TheVariants.{TracePoint, SecurityHook, Iterator, Function}
+use Rattle.ebpf_loading.specs.declared.attach.TargetKind.{TargetKind}
+use Rattle.ebpf_loading.specs.declared.attach.TargetKind.TheVariants.{TracePoint, SecurityHook, Iterator, Function}
 use Rattle.ebpf_parts.specs.ProgramTypes.{unmarked, first_piece, lookup_piece, program_kind}
 use Rattle.ebpf_parts.specs.declared.programs.kind.ProgramKind.{ProgramKind}
 

@@ -1,16 +1,28 @@
--- The numbers that a kernel knows, by the enumerators of its types (the kernel's include/uapi/linux/bpf.h, enum
--- bpf_func_id and enum bpf_map_type).
-use Rattle.std.specs.Prelude.{ℕ, Bool, not, ◌&&◌, ◌==◌, List, [], codes, Option, Some, None, option_map, drop, find, if◌then◌else◌}
-use Rattle.std.specs.List.{list_any}
+-- The numbers that a kernel knows, by the enumerators of its types (the kernel's include/uapi/linux/bpf.h, enum bpf_func_id and enum bpf_map_type).
+use Rattle.std.specs.Prelude.{ℕ, List, length, drop, nat_eq, Option, Some, None, if◌then◌else◌, Bool, not, ◌&&◌, ◌==◌, [], codes, option_map, find}
+use Rattle.std.specs.List.{starts_with, list_any}
+use Rattle.std.specs.Str.{is_utf8}
 use Rattle.std.specs.Option.{option_and_then}
 use Rattle.ebpf_base.specs.Faults.{first_some}
 use Rattle.ebpf_btf.specs.Strings.{before_zero, is_named, is_text, text_at}
 use Rattle.ebpf_btf.specs.TypeInfo.{TypeInfo}
-use Rattle.ebpf_btf.specs.declared.kind.BtfKind.TheVariants as kinds
 use Rattle.ebpf_btf.specs.declared.members.BtfEnum.{BtfEnum}
 use Rattle.ebpf_btf.specs.declared.types.BtfType.{BtfType}
 use Rattle.ebpf_btf.specs.declared.types.BtfType.TheVariants.{Enum}
-use Rattle.ebpf_loading.specs.Texts.{as_text, without_prefix}
+use Rattle.ebpf_btf.specs.declared.kind.BtfKind.TheVariants as kinds
+
+-- ---- texts that begin with another.
+
+-- what stands behind a prefix, where a text begins with it
+abbrev pub without_prefix : List ℕ → List ℕ → Option (List ℕ)
+without_prefix prefix text = if starts_with nat_eq text prefix then Some (drop (length prefix) text) else None
+
+-- bytes that are a text
+abbrev pub as_text : List ℕ → Option (List ℕ)
+as_text bytes = if is_utf8 bytes then Some bytes else None
+
+-- ---- the numbers that a kernel knows, by the enumerators of its types (the kernel's include/uapi/linux/bpf.h, enum
+-- bpf_func_id and enum bpf_map_type).
 
 -- the enumerators of an ENUM
 unfoldable pub enumerators_of : BtfType → List BtfEnum

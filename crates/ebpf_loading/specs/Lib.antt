@@ -1,4 +1,3 @@
 pub mod AttachTargets
 pub mod KernelNumbers
 pub mod MapTypeIds
-pub mod Texts

@@ -10,9 +10,9 @@ use Rattle.ebpf_btf.specs.declared.kind.BtfKind.TheVariants as kinds
 use Rattle.ebpf_parts.specs.Maps.{map_type_of}
 use Rattle.ebpf_parts.specs.declared.maps.either.Map.{Map}
 use Rattle.ebpf_parts.specs.declared.maps.either.Map.TheVariants.{Legacy, Btf}
-use Rattle.ebpf_parts.specs.declared.maps.legacy.LegacyMap.{LegacyMap}
-use Rattle.ebpf_parts.specs.declared.section_kind.EbpfSectionKind.{EbpfSectionKind}
-use Rattle.ebpf_parts.specs.declared.section_kind.EbpfSectionKind.TheVariants.{Data, Rodata, Bss}
+use Rattle.ebpf_parts.specs.declared.maps.either.LegacyMap.{LegacyMap}
+use Rattle.ebpf_parts.specs.declared.section.EbpfSectionKind.{EbpfSectionKind}
+use Rattle.ebpf_parts.specs.declared.section.EbpfSectionKind.TheVariants.{Data, Rodata, Bss}
 use Rattle.ebpf_loading.specs.declared.map_type_ids.MapTypeIds.{MapTypeIds}
 
 abbrev pub no_type_ids : MapTypeIds

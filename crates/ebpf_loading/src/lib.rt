@@ -6,7 +6,6 @@ mod attach;
 mod kernel_numbers;
 pub mod laws;
 mod map_type_ids;
-mod target;
 mod texts;
 
 pub use attach::{AttachTarget, attach_target};

@@ -4,7 +4,7 @@ ghost use Rattle.std.specs.Prelude.{◌≡◌};
 ghost use Rattle.std.specs.Option.{option_copied};
 ghost use Rattle.ebpf_btf.specs.Strings.{id_of_name, is_named};
 ghost use Rattle.ebpf_btf.specs.Types.{is_kind};
-ghost use Rattle.ebpf_loading.specs.Texts.{as_text, without_prefix};
+ghost use Rattle.ebpf_loading.specs.KernelNumbers.{as_text, without_prefix};
 
 use ebpf_btf::strings::is_text_at;
 use ebpf_btf::{Btf, BtfKind, BtfType};

@@ -11,8 +11,8 @@ use Rattle.std.specs.Ordering.{nat_cmp}
 use Rattle.std.proofs.lemmas.Bool.Decides.{nat_tests}
 use Rattle.std.proofs.lemmas.List.Kept.{IsStrictlySortedBy-filter}
 use Rattle.ebpf_base.proofs.Lists.{filter-map}
-use Rattle.ebpf_base.proofs.Sorted.{entries_rise}
-use Rattle.ebpf_base.specs.EntriesFrom.{entries_from}
+use Rattle.ebpf_base.proofs.Maps.{entries_rise}
+use Rattle.ebpf_base.specs.Maps.{entries_from}
 use Rattle.ebpf_elf.specs.declared.relocation.ElfRelocation.{ElfRelocation}
 use Rattle.ebpf_model.specs.declared.walk.Walk.{Walk}
 use Rattle.ebpf_model.specs.Walks.{found_at, entries_or_none, ahead_in, left, left_in, walked_relocations, is_passed, at_offset, IsBefore}

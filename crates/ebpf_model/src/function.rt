@@ -1,10 +1,11 @@
-//! The functions of an object.
+//! The functions and the programs of an object.
 
-ghost use Rattle.std.specs.Prelude.{◌≡◌, ◌+◌, ◌*◌, length, IfOk};
+ghost use Rattle.std.specs.Prelude.{◌≡◌, ◌+◌, ◌*◌, length};
 
 use ebpf_base::{Items, Text};
 use ebpf_elf::SectionIndex;
 use ebpf_ext::{FuncSecInfo, LineSecInfo};
+use ebpf_parts::ProgramSection;
 use ebpf_parts::insn::bpf_insn;
 use std::alloc::AllocError;
 
@@ -40,28 +41,6 @@ impl Function {
     }
 }
 
-/// A copy of func info.
-fn copy_func_info(info: &FuncSecInfo) -> Result<FuncSecInfo, AllocError>
-    ensures { IfOk result (λ copy. copy ≡ info.now) }
-{
-    Ok(FuncSecInfo {
-        sec_name_offset: info.sec_name_offset,
-        num_info: info.num_info,
-        func_info: info.func_info.copied()?,
-    })
-}
-
-/// A copy of line info.
-fn copy_line_info(info: &LineSecInfo) -> Result<LineSecInfo, AllocError>
-    ensures { IfOk result (λ copy. copy ≡ info.now) }
-{
-    Ok(LineSecInfo {
-        sec_name_offset: info.sec_name_offset,
-        num_info: info.num_info,
-        line_info: info.line_info.copied()?,
-    })
-}
-
 impl Clone for Function {
     ghost is_clone = { λ old copy. copy ≡ old };
 
@@ -72,10 +51,48 @@ impl Clone for Function {
             section_index: self.section_index,
             section_offset: self.section_offset,
             instructions: self.instructions.copied()?,
-            func_info: copy_func_info(&self.func_info)?,
-            line_info: copy_line_info(&self.line_info)?,
+            func_info: self.func_info.clone()?,
+            line_info: self.line_info.clone()?,
             func_info_rec_size: self.func_info_rec_size,
             line_info_rec_size: self.line_info_rec_size,
+        })
+    }
+}
+
+/// A program: the function that its key names, and how it is attached.
+#[derive(Debug, Drop)]
+pub struct Program {
+    /// The object's license, without its zero byte.
+    pub license: Items<u8>,
+    /// The kernel version that it is for, where the object states one.
+    pub kernel_version: Option<u32>,
+    /// Its kind.
+    pub section: ProgramSection,
+    /// The index of its section.
+    pub section_index: usize,
+    /// Its address, as its symbol states it.
+    pub address: u64,
+}
+
+impl Program {
+    /// The key of its function: the index of its section, and its address.
+    pub fn function_key(&self) -> (usize, u64)
+        ensures { result ≡ (self.now.section_index, self.now.address) }
+    {
+        (self.section_index, self.address)
+    }
+}
+
+impl Clone for Program {
+    ghost is_clone = { λ old copy. copy ≡ old };
+
+    fn clone(&self) -> Result<Program, AllocError> {
+        Ok(Program {
+            license: self.license.copied()?,
+            kernel_version: self.kernel_version,
+            section: self.section,
+            section_index: self.section_index,
+            address: self.address,
         })
     }
 }

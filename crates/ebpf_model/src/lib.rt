@@ -3,16 +3,12 @@
 #![tactic(auto)]
 
 mod error;
-mod extern_desc;
 mod function;
-mod program;
 mod symbol;
 mod walk;
 
 pub use ebpf_parts::Relocation;
 pub use error::{EbpfRelocationError, RelocationError};
-pub use extern_desc::ExternDesc;
-pub use function::Function;
-pub use program::Program;
-pub use symbol::Symbol;
+pub use function::{Function, Program};
+pub use symbol::{ExternDesc, Symbol};
 pub use walk::Walk;

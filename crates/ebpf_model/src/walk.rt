@@ -1,9 +1,9 @@
 //! A walk over the relocations of sections, in step with functions and their slots.
 
 ghost use Rattle.std.specs.Prelude.{◌≡◌, ◌+◌, ◌*◌, ◌≤◌, ◌^◌, length, [], ◌∷◌, MatchOption, false};
-ghost use Rattle.std.specs.FinMap.{get, entries};
+ghost use Rattle.std.specs.FinMap.{get};
 ghost use Rattle.std.specs.Option.{option_copied};
-ghost use Rattle.ebpf_base.specs.EntriesFrom.{entries_from};
+ghost use Rattle.ebpf_base.specs.Maps.{entries_from};
 ghost use Rattle.ebpf_model.specs.Walks.{found_at, at_offset, ahead_in, entries_or_none, left, left_in, walked_relocations, is_passed, IsBefore, IsWithinFunction};
 
 use crate::function::Function;

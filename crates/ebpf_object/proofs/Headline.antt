@@ -7,11 +7,11 @@ use Rattle.std.specs.Cmp.{eq_by_cmp_equiv}
 use Rattle.std.specs.FinMap.{FinMap, get, entries, find, get-entries}
 use Rattle.std.specs.List.{list_any}
 use Rattle.std.specs.Ordering.{eq_by_cmp}
-use Rattle.ebpf_base.specs.Keys.{text_cmp, key_cmp, key_total}
+use Rattle.ebpf_base.specs.Maps.{text_cmp, key_cmp, key_total}
 use Rattle.ebpf_ext.specs.ExtReading.{ExtInfo}
 use Rattle.ebpf_btf.specs.TypeInfo.{TypeInfo}
 use Rattle.ebpf_core_relo.proofs.RecordRuns.{put_slots_stand, records_alone_are_carried}
-use Rattle.ebpf_core_relo.specs.Alone.{Touches, Carries}
+use Rattle.ebpf_core_relo.specs.RecordOutcomes.{Touches, Carries}
 use Rattle.ebpf_core_relo.specs.Records.{Written, own_slots, slots_so_far, slots_written, with_slots}
 use Rattle.ebpf_ksyms.specs.Sources.{Source}
 use Rattle.ebpf_linker.specs.Functions.{or_empty}
@@ -24,7 +24,7 @@ use Rattle.ebpf_object.specs.Prepared.{IsPrepared, Stages}
 use Rattle.ebpf_object.specs.Stages.{RelocatesTypes, LinksPrograms, Resolves, fds_written, with_externs_if, own_maps, Chosen, Descriptor}
 use Rattle.ebpf_object.specs.Names.{has_function_in}
 use Rattle.ebpf_object.specs.declared.object.Object.{Object}
-use Rattle.ebpf_model.specs.declared.program.Program.{Program}
+use Rattle.ebpf_model.specs.declared.function.Program.{Program}
 use Rattle.ebpf_parts.specs.declared.insn.bpf_insn.{bpf_insn}
 use Rattle.ebpf_reloc.proofs.OneResult.{copied_slots_stay}
 use Rattle.ebpf_reloc.specs.Linking as linking

@@ -11,9 +11,9 @@ use Rattle.std.proofs.lemmas.Map.Keys.{IsDistinct-from_sorted}
 use Rattle.std.proofs.lemmas.Map.Lookups.{exact_unsigned}
 use Rattle.std.proofs.lemmas.Map.Views.{tells_apart}
 use Rattle.ebpf_base.specs.Faults.{or_else}
-use Rattle.ebpf_base.specs.Keys.{text_cmp, text_total}
+use Rattle.ebpf_base.specs.Maps.{text_cmp, text_total}
 use Rattle.ebpf_base.proofs.Faults.{or_else-None, or_else-assoc}
-use Rattle.ebpf_base.proofs.Sorted.{entries_rise}
+use Rattle.ebpf_base.proofs.Maps.{entries_rise}
 use Rattle.ebpf_object.specs.Names.{with_map_name, with_map_names}
 use Rattle.ebpf_object.specs.Patches.{first_map}
 use Rattle.ebpf_parts.specs.Maps.{section_index_of}

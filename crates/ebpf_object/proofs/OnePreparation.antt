@@ -6,10 +6,9 @@ use Rattle.std.proofs.lemmas.Bool.{or_parts, MatchBool-at_true, MatchBool-at_fal
 use Rattle.std.specs.Cmp.{eq_by_cmp_equiv}
 use Rattle.std.specs.Ordering.{eq_by_cmp}
 use Rattle.ebpf_base.proofs.Maps.{key_exact}
-use Rattle.ebpf_base.specs.Keys.{key_cmp, key_total}
+use Rattle.ebpf_base.specs.Maps.{key_cmp, key_total}
 use Rattle.ebpf_btf.specs.TypeInfo.{TypeInfo}
-use Rattle.ebpf_core_relo.specs.Answers.{without_texts_at}
-use Rattle.ebpf_core_relo.specs.Records.{Written, with_slots}
+use Rattle.ebpf_core_relo.specs.Records.{without_texts_at, Written, with_slots}
 use Rattle.ebpf_core_relo.specs.declared.error.BtfRelocationError.{BtfRelocationError}
 use Rattle.ebpf_ksyms.specs.Externs as resolution
 use Rattle.ebpf_ksyms.specs.Sources.{Reader}

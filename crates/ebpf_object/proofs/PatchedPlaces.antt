@@ -4,8 +4,8 @@ use Rattle.std.specs.FinMap.{FinMap, get, get-insert, nat_cmp-IsAntisymmetric, s
 use Rattle.std.specs.Ordering.{eq_by_cmp}
 use Rattle.std.specs.Cmp.{eq_by_cmp_equiv}
 use Rattle.std.proofs.lemmas.Bool.{cases_lt}
-use Rattle.ebpf_base.specs.Keys.{text_cmp, text_total}
-use Rattle.ebpf_base.proofs.Orderings.{is_equal}
+use Rattle.ebpf_base.specs.Maps.{text_cmp, text_total}
+use Rattle.ebpf_base.proofs.Maps.{is_equal}
 use Rattle.ebpf_parts.specs.Maps.{bytes_of, with_bytes}
 use Rattle.ebpf_parts.specs.declared.maps.either.Map.{Map}
 use Rattle.ebpf_parts.specs.declared.maps.either.Map.TheVariants.{Legacy, Btf}

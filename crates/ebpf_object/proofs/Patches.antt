@@ -9,9 +9,9 @@ use Rattle.std.specs.Option.{is_some}
 use Rattle.std.specs.declared.cmp.Ordering.TheVariants.{Less}
 use Rattle.std.proofs.lemmas.Map.Keys.{sorted_head, sorted_tail}
 use Rattle.ebpf_base.proofs.Faults.{both_None}
-use Rattle.ebpf_base.proofs.Sorted.{entries_rise}
+use Rattle.ebpf_base.proofs.Maps.{entries_rise}
 use Rattle.ebpf_base.specs.Faults.{first_some, fault_of}
-use Rattle.ebpf_base.specs.Keys.{text_cmp}
+use Rattle.ebpf_base.specs.Maps.{text_cmp}
 use Rattle.ebpf_model.specs.declared.symbol.Symbol.{Symbol}
 use Rattle.ebpf_object.proofs.PatchedPlaces.{one_or_other, patched_beside, patched_within, patched_long, all_long, all_but}
 use Rattle.ebpf_object.specs.Patches.{PatchValue, overwritten, with_patch, patched_at, Global, all_patched, map_data_of, patches_in, patches_at, patch_of, by_symbol, of_symbol, in_map, map_in_section, symbol_named, patches_of, byte_at, Covers, GreatestNameStands, OtherBytesStay, LengthsStay, MapsStay, patch_fault_at, PatchesAreValues, ValuesArePatches}

@@ -8,12 +8,11 @@ use Rattle.std.specs.Map.{keys_of}
 use Rattle.std.specs.Ordering.{eq_by_cmp}
 use Rattle.std.proofs.lemmas.Map.Keys.{IsDistinct-from_sorted}
 use Rattle.std.proofs.lemmas.List.{append_assoc}
-use Rattle.ebpf_base.proofs.Lists.{flat_map-same}
-use Rattle.ebpf_base.proofs.Sorted.{entries_rise}
-use Rattle.ebpf_base.proofs.Walks.{rest_more}
-use Rattle.ebpf_base.specs.Keys.{text_cmp, text_total, lent_bytes, key_cmp, key_total}
+use Rattle.ebpf_base.proofs.Lists.{flat_map-same, rest_more}
+use Rattle.ebpf_base.proofs.Maps.{entries_rise}
+use Rattle.ebpf_base.specs.Maps.{text_cmp, text_total, lent_bytes, key_cmp, key_total}
 use Rattle.ebpf_model.specs.declared.function.Function.{Function}
-use Rattle.ebpf_model.specs.declared.program.Program.{Program}
+use Rattle.ebpf_model.specs.declared.function.Program.{Program}
 use Rattle.ebpf_object.specs.LinkedPrograms.{program_value, programs_in_order, is_program_key, MapsTellOfLinked}
 use Rattle.ebpf_object.specs.PrivateContracts.{program_if, program_with}
 use Rattle.ebpf_reloc.proofs.OneResult.{link_maps_match, any_at}

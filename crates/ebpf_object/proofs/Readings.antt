@@ -10,9 +10,8 @@ use Rattle.std.proofs.Math.Bool.{and-false}
 use Rattle.std.proofs.lemmas.Bool.{false≢true}
 use Rattle.std.proofs.lemmas.Map.Text.{is_eq-slice_cmp}
 use Rattle.std.proofs.lemmas.Slice.Eq.{bytes_eq-Decides}
-use Rattle.ebpf_base.proofs.Keyed.{later_text_stands}
-use Rattle.ebpf_base.specs.Keyed.{put_all, last_at}
-use Rattle.ebpf_base.specs.Keys.{text_cmp}
+use Rattle.ebpf_base.proofs.Mapped.{later_text_stands}
+use Rattle.ebpf_base.specs.Maps.{put_all, last_at, text_cmp}
 use Rattle.ebpf_btf.specs.TypeInfo.{TypeInfo}
 use Rattle.ebpf_elf.specs.Names.{is_name}
 use Rattle.ebpf_elf.specs.Sections.{SectionOf, sections, section_name}

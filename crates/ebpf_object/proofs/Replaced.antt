@@ -7,11 +7,10 @@ use Rattle.std.specs.List.Sorted.{IsStrictlySortedBy}
 use Rattle.std.specs.Map.{keys_of}
 use Rattle.std.specs.Ordering.{eq_by_cmp, is_eq}
 use Rattle.std.specs.declared.cmp.Ordering.TheVariants.{Less}
-use Rattle.ebpf_base.proofs.Maps.{key_exact}
-use Rattle.ebpf_base.specs.Keys.{key_cmp, key_total}
+use Rattle.ebpf_base.proofs.Maps.{key_exact, is_equal}
+use Rattle.ebpf_base.specs.Maps.{key_cmp, key_total}
 use Rattle.ebpf_object.specs.LinkedPrograms.{is_program_key, ProgramsAreLinked}
 use Rattle.ebpf_object.specs.PrivateContracts.{replaced}
-use Rattle.ebpf_base.proofs.Orderings.{is_equal}
 use Rattle.ebpf_reloc.specs.Linking.{ProgramValue, IsLinked, AreLinked}
 use Rattle.ebpf_reloc.specs.SlotTargets.{LinkableValue}
 use Rattle.ebpf_model.specs.Symbols.{FunctionKey}

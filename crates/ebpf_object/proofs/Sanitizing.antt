@@ -4,8 +4,7 @@ use Rattle.std.specs.Prelude.{option_map, pos, MatchBool}
 use Rattle.std.specs.FinMap.{FinMap, get, same_map}
 use Rattle.ebpf_base.proofs.Mapped.{get-map_values}
 use Rattle.ebpf_base.proofs.Maps.{key_exact}
-use Rattle.ebpf_base.specs.Keys.{key_cmp, key_total}
-use Rattle.ebpf_base.specs.Mapped.{map_values}
+use Rattle.ebpf_base.specs.Maps.{key_cmp, key_total, map_values}
 use Rattle.ebpf_model.specs.declared.function.Function.{Function}
 use Rattle.ebpf_object.specs.OlderHelpers.{sanitized, reads_bytes, reads_text, older, have_newer, TwiceIsOnce}
 use Rattle.ebpf_parts.specs.Slots.{is_helper_call}

@@ -4,8 +4,8 @@ use Rattle.std.specs.Prelude.{MatchBool, Result, Ok, Err, OnOk, IfOk, IfErr, IsE
 use Rattle.std.proofs.lemmas.List.{append_assoc, map-append}
 use Rattle.std.specs.FinMap.{FinMap, get}
 use Rattle.std.specs.List.{cons_option}
-use Rattle.ebpf_base.proofs.Walks.{rest_more}
-use Rattle.ebpf_base.specs.Keys.{text_cmp}
+use Rattle.ebpf_base.proofs.Lists.{rest_more}
+use Rattle.ebpf_base.specs.Maps.{text_cmp}
 use Rattle.ebpf_ksyms.specs.Sources.{Source}
 use Rattle.ebpf_object.specs.Objects.{object_as, parse_fault_as}
 use Rattle.ebpf_object.specs.Prepared.{Stages, before_calls, before_externs, before_resolution, before_maps, IsStageFault, IsFirstPrepareFault, IsPrepared, IsParsed, RefusesPreparing, NamesNothing, is_prepare_memory}

@@ -20,7 +20,7 @@ use Rattle.std.specs.declared.string.String.{String}
 use denote.Ref.{Bor}
 use Rattle.ebpf_base.proofs.Maps.{get-view}
 use Rattle.ebpf_base.proofs.TextMaps.{entries-text}
-use Rattle.ebpf_base.specs.Keys.{text_cmp, text_total, lent_bytes, by_bytes}
+use Rattle.ebpf_base.specs.Maps.{text_cmp, text_total, lent_bytes, by_bytes}
 use Rattle.ebpf_object.specs.Patches.{global_of, globals_of, overwritten}
 use Rattle.ebpf_passes.specs.Maps.{GivenMap, LentMap, given_map}
 use Rattle.ebpf_passes.specs.Passes.{HoldsOfGivenMaps}

@@ -14,7 +14,7 @@ use Rattle.std.specs.FinMap.{get}
 use Rattle.ebpf_ext.specs.ExtReading.{ExtInfo}
 use Rattle.ebpf_btf.specs.TypeInfo.{TypeInfo}
 use Rattle.ebpf_ext.specs.declared.relocation.Relocation.{Relocation}
-use Rattle.ebpf_core_relo.specs.Alone.{records_with_sections, Touches, WritesAlone, Carries}
+use Rattle.ebpf_core_relo.specs.RecordOutcomes.{records_with_sections, Touches, WritesAlone, Carries}
 use Rattle.ebpf_core_relo.specs.Records.{RelocationInputs, Written, own_slots, relocation_inputs_between, slots_written}
 use Rattle.ebpf_ksyms.specs.Sources.{Source}
 use Rattle.ebpf_linker.specs.Functions.{Functions, Nothing, BeginsAt}
@@ -25,7 +25,7 @@ use Rattle.ebpf_object.specs.Prepared.{IsPrepared}
 use Rattle.ebpf_object.specs.Stages.{own_maps, Chosen}
 use Rattle.ebpf_object.specs.Names.{has_function_in}
 use Rattle.ebpf_object.specs.declared.object.Object.{Object}
-use Rattle.ebpf_model.specs.declared.program.Program.{Program}
+use Rattle.ebpf_model.specs.declared.function.Program.{Program}
 use Rattle.ebpf_parts.specs.declared.insn.bpf_insn.{bpf_insn}
 use Rattle.ebpf_parts.specs.declared.reading.Reading.{Reading}
 use Rattle.ebpf_reloc.specs.Linking.{IsLinked}

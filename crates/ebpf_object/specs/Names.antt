@@ -3,7 +3,7 @@ use Rattle.std.specs.Prelude.{ℕ, ◌==◌, List, Option, option_and_then, Some
 use Rattle.std.specs.List.{find, list_any}
 use Rattle.std.specs.FinMap.{FinMap, entries, get, insert, contains_key}
 use Rattle.std.specs.Ordering.{nat_cmp}
-use Rattle.ebpf_base.specs.Keys.{key_cmp, text_cmp}
+use Rattle.ebpf_base.specs.Maps.{key_cmp, text_cmp}
 use Rattle.ebpf_elf.specs.Sections.{sections, section_name}
 use Rattle.ebpf_model.specs.Symbols.{TextSections}
 use Rattle.ebpf_model.specs.declared.function.Function.{Function}

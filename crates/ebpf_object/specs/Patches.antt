@@ -8,8 +8,7 @@ use Rattle.std.specs.Ordering.{nat_cmp}
 use Rattle.std.specs.declared.cmp.Ordering.TheVariants.{Less}
 use denote.Ref.{Bor}
 use Rattle.ebpf_base.specs.Faults.{first_some, fault_of}
-use Rattle.ebpf_base.specs.Keyed.{put_all}
-use Rattle.ebpf_base.specs.Keys.{text_cmp}
+use Rattle.ebpf_base.specs.Maps.{put_all, text_cmp}
 use Rattle.ebpf_model.specs.declared.symbol.Symbol.{Symbol}
 use Rattle.ebpf_parts.specs.Maps.{bytes_of, with_bytes, section_index_of}
 use Rattle.ebpf_parts.specs.declared.error.ParseError.{ParseError}

@@ -1,8 +1,8 @@
 -- A file, prepared: its object after the chosen stages, one after the other, or the fault of the first that has one.
 use Rattle.std.specs.Prelude.{◌≡◌, ⊤, ℕ, Bool, true, false, List, [], Some, None, MatchBool, ◌||◌, Result, Ok, Err}
-use Rattle.ebpf_core_relo.specs.Answers.{without_texts_at}
-use Rattle.ebpf_core_relo.specs.Answers as types_relocation
-use Rattle.ebpf_ksyms.specs.Faults as resolving
+use Rattle.ebpf_core_relo.specs.Records.{without_texts_at}
+use Rattle.ebpf_core_relo.specs.Records as types_relocation
+use Rattle.ebpf_ksyms.specs.Addresses as resolving
 use Rattle.ebpf_ksyms.specs.Sources.{Source, Reader}
 use Rattle.ebpf_ksyms.specs.declared.error.KsymsError.{KsymsError}
 use Rattle.ebpf_ksyms.specs.declared.error.KsymsError.TheVariants.{KallsymsAccessError}

@@ -1,8 +1,8 @@
 -- What contracts of private functions name and no public one.
 use Rattle.std.specs.Prelude.{ℕ, List, [], ◌∷◌, Option, Some, None}
 use Rattle.std.specs.FinMap.{FinMap, get}
-use Rattle.ebpf_base.specs.Keys.{text_cmp}
-use Rattle.ebpf_model.specs.declared.program.Program.{Program}
+use Rattle.ebpf_base.specs.Maps.{text_cmp}
+use Rattle.ebpf_model.specs.declared.function.Program.{Program}
 use Rattle.ebpf_reloc.specs.Linking.{ProgramValue}
 use Rattle.ebpf_model.specs.declared.function.Function.{Function}
 use Rattle.ebpf_object.specs.LinkedPrograms.{program_value}

@@ -4,9 +4,9 @@ use Rattle.std.specs.Option.{option_copied}
 use Rattle.std.specs.FinMap.{FinMap, get}
 use Rattle.std.specs.List.{filter_map}
 use denote.Ref.{Bor}
-use Rattle.ebpf_base.specs.Keys.{text_cmp}
+use Rattle.ebpf_base.specs.Maps.{text_cmp}
 use Rattle.ebpf_btf.specs.TypeInfo.{TypeInfo}
-use Rattle.ebpf_core_relo.specs.Answers.{without_texts_at}
+use Rattle.ebpf_core_relo.specs.Records.{without_texts_at}
 use Rattle.ebpf_core_relo.specs.declared.error.BtfRelocationError.{BtfRelocationError}
 use Rattle.ebpf_ksyms.specs.Sources.{IsRefusedFrom, IsResolvedFrom, Source}
 use Rattle.ebpf_ksyms.specs.declared.error.KsymsError.{KsymsError}

@@ -2,9 +2,9 @@
 use Rattle.std.specs.Prelude.{Bool, not, ◌&&◌, Option, is_some}
 use Rattle.std.specs.FinMap.{FinMap, entries}
 use Rattle.std.specs.List.{list_any}
-use Rattle.ebpf_base.specs.Keys.{text_cmp}
+use Rattle.ebpf_base.specs.Maps.{text_cmp}
 use Rattle.ebpf_btf.specs.TypeInfo.{TypeInfo}
-use Rattle.ebpf_model.specs.declared.extern_desc.ExternDesc.{ExternDesc}
+use Rattle.ebpf_model.specs.declared.symbol.ExternDesc.{ExternDesc}
 
 -- whether some extern passes a test
 abbrev pub has_extern : (ExternDesc → Bool) → FinMap text_cmp ExternDesc → Bool

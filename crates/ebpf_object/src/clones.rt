@@ -11,7 +11,7 @@ use ebpf_parts::Relocation;
 use std::alloc::AllocError;
 
 /// A copy of what is kept by names.
-#[tactic(auto, using(ebpf_base::proofs::Copies::exact_copy))]
+#[tactic(auto, using(ebpf_base::proofs::SameMaps::exact_copy))]
 pub fn copy_names<V: Clone>(values: &ByName<V>) -> Result<ByName<V>, AllocError>
     requires { (x y : V) → V.is_clone x y → y ≡ x }
     ensures { IfOk result (λ copy. copy ≡ values.now) }
@@ -20,7 +20,7 @@ pub fn copy_names<V: Clone>(values: &ByName<V>) -> Result<ByName<V>, AllocError>
 }
 
 /// A copy of what is kept by sections and addresses.
-#[tactic(auto, using(ebpf_base::proofs::Copies::exact_copy))]
+#[tactic(auto, using(ebpf_base::proofs::SameMaps::exact_copy))]
 pub fn copy_keys<V: Clone>(values: &ByKey<V>) -> Result<ByKey<V>, AllocError>
     requires { (x y : V) → V.is_clone x y → y ≡ x }
     ensures { IfOk result (λ copy. copy ≡ values.now) }
@@ -29,7 +29,7 @@ pub fn copy_keys<V: Clone>(values: &ByKey<V>) -> Result<ByKey<V>, AllocError>
 }
 
 /// A copy of what is kept by numbers.
-#[tactic(auto, using(ebpf_base::proofs::Copies::exact_copy))]
+#[tactic(auto, using(ebpf_base::proofs::SameMaps::exact_copy))]
 fn copy_indices<V: Clone>(values: &ByIndex<V>) -> Result<ByIndex<V>, AllocError>
     requires { (x y : V) → V.is_clone x y → y ≡ x }
     ensures { IfOk result (λ copy. copy ≡ values.now) }
@@ -38,7 +38,7 @@ fn copy_indices<V: Clone>(values: &ByIndex<V>) -> Result<ByIndex<V>, AllocError>
 }
 
 /// A copy of the relocations.
-#[tactic(auto, using(ebpf_base::proofs::Copies::exact_copy))]
+#[tactic(auto, using(ebpf_base::proofs::SameMaps::exact_copy))]
 fn copy_relocations(
     relocations: &BySection<ByOffset<Relocation>>,
 ) -> Result<BySection<ByOffset<Relocation>>, AllocError>

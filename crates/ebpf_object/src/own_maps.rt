@@ -24,7 +24,7 @@ use std::mem;
 type MapWithFd<'a> = (&'a str, i32, &'a Map);
 
 /// The maps of these names with their descriptors; a name that stands for none is passed over.
-#[tactic(auto, using(crate::proofs::Staging::one_listed, crate::proofs::Staging::none_listed, ebpf_base::proofs::Walks::rest_none))]
+#[tactic(auto, using(crate::proofs::Staging::one_listed, crate::proofs::Staging::none_listed, ebpf_base::proofs::Lists::rest_none))]
 fn own_maps<'a>(
     alloc: Global,
     maps: &'a ByName<Map>,

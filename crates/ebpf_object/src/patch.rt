@@ -3,8 +3,7 @@
 ghost use Rattle.std.specs.Prelude.{◌≡◌, ℕ, IfOk, map};
 ghost use Rattle.std.specs.FinMap as finite;
 ghost use Rattle.std.specs.List.{flat_map};
-ghost use Rattle.ebpf_base.specs.Keyed.{put_all};
-ghost use Rattle.ebpf_base.specs.Keys.{lent_bytes};
+ghost use Rattle.ebpf_base.specs.Maps.{put_all, lent_bytes};
 ghost use Rattle.ebpf_parts.specs.Maps.{bytes_of, with_bytes};
 ghost use Rattle.ebpf_object.specs.Names.{with_map_names};
 ghost use Rattle.ebpf_object.specs.Patches.{overwritten, with_patch, all_patched, named_at, symbol_indices, first_map};

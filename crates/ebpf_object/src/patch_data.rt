@@ -4,7 +4,7 @@ ghost use Rattle.std.specs.Prelude.{◌≡◌, ◌++◌, map, IfOk, OnOk, OnErr}
 ghost use Rattle.std.specs.FinMap as finite;
 ghost use Rattle.std.specs.List.{flat_map};
 ghost use Rattle.ebpf_base.specs.Faults.{Refuses, first_some};
-ghost use Rattle.ebpf_base.specs.Keys.{lent_bytes};
+ghost use Rattle.ebpf_base.specs.Maps.{lent_bytes};
 ghost use Rattle.ebpf_object.specs.Patches.{patches_at, patch_fault_at, patches_of, patches_fault, all_patched, globals_of};
 ghost use Rattle.ebpf_object.specs.PrivateContracts.{value_of};
 ghost use Rattle.ebpf_parts.specs.Memory.{is_parse_memory};

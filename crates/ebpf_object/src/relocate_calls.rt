@@ -4,7 +4,7 @@ ghost use Rattle.std.specs.Prelude.{◌≡◌, ◌++◌, ⊤, IfOk, IfErr, OnOk,
 ghost use Rattle.std.specs.FinMap as map;
 ghost use Rattle.std.specs.List.{flat_map};
 ghost use Rattle.std.specs.Ordering.{eq_by_cmp};
-ghost use Rattle.ebpf_base.specs.Keys.{key_cmp, lent_bytes};
+ghost use Rattle.ebpf_base.specs.Maps.{key_cmp, lent_bytes};
 ghost use Rattle.ebpf_object.specs.LinkedPrograms.{linkable_of, programs_in_order, ProgramsAreLinked};
 ghost use Rattle.ebpf_object.specs.PrivateContracts.{program_with, replaced};
 ghost use Rattle.ebpf_reloc.specs.Linking.{AreLinked, IsFirstRefusal};
@@ -38,7 +38,7 @@ fn add_named<'a>(
 }
 
 /// The programs with these names, with the keys of their functions.
-#[tactic(auto, using(crate::proofs::ProgramNames::one_name, ebpf_base::proofs::Walks::rest_none))]
+#[tactic(auto, using(crate::proofs::ProgramNames::one_name, ebpf_base::proofs::Lists::rest_none))]
 fn programs_named<'a>(
     alloc: Global,
     programs: &'a ByName<Program>,

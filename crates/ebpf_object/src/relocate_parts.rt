@@ -3,7 +3,7 @@
 ghost use Rattle.std.specs.Prelude.{◌≡◌, [], MatchBool, Ok, Err, IfOk, IfErr, OnOk, OnErr, None, Some, true};
 ghost use Rattle.std.specs.Iterator.{IsFinite};
 ghost use Rattle.ebpf_base.specs.Faults.{Refuses};
-ghost use Rattle.ebpf_core_relo.specs.Answers.{is_memory_in_section, without_texts_at};
+ghost use Rattle.ebpf_core_relo.specs.Records.{is_memory_in_section, without_texts_at};
 ghost use Rattle.ebpf_model.specs.Memory.{is_memory_at};
 ghost use Rattle.ebpf_model.specs.Symbols.{text_sections_in};
 ghost use Rattle.ebpf_object.specs.WrittenSlots.{relocated_slots, AreRelocatedToTypes, with_maps, maps_fault, with_externs, externs_fault};

@@ -4,7 +4,7 @@ ghost use Rattle.std.specs.Prelude.{◌≡◌, IfErr, MatchBool, OnErr, OnOk, �
 ghost use Rattle.std.specs.Iterator.{IsFinite};
 ghost use Rattle.std.specs.Option.{option_copied};
 ghost use Rattle.ebpf_ksyms.specs.Externs.{IsResolutionFault, IsResolved};
-ghost use Rattle.ebpf_ksyms.specs.Faults.{is_ksyms_memory};
+ghost use Rattle.ebpf_ksyms.specs.Addresses.{is_ksyms_memory};
 ghost use Rattle.ebpf_ksyms.specs.Sources.{IsRefusedIn, IsResolvedIn, IsRefusedFrom, IsResolvedFrom, IsRefusedBy, IsResolvedBy};
 
 use crate::object::Object;

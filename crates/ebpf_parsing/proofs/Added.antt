@@ -3,12 +3,11 @@ use Rattle.std.proofs.Common.{◌≡◌, ℕ, Bool, true, false, not, List, ◌�
 use Rattle.std.specs.FinMap.{FinMap, get}
 use Rattle.std.specs.List.{flat_map}
 use Rattle.std.specs.Prelude.{Some, MatchBool, ⊤, if◌then◌else◌, ◌==◌, nat_lt}
-use Rattle.ebpf_base.proofs.Keyed.{put_all-flat_map}
+use Rattle.ebpf_base.proofs.Mapped.{put_all-flat_map}
 use Rattle.ebpf_base.specs.Faults.{or_else, first_some}
-use Rattle.ebpf_base.specs.Keyed.{put_all}
-use Rattle.ebpf_base.specs.Keys.{text_cmp}
+use Rattle.ebpf_base.specs.Maps.{put_all, text_cmp}
 use Rattle.ebpf_btf.specs.TypeInfo.{TypeInfo}
-use Rattle.ebpf_declarations.specs.TypesInReading.{TypesInReading, types_in_reading}
+use Rattle.ebpf_declarations.specs.Maps.{TypesInReading, types_in_reading}
 use Rattle.ebpf_elf.specs.Relocations.{relocations, relocation_sections, relocated_section, table_entries}
 use Rattle.ebpf_elf.specs.Sections.{SectionOf}
 use Rattle.ebpf_elf.specs.declared.relocation.ElfRelocation.{ElfRelocation}
@@ -18,8 +17,8 @@ use Rattle.ebpf_parts.specs.declared.error.ParseError.{ParseError}
 use Rattle.ebpf_parts.specs.declared.maps.either.Map.TheVariants.{Legacy}
 use Rattle.ebpf_parts.specs.declared.program_section.ProgramSection.{ProgramSection}
 use Rattle.ebpf_parts.specs.declared.reading.Reading.{Reading}
-use Rattle.ebpf_parts.specs.declared.section_kind.EbpfSectionKind.{EbpfSectionKind}
-use Rattle.ebpf_parts.specs.declared.section_kind.EbpfSectionKind.TheVariants.{BtfMaps, Data, Rodata, Bss, Text, Program as Programs}
+use Rattle.ebpf_parts.specs.declared.section.EbpfSectionKind.{EbpfSectionKind}
+use Rattle.ebpf_parts.specs.declared.section.EbpfSectionKind.TheVariants.{BtfMaps, Data, Rodata, Bss, Text, Program as Programs}
 use Rattle.ebpf_parsing.specs.FileContents.{read_fault, symbols_at}
 use Rattle.ebpf_parsing.specs.Maps.{data_definition, data_flags, data_bytes, data_map, data_map_fault, btf_defined_maps, btf_defined_maps_fault, legacy_map, legacy_fault, legacy_maps_fault}
 use Rattle.ebpf_parsing.specs.ObjectTables.{added, all_added, last_maps, put_by, added_last}

@@ -5,20 +5,18 @@ use Rattle.std.specs.FinMap.{empty, get}
 use Rattle.std.specs.List.{before_first, flat_map, list_any, position_or_len, AllByRecursion}
 use Rattle.std.specs.Prelude.{◌==◌, ◌&&◌, ◌||◌, not, nat_lt, if◌then◌else◌}
 use Rattle.ebpf_base.proofs.Faults.{both_None}
-use Rattle.ebpf_base.proofs.Keyed.{later_text_stands}
+use Rattle.ebpf_base.proofs.Mapped.{later_text_stands}
 use Rattle.ebpf_base.proofs.TextMaps.{text_exact}
 use Rattle.ebpf_base.specs.Faults.{or_else, first_of, first_in, first_some}
-use Rattle.ebpf_base.specs.Keyed.{put_all}
-use Rattle.ebpf_base.specs.Keys.{text_cmp}
+use Rattle.ebpf_base.specs.Maps.{put_all, text_cmp}
 use Rattle.ebpf_base.specs.declared.endianness.Endianness.TheVariants.{Little}
 use Rattle.ebpf_btf.specs.TypeInfo.{TypeInfo}
 use Rattle.ebpf_declarations.proofs.BothReadings.{broad_declares_as_stated}
-use Rattle.ebpf_declarations.specs.Maps.{btf_maps_fault}
-use Rattle.ebpf_declarations.specs.TypesInReading.{types_in_reading}
+use Rattle.ebpf_declarations.specs.Maps.{btf_maps_fault, types_in_reading}
 use Rattle.ebpf_elf.specs.Faults.{faults}
 use Rattle.ebpf_elf.specs.Headers.{ei_data}
 use Rattle.ebpf_elf.specs.Sections.{SectionOf, sections}
-use Rattle.ebpf_model.specs.declared.program.Program.{Program}
+use Rattle.ebpf_model.specs.declared.function.Program.{Program}
 use Rattle.ebpf_parts.proofs.NamesRead.{broad_keeps_kinds, no_name_says_other}
 use Rattle.ebpf_parts.specs.ProgramTypes.{no_section, section_as, section_fault_as}
 use Rattle.ebpf_parts.specs.Sections.{SectionValue, section_of, section_with, section_fault}
@@ -27,8 +25,8 @@ use Rattle.ebpf_parts.specs.declared.error.ParseError.TheVariants.{BigEndianCode
 use Rattle.ebpf_parts.specs.declared.program_section.ProgramSection.{ProgramSection}
 use Rattle.ebpf_parts.specs.declared.program_section.ProgramSection.TheVariants.{Other}
 use Rattle.ebpf_parts.specs.declared.reading.Reading.TheVariants.{Stated, Broad}
-use Rattle.ebpf_parts.specs.declared.section_kind.EbpfSectionKind.{EbpfSectionKind}
-use Rattle.ebpf_parts.specs.declared.section_kind.EbpfSectionKind.TheVariants.{Maps, BtfMaps, Data, Rodata, Bss, Text, Program as Programs}
+use Rattle.ebpf_parts.specs.declared.section.EbpfSectionKind.{EbpfSectionKind}
+use Rattle.ebpf_parts.specs.declared.section.EbpfSectionKind.TheVariants.{Maps, BtfMaps, Data, Rodata, Bss, Text, Program as Programs}
 use Rattle.ebpf_parsing.specs.FileContents.{map_entries, program_entries, maps_as, programs_as, read_fault, sections_fault, own_symbols}
 use Rattle.ebpf_parsing.specs.FileTypes.{types_of_file, file_externs_fault, file_types_fault}
 use Rattle.ebpf_parsing.specs.Laws.{ReadingsAgree, StatedKindsAreNamed}

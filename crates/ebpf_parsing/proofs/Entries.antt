@@ -8,10 +8,9 @@ use Rattle.std.specs.Map.{update, update_all}
 use Rattle.std.specs.Ordering.{eq_by_cmp}
 use Rattle.std.specs.declared.cmp.Ordering.{Ordering}
 use Rattle.std.specs.declared.cmp.Ordering.TheVariants.{Equal}
-use Rattle.ebpf_base.proofs.Keyed.{later_stands}
-use Rattle.ebpf_base.proofs.Maps.{get-view}
-use Rattle.ebpf_base.proofs.Orderings.{is_equal}
-use Rattle.ebpf_base.specs.Keyed.{LaterStands, put_all, last_at}
+use Rattle.ebpf_base.proofs.Mapped.{later_stands}
+use Rattle.ebpf_base.proofs.Maps.{get-view, is_equal}
+use Rattle.ebpf_base.specs.Maps.{LaterStands, put_all, last_at}
 
 -- ---- what holds of each entry holds of what stands in a table of them
 

@@ -9,21 +9,19 @@ use Rattle.std.specs.Ordering.{is_eq, eq_by_cmp, nat_cmp, ordering_then}
 use Rattle.std.specs.Prelude.{slice_index_or}
 use Rattle.std.specs.declared.cmp.Ordering.{Ordering}
 use Rattle.std.specs.declared.cmp.Ordering.TheVariants.{Equal}
-use Rattle.ebpf_base.proofs.Keyed.{later_stands}
-use Rattle.ebpf_base.proofs.Maps.{key_exact}
-use Rattle.ebpf_base.proofs.Orderings.{is_equal}
+use Rattle.ebpf_base.proofs.Mapped.{later_stands}
+use Rattle.ebpf_base.proofs.Maps.{key_exact, is_equal}
 use Rattle.ebpf_base.proofs.TextMaps.{text_exact}
-use Rattle.ebpf_base.proofs.Walks.{rest_more, kept_more, passed_more, fault_here}
+use Rattle.ebpf_base.proofs.Lists.{rest_more, kept_more, passed_more, fault_here}
 use Rattle.ebpf_base.specs.Faults.{or_else, first_some}
-use Rattle.ebpf_base.specs.Keyed.{last_at, put_all}
-use Rattle.ebpf_base.specs.Keys.{text_cmp, text_total, key_cmp, key_total}
+use Rattle.ebpf_base.specs.Maps.{last_at, put_all, text_cmp, text_total, key_cmp, key_total}
 use Rattle.ebpf_btf.specs.TypeInfo.{TypeInfo}
 use Rattle.ebpf_model.specs.declared.function.Function.{Function}
 use Rattle.ebpf_parts.specs.Sections.{SectionValue}
 use Rattle.ebpf_parts.specs.declared.maps.either.Map.{Map}
 use Rattle.ebpf_parts.specs.declared.reading.Reading.{Reading}
-use Rattle.ebpf_parts.specs.declared.section_kind.EbpfSectionKind.{EbpfSectionKind}
-use Rattle.ebpf_parts.specs.declared.section_kind.EbpfSectionKind.TheVariants.{Undefined, Maps, BtfMaps, Data, Rodata, Bss, Text, Btf, BtfExt, License, Version, Program as Programs}
+use Rattle.ebpf_parts.specs.declared.section.EbpfSectionKind.{EbpfSectionKind}
+use Rattle.ebpf_parts.specs.declared.section.EbpfSectionKind.TheVariants.{Undefined, Maps, BtfMaps, Data, Rodata, Bss, Text, Btf, BtfExt, License, Version, Program as Programs}
 use Rattle.ebpf_parsing.specs.FileContents.{symbols_at}
 use Rattle.ebpf_parsing.specs.Maps.{data_maps}
 use Rattle.ebpf_parsing.specs.ObjectTables.{last_maps, put_by, added_last, added, all_added}

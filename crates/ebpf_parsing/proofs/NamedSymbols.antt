@@ -9,7 +9,7 @@ use Rattle.std.specs.Ordering.{eq_by_cmp}
 use Rattle.std.specs.Prelude.{◌==◌, if◌then◌else◌, is_some, option_map}
 use Rattle.ebpf_base.proofs.TextMaps.{text_exact}
 use Rattle.ebpf_base.specs.Faults.{or_else}
-use Rattle.ebpf_base.specs.Keys.{text_cmp, text_total}
+use Rattle.ebpf_base.specs.Maps.{text_cmp, text_total}
 use Rattle.ebpf_elf.specs.Relocations.{relocation_sections, relocated_section}
 use Rattle.ebpf_elf.specs.Sections.{SectionOf}
 use Rattle.ebpf_parsing.specs.Sections.{group_at, AreTablesOf}

@@ -10,9 +10,8 @@ use Rattle.ebpf_btf.specs.TypeInfo.{TypeInfo}
 use Rattle.ebpf_btf.specs.declared.error.BtfError.{BtfError as TypeError}
 use Rattle.ebpf_btf.specs.declared.error.BtfError.TheVariants.{InvalidSymbolName}
 use Rattle.ebpf_declarations.specs.DataSections.{DatasecMatch, Named, UnreadableName, datasec_match}
-use Rattle.ebpf_declarations.specs.Maps.{declared, map_with_symbol, map_at, entry_map, matched_maps_fault as fault_of_entries, type_maps_fault, btf_maps_fault}
-use Rattle.ebpf_declarations.specs.TypesInReading.{TypesInReading, types_in_reading}
-use Rattle.ebpf_declarations.specs.declared.definitions.MapDefinitions.{MapDefinitions}
+use Rattle.ebpf_declarations.specs.Maps.{declared, map_with_symbol, map_at, entry_map, matched_maps_fault as fault_of_entries, type_maps_fault, btf_maps_fault, TypesInReading, types_in_reading}
+use Rattle.ebpf_declarations.specs.declared.members.MapDefinitions.{MapDefinitions}
 use Rattle.ebpf_elf.specs.Faults.{faults}
 use Rattle.ebpf_elf.specs.Headers.{ei_data}
 use Rattle.ebpf_elf.specs.Relocations.{relocations}
@@ -28,8 +27,8 @@ use Rattle.ebpf_parts.specs.declared.maps.either.Map.{Map}
 use Rattle.ebpf_parts.specs.declared.program_section.ProgramSection.{ProgramSection}
 use Rattle.ebpf_parts.specs.declared.reading.Reading.{Reading}
 use Rattle.ebpf_parts.specs.declared.reading.Reading.TheVariants.{Stated, Broad}
-use Rattle.ebpf_parts.specs.declared.section_kind.EbpfSectionKind.{EbpfSectionKind}
-use Rattle.ebpf_parts.specs.declared.section_kind.EbpfSectionKind.TheVariants.{Maps, BtfMaps, Data, Rodata, Bss, Text, Program as Programs}
+use Rattle.ebpf_parts.specs.declared.section.EbpfSectionKind.{EbpfSectionKind}
+use Rattle.ebpf_parts.specs.declared.section.EbpfSectionKind.TheVariants.{Maps, BtfMaps, Data, Rodata, Bss, Text, Program as Programs}
 use Rattle.ebpf_parsing.specs.FileContents.{read_fault, sections_fault, parse_fault_as}
 use Rattle.ebpf_parsing.specs.FileTypes.{types_of_file, externs_fault_beside, file_externs_fault, btf_of, types_fault_in, btf_fault, ext_fault_in, ext_fault_beside, ext_fault, file_types_fault, types_section, ext_section}
 use Rattle.ebpf_parsing.specs.Laws.{BroadRefusesNoName, StatedTakesBothOrders}

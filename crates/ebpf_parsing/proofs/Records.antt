@@ -16,9 +16,9 @@ use Rattle.std.specs.Ordering.{nat_cmp, eq_by_cmp}
 use Rattle.std.specs.Prelude.{◌==◌, nat_lt, unwrap_or}
 use Rattle.std.specs.declared.cmp.Ordering.TheVariants.{Less}
 use Rattle.ebpf_base.proofs.Lists.{filter-filter, filter-map, map-map}
-use Rattle.ebpf_base.proofs.Sorted.{strictly_sorted, same_keys}
+use Rattle.ebpf_base.proofs.Maps.{strictly_sorted, same_keys}
 use Rattle.ebpf_base.proofs.TextMaps.{text_exact}
-use Rattle.ebpf_base.specs.Keys.{text_cmp, text_total}
+use Rattle.ebpf_base.specs.Maps.{text_cmp, text_total}
 use Rattle.ebpf_ext.specs.ExtReading.{func_info_at, line_info_at, no_func_info, no_line_info, ExtInfo}
 use Rattle.ebpf_ext.specs.declared.ext_infos.FuncSecInfo.{FuncSecInfo}
 use Rattle.ebpf_ext.specs.declared.ext_infos.LineSecInfo.{LineSecInfo}

@@ -11,12 +11,11 @@ use Rattle.std.specs.List.{find, range_with_len, flat_map}
 use Rattle.std.specs.Ordering.{nat_cmp, eq_by_cmp}
 use Rattle.std.specs.Prelude.{if◌then◌else◌, ◌==◌, slice_index_or}
 use Rattle.std.specs.declared.cmp.Ordering.{Ordering}
-use Rattle.ebpf_base.proofs.Keyed.{later_number_stands, later_stands, put_all-append}
-use Rattle.ebpf_base.proofs.Maps.{key_exact}
-use Rattle.ebpf_base.proofs.Orderings.{is_equal}
-use Rattle.ebpf_base.proofs.Walks.{rest_more}
+use Rattle.ebpf_base.proofs.Mapped.{later_number_stands, later_stands, put_all-append}
+use Rattle.ebpf_base.proofs.Maps.{key_exact, is_equal}
+use Rattle.ebpf_base.proofs.Lists.{rest_more}
 use Rattle.ebpf_base.specs.Faults.{or_else}
-use Rattle.ebpf_base.specs.Keyed.{put_all, last_at}
+use Rattle.ebpf_base.specs.Maps.{put_all, last_at}
 use Rattle.ebpf_elf.specs.Headers.{section_count}
 use Rattle.ebpf_elf.specs.Relocations.{holds_relocations, relocation_sections, relocation_sections_in, relocated_section, table_entry, table_entries}
 use Rattle.ebpf_elf.specs.Sections.{SectionOf, sections}

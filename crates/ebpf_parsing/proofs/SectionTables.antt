@@ -7,10 +7,9 @@ use Rattle.std.specs.List.{AllByRecursion, flat_map, range_with_len}
 use Rattle.std.specs.List as list
 use Rattle.std.specs.Ordering.{eq_by_cmp}
 use Rattle.ebpf_base.proofs.Faults.{both_None}
-use Rattle.ebpf_base.proofs.Keyed.{later_key_stands}
+use Rattle.ebpf_base.proofs.Mapped.{later_key_stands}
 use Rattle.ebpf_base.specs.Faults.{or_else, first_some, first_in}
-use Rattle.ebpf_base.specs.Keyed.{last_at}
-use Rattle.ebpf_base.specs.Keys.{key_cmp, key_total}
+use Rattle.ebpf_base.specs.Maps.{last_at, key_cmp, key_total}
 use Rattle.ebpf_elf.specs.Faults.{faults}
 use Rattle.ebpf_elf.specs.Headers.{section_count, range_of}
 use Rattle.ebpf_elf.specs.Relocations.{relocations}

@@ -7,28 +7,26 @@ use Rattle.std.specs.Cmp.{nat_cmp_total}
 use Rattle.std.specs.FinMap.{FinMap, get, get-empty}
 use Rattle.std.specs.List.{AllByRecursion, flat_map, list_any}
 use Rattle.std.specs.Ordering.{nat_cmp}
-use Rattle.ebpf_base.proofs.Keyed.{later_text_stands, later_number_stands, later_key_stands}
+use Rattle.ebpf_base.proofs.Mapped.{later_text_stands, later_number_stands, later_key_stands}
 use Rattle.ebpf_base.proofs.Maps.{key_exact}
 use Rattle.ebpf_base.proofs.TextMaps.{text_exact}
-use Rattle.ebpf_base.specs.Keys.{text_cmp, key_cmp, key_total}
-use Rattle.ebpf_base.specs.Results.{if_ok}
+use Rattle.ebpf_base.specs.Maps.{text_cmp, key_cmp, key_total}
+use Rattle.ebpf_base.specs.Faults.{if_ok}
 use Rattle.ebpf_btf.specs.Next.{if_some}
 use Rattle.ebpf_btf.specs.Steps.{type_at, resolved}
 use Rattle.ebpf_btf.specs.Strings.{type_name}
 use Rattle.ebpf_btf.specs.TypeInfo.{TypeInfo}
 use Rattle.ebpf_btf.specs.declared.error.BtfError.{BtfError}
 use Rattle.ebpf_btf.specs.declared.members.DataSecEntry.{DataSecEntry}
-use Rattle.ebpf_declarations.specs.Attempts.{given}
-use Rattle.ebpf_declarations.specs.DataSections.{matched_entries, DatasecMatch, Named, UnreadableName, datasec_match}
+use Rattle.ebpf_declarations.specs.DataSections.{given, matched_entries, DatasecMatch, Named, UnreadableName, datasec_match}
 use Rattle.ebpf_declarations.specs.Externs.{extern_of, extern_types, ksyms_datasec}
-use Rattle.ebpf_declarations.specs.Maps.{declared, map_at, entry_map, type_maps, map_with_symbol, matched_maps as maps_of_entries}
-use Rattle.ebpf_declarations.specs.TypesInReading.{TypesInReading, types_in_reading}
-use Rattle.ebpf_declarations.specs.declared.definitions.MapDefinitions.{MapDefinitions}
+use Rattle.ebpf_declarations.specs.Maps.{declared, map_at, entry_map, type_maps, map_with_symbol, matched_maps as maps_of_entries, TypesInReading, types_in_reading}
+use Rattle.ebpf_declarations.specs.declared.members.MapDefinitions.{MapDefinitions}
 use Rattle.ebpf_elf.specs.Symbols.{symbol_table_section as table_of, symbols_in}
 use Rattle.ebpf_elf.specs.declared.relocation.ElfRelocation.{ElfRelocation}
-use Rattle.ebpf_model.specs.declared.extern_desc.ExternDesc.{ExternDesc}
+use Rattle.ebpf_model.specs.declared.symbol.ExternDesc.{ExternDesc}
 use Rattle.ebpf_model.specs.declared.function.Function.{Function}
-use Rattle.ebpf_model.specs.declared.program.Program.{Program}
+use Rattle.ebpf_model.specs.declared.function.Program.{Program}
 use Rattle.ebpf_parts.specs.Maps.{section_index_of, symbol_index_of}
 use Rattle.ebpf_parts.specs.ProgramTypes.{section_as}
 use Rattle.ebpf_parts.specs.Sections.{SectionValue}
@@ -37,8 +35,8 @@ use Rattle.ebpf_parts.specs.declared.error.ParseError.TheVariants.{UnsupportedRe
 use Rattle.ebpf_parts.specs.declared.maps.either.Map.{Map}
 use Rattle.ebpf_parts.specs.declared.program_section.ProgramSection.{ProgramSection}
 use Rattle.ebpf_parts.specs.declared.reading.Reading.{Reading}
-use Rattle.ebpf_parts.specs.declared.section_kind.EbpfSectionKind.{EbpfSectionKind}
-use Rattle.ebpf_parts.specs.declared.section_kind.EbpfSectionKind.TheVariants.{Text, Program as Programs, Data, Rodata, Bss, Maps, BtfMaps}
+use Rattle.ebpf_parts.specs.declared.section.EbpfSectionKind.{EbpfSectionKind}
+use Rattle.ebpf_parts.specs.declared.section.EbpfSectionKind.TheVariants.{Text, Program as Programs, Data, Rodata, Bss, Maps, BtfMaps}
 use Rattle.ebpf_parsing.specs.FileContents.{programs_as, functions, relocation_tables, own_symbols, function_entries, program_entries, relocation_entries, maps_as, map_entries}
 use Rattle.ebpf_parsing.specs.FileTypes.{externs_of, externs_beside, ext_of, btf_of, types_of_file}
 use Rattle.ebpf_parsing.specs.Laws.{FunctionsAtTheirKeys, IsFileSymbol, SymbolsAtTheirIndices, RelocationsAtTheirOffsets, ProgramsHaveFunctions, ExternsAreUnresolved, IsTableOfCode, TablesOfCode, RelocationsNameSymbols, IsSymbolIn, MapsHaveTheirSymbols, IsDataMap, OtherMapsAreOfData}

@@ -5,8 +5,7 @@ use Rattle.std.proofs.lemmas.Bool.Decides.{nat_tests}
 use Rattle.std.proofs.lemmas.List.{length-map}
 use Rattle.std.specs.List.{find, range_with_len}
 use Rattle.std.specs.Prelude.{is_some, if◌then◌else◌, ◌&&◌, slice_index_or, ◌==◌}
-use Rattle.ebpf_base.proofs.Lists.{filter-filter, filter-map, first-filter}
-use Rattle.ebpf_base.proofs.Walks.{rest_more}
+use Rattle.ebpf_base.proofs.Lists.{filter-filter, filter-map, first-filter, rest_more}
 use Rattle.ebpf_base.specs.Faults.{or_else, first_some}
 use Rattle.ebpf_parsing.specs.Symbols.{SymbolValue}
 use Rattle.ebpf_parsing.specs.Texts.{is_text_at, is_defined_text, repeated_address, repeated, conflict_fault, conflict_fault_at, is_at}

@@ -5,8 +5,7 @@ use Rattle.std.specs.List.{flat_map}
 use Rattle.std.specs.Ordering.{nat_cmp}
 use Rattle.std.specs.Prelude.{ℕ, List, Option, option_map}
 use Rattle.ebpf_base.specs.Faults.{or_else, first_in, first_some}
-use Rattle.ebpf_base.specs.Keyed.{put_all}
-use Rattle.ebpf_base.specs.Keys.{text_cmp, key_cmp}
+use Rattle.ebpf_base.specs.Maps.{put_all, text_cmp, key_cmp}
 use Rattle.ebpf_btf.specs.TypeInfo.{TypeInfo}
 use Rattle.ebpf_elf.specs.Faults.{faults}
 use Rattle.ebpf_elf.specs.Headers.{ei_data}
@@ -16,7 +15,7 @@ use Rattle.ebpf_elf.specs.declared.section.SectionIndex.{SectionIndex}
 use Rattle.ebpf_ext.specs.ExtReading.{ExtInfo}
 use Rattle.ebpf_model.specs.Symbols.{FunctionKey}
 use Rattle.ebpf_model.specs.declared.function.Function.{Function}
-use Rattle.ebpf_model.specs.declared.program.Program.{Program}
+use Rattle.ebpf_model.specs.declared.function.Program.{Program}
 use Rattle.ebpf_parts.specs.Sections.{SectionValue, section_of, section_fault}
 use Rattle.ebpf_parts.specs.declared.error.ParseError.{ParseError}
 use Rattle.ebpf_parts.specs.declared.error.ParseError.TheVariants.{ElfError}

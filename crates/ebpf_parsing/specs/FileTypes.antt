@@ -4,8 +4,7 @@ use Rattle.std.specs.FinMap.{FinMap, empty}
 use Rattle.std.specs.Prelude.{ℕ, Bool, false, not, ◌==◌, length, List, [], Option, Some, None, Result, codes, option_map}
 use Rattle.std.specs.Result.{result_ok}
 use Rattle.ebpf_base.specs.Faults.{or_else, fault_of}
-use Rattle.ebpf_base.specs.Keyed.{put_all}
-use Rattle.ebpf_base.specs.Keys.{text_cmp}
+use Rattle.ebpf_base.specs.Maps.{put_all, text_cmp}
 use Rattle.ebpf_base.specs.declared.endianness.Endianness.{Endianness}
 use Rattle.ebpf_btf.specs.Reading.{type_info_of}
 use Rattle.ebpf_btf.specs.TypeInfo.{TypeInfo}
@@ -15,7 +14,7 @@ use Rattle.ebpf_elf.specs.Headers.{ei_data}
 use Rattle.ebpf_elf.specs.Sections.{SectionOf}
 use Rattle.ebpf_elf.specs.declared.section.SectionIndex.{SectionIndex}
 use Rattle.ebpf_ext.specs.ExtReading.{ExtInfo, read_ext}
-use Rattle.ebpf_model.specs.declared.extern_desc.ExternDesc.{ExternDesc}
+use Rattle.ebpf_model.specs.declared.symbol.ExternDesc.{ExternDesc}
 use Rattle.ebpf_parts.specs.Sections.{section_of, section_fault}
 use Rattle.ebpf_parts.specs.declared.error.ParseError.{ParseError}
 use Rattle.ebpf_parts.specs.declared.error.ParseError.TheVariants.{BtfError}

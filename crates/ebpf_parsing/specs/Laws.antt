@@ -3,14 +3,14 @@ use Rattle.std.specs.FinMap.{FinMap, get}
 use Rattle.std.specs.List.{flat_map, find}
 use Rattle.std.specs.Ordering.{nat_cmp}
 use Rattle.std.specs.Prelude.{◌≡◌, ◌≢◌, ◌⊎◌, ℕ, false, List, Some, None, slice_get, ◌<◌, ◌^◌, length, ◌==◌}
-use Rattle.ebpf_base.specs.Keys.{key_cmp}
+use Rattle.ebpf_base.specs.Maps.{key_cmp}
 use Rattle.ebpf_base.specs.declared.endianness.Endianness.TheVariants.{Little}
 use Rattle.ebpf_elf.specs.Headers.{ei_data}
 use Rattle.ebpf_elf.specs.Symbols.{symbol_table_section as table_of}
 use Rattle.ebpf_elf.specs.declared.relocation.ElfRelocation.{ElfRelocation}
-use Rattle.ebpf_model.specs.declared.extern_desc.ExternDesc.{ExternDesc}
+use Rattle.ebpf_model.specs.declared.symbol.ExternDesc.{ExternDesc}
 use Rattle.ebpf_model.specs.declared.function.Function.{Function}
-use Rattle.ebpf_model.specs.declared.program.Program.{Program}
+use Rattle.ebpf_model.specs.declared.function.Program.{Program}
 use Rattle.ebpf_model.specs.declared.symbol.Symbol.{Symbol}
 use Rattle.ebpf_parts.specs.Maps.{section_index_of, symbol_index_of}
 use Rattle.ebpf_parts.specs.Sections.{SectionValue}
@@ -20,7 +20,7 @@ use Rattle.ebpf_parts.specs.declared.maps.either.Map.{Map}
 use Rattle.ebpf_parts.specs.declared.program_section.ProgramSection.TheVariants.{Other}
 use Rattle.ebpf_parts.specs.declared.reading.Reading.{Reading}
 use Rattle.ebpf_parts.specs.declared.reading.Reading.TheVariants.{Broad}
-use Rattle.ebpf_parts.specs.declared.section_kind.EbpfSectionKind.TheVariants.{Data, Rodata, Bss, Text, Program as Programs}
+use Rattle.ebpf_parts.specs.declared.section.EbpfSectionKind.TheVariants.{Data, Rodata, Bss, Text, Program as Programs}
 use Rattle.ebpf_parsing.specs.FileContents.{maps_as, programs_as, functions, relocation_tables, parse_fault_as, own_symbols, maps, programs, parse_fault}
 use Rattle.ebpf_parsing.specs.FileTypes.{externs_of, ext_of}
 use Rattle.ebpf_parsing.specs.LicenseAndVersion.{license_of, license_as}

@@ -4,18 +4,17 @@ use Rattle.std.specs.Prelude.{ℕ, ◌^◌, not, List, [], ◌∷◌, Option, No
 use Rattle.ebpf_base.specs.Faults.{first_of, or_else, first_some}
 use Rattle.ebpf_base.specs.Numbers.{number_at}
 use Rattle.ebpf_base.specs.declared.endianness.Endianness.TheVariants.{Little}
-use Rattle.ebpf_declarations.specs.Maps.{btf_maps, btf_maps_fault}
-use Rattle.ebpf_declarations.specs.TypesInReading.{TypesInReading}
+use Rattle.ebpf_declarations.specs.Maps.{btf_maps, btf_maps_fault, TypesInReading}
 use Rattle.ebpf_parts.specs.Sections.{SectionValue}
 use Rattle.ebpf_parts.specs.declared.error.ParseError.{ParseError}
 use Rattle.ebpf_parts.specs.declared.error.ParseError.TheVariants.{InvalidMapDefinition, InvalidSymbol, NoSymbolsForSection, NoBTF}
 use Rattle.ebpf_parts.specs.declared.maps.definition.bpf_map_def.{bpf_map_def}
 use Rattle.ebpf_parts.specs.declared.maps.either.Map.{Map}
 use Rattle.ebpf_parts.specs.declared.maps.either.Map.TheVariants.{Legacy}
-use Rattle.ebpf_parts.specs.declared.maps.pinning.PinningType.{PinningType}
-use Rattle.ebpf_parts.specs.declared.maps.pinning.PinningType.TheVariants as pinned
-use Rattle.ebpf_parts.specs.declared.section_kind.EbpfSectionKind.{EbpfSectionKind}
-use Rattle.ebpf_parts.specs.declared.section_kind.EbpfSectionKind.TheVariants.{Rodata, Bss}
+use Rattle.ebpf_parts.specs.declared.maps.definition.PinningType.{PinningType}
+use Rattle.ebpf_parts.specs.declared.maps.definition.PinningType.TheVariants as pinned
+use Rattle.ebpf_parts.specs.declared.section.EbpfSectionKind.{EbpfSectionKind}
+use Rattle.ebpf_parts.specs.declared.section.EbpfSectionKind.TheVariants.{Rodata, Bss}
 use Rattle.ebpf_parsing.specs.Symbols.{SymbolValue, symbol_indices_by_name}
 
 -- ---- the maps of data sections (libbpf's `.data`, `.rodata` and `.bss`)

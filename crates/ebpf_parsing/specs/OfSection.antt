@@ -4,20 +4,20 @@ use Rattle.std.specs.Ordering.{nat_cmp}
 use Rattle.std.specs.Prelude.{ℕ, List, [], ◌∷◌, map, length, Option, None, ◌==◌}
 use Rattle.ebpf_base.specs.Faults.{or_else, first_of}
 use Rattle.ebpf_btf.specs.TypeInfo.{TypeInfo}
-use Rattle.ebpf_declarations.specs.TypesInReading.{types_in_reading}
+use Rattle.ebpf_declarations.specs.Maps.{types_in_reading}
 use Rattle.ebpf_elf.specs.declared.relocation.ElfRelocation.{ElfRelocation}
 use Rattle.ebpf_ext.specs.ExtReading.{ExtInfo}
 use Rattle.ebpf_model.specs.Symbols.{FunctionKey}
 use Rattle.ebpf_model.specs.declared.function.Function.{Function}
-use Rattle.ebpf_model.specs.declared.program.Program.{Program}
+use Rattle.ebpf_model.specs.declared.function.Program.{Program}
 use Rattle.ebpf_parts.specs.ProgramTypes.{section_as, section_fault_as}
 use Rattle.ebpf_parts.specs.Sections.{SectionValue}
 use Rattle.ebpf_parts.specs.declared.error.ParseError.{ParseError}
 use Rattle.ebpf_parts.specs.declared.error.ParseError.TheVariants.{NoSymbolsForSection}
 use Rattle.ebpf_parts.specs.declared.maps.either.Map.{Map}
 use Rattle.ebpf_parts.specs.declared.reading.Reading.{Reading}
-use Rattle.ebpf_parts.specs.declared.section_kind.EbpfSectionKind.{EbpfSectionKind}
-use Rattle.ebpf_parts.specs.declared.section_kind.EbpfSectionKind.TheVariants.{Maps, BtfMaps, Data, Rodata, Bss, Text, Program as Programs}
+use Rattle.ebpf_parts.specs.declared.section.EbpfSectionKind.{EbpfSectionKind}
+use Rattle.ebpf_parts.specs.declared.section.EbpfSectionKind.TheVariants.{Maps, BtfMaps, Data, Rodata, Bss, Text, Program as Programs}
 use Rattle.ebpf_parsing.specs.Maps.{btf_defined_maps, btf_defined_maps_fault, data_maps, data_map_fault, legacy_maps, legacy_maps_fault}
 use Rattle.ebpf_parsing.specs.Programs.{with_key, programs_of, program_functions, programs_fault}
 use Rattle.ebpf_parsing.specs.Records.{FuncAndLineInfo, func_and_line_info_of}

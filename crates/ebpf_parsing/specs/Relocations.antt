@@ -6,8 +6,7 @@ use Rattle.std.specs.List.{list_any, flat_map, range_with_len}
 use Rattle.std.specs.Ordering.{nat_cmp, ordering_then}
 use Rattle.std.specs.Prelude.{ℕ, ◌≡◌, ◌+◌, ◌*◌, Bool, ◌==◌, List, [], ◌∷◌, map, Some}
 use Rattle.std.specs.declared.cmp.Ordering.{Ordering}
-use Rattle.ebpf_base.specs.Keyed.{put_all}
-use Rattle.ebpf_base.specs.Keys.{key_cmp, coded_key, key_total}
+use Rattle.ebpf_base.specs.Maps.{put_all, key_cmp, coded_key, key_total}
 use Rattle.ebpf_elf.specs.Headers.{ei_data}
 use Rattle.ebpf_elf.specs.Relocations.{relocation_size, relocation_at, entry_count}
 use Rattle.ebpf_elf.specs.Sections.{SectionOf, header}

@@ -4,8 +4,7 @@ use Rattle.std.specs.List.{find}
 use Rattle.std.specs.Ordering.{nat_cmp, eq_by_cmp}
 use Rattle.std.specs.Prelude.{ℕ, Bool, true, false, List, Option, Some, None, ◌==◌, filter, [], map, unwrap_or, is_some, if◌then◌else◌, option_map}
 use Rattle.ebpf_base.specs.Faults.{first_some}
-use Rattle.ebpf_base.specs.Keyed.{put_all}
-use Rattle.ebpf_base.specs.Keys.{text_cmp}
+use Rattle.ebpf_base.specs.Maps.{put_all, text_cmp}
 use Rattle.ebpf_btf.specs.declared.error.BtfError.TheVariants.{InvalidSymbolName}
 use Rattle.ebpf_elf.specs.Symbols.{SymbolOf, entry, symbol_name, symbol_kind, symbol_section_index, is_definition, is_weak, symbols}
 use Rattle.ebpf_elf.specs.declared.symbol.SymbolKind.{SymbolKind}

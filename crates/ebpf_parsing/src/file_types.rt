@@ -3,7 +3,7 @@
 ghost use Rattle.std.specs.Prelude.{◌≡◌, IfOk, OnOk, IfErr, true, Some, option_map, None};
 ghost use Rattle.std.specs.Result.{result_ok};
 ghost use Rattle.ebpf_base.specs.Faults.{Refuses, fault_of};
-ghost use Rattle.ebpf_base.specs.Keyed.{put_all};
+ghost use Rattle.ebpf_base.specs.Maps.{put_all};
 ghost use Rattle.ebpf_btf.specs.Reading.{type_info_of};
 ghost use Rattle.ebpf_declarations.specs.Externs.{extern_types};
 ghost use Rattle.ebpf_elf.specs.Headers.{ei_data};

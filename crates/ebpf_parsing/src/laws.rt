@@ -1,13 +1,12 @@
 //! What holds of the tables that each file gives.
 
 ghost use Rattle.std.specs.Ordering.{nat_cmp};
-ghost use Rattle.ebpf_base.specs.Keyed.{LaterStands};
-ghost use Rattle.ebpf_base.specs.Keys.{text_cmp, key_cmp};
+ghost use Rattle.ebpf_base.specs.Maps.{LaterStands, text_cmp, key_cmp};
 ghost use Rattle.ebpf_elf.specs.declared.relocation.ElfRelocation.{ElfRelocation};
 ghost use Rattle.ebpf_elf.specs.declared.section.SectionIndex.{SectionIndex};
-ghost use Rattle.ebpf_model.specs.declared.extern_desc.ExternDesc.{ExternDesc};
+ghost use Rattle.ebpf_model.specs.declared.symbol.ExternDesc.{ExternDesc};
 ghost use Rattle.ebpf_model.specs.declared.function.Function.{Function};
-ghost use Rattle.ebpf_model.specs.declared.program.Program.{Program};
+ghost use Rattle.ebpf_model.specs.declared.function.Program.{Program};
 ghost use Rattle.ebpf_model.specs.declared.symbol.Symbol.{Symbol};
 ghost use Rattle.ebpf_parts.specs.declared.maps.either.Map.{Map};
 ghost use Rattle.ebpf_parsing.specs.Laws.{BroadRefusesNoName, ReadingsAgree, StatedKindsAreNamed, StatedTakesBothOrders, FunctionsAtTheirKeys, SymbolsAtTheirIndices, RelocationsAtTheirOffsets, TablesOfCode, RelocationsNameSymbols, ProgramsHaveFunctions, MapsHaveTheirSymbols, OtherMapsAreOfData, ExternsAreUnresolved, AtEachAddress, InOrder, SectionsTile, FunctionsTile};

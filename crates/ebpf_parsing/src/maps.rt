@@ -2,8 +2,8 @@
 
 ghost use Rattle.std.specs.Prelude.{◌≡◌, IfOk, IfErr, OnOk, true, ◌≤◌, ◌<◌, ◌+◌, ◌*◌, length, slice_index};
 ghost use Rattle.ebpf_base.specs.Faults.{Refuses, first_some};
-ghost use Rattle.ebpf_base.specs.Keyed.{put_all};
-ghost use Rattle.ebpf_declarations.specs.TypesInReading.{types_in_reading};
+ghost use Rattle.ebpf_base.specs.Maps.{put_all};
+ghost use Rattle.ebpf_declarations.specs.Maps.{types_in_reading};
 ghost use Rattle.ebpf_parts.specs.Memory.{is_parse_memory};
 ghost use Rattle.ebpf_parsing.specs.Maps.{data_bytes, data_flags, data_map, data_map_fault, word_at, legacy_pinning, definition_of, legacy_map, legacy_fault, legacy_maps, legacy_maps_fault, btf_defined_maps, btf_defined_maps_fault};
 ghost use Rattle.ebpf_parsing.specs.ObjectTables.{last_maps};

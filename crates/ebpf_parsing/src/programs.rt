@@ -2,7 +2,7 @@
 
 ghost use Rattle.std.specs.Prelude.{◌≡◌, ◌+◌, ◌≤◌, IfOk, OnOk, IfErr, true, Some, length, map};
 ghost use Rattle.ebpf_base.specs.Faults.{Refuses, first_of};
-ghost use Rattle.ebpf_base.specs.Keyed.{put_all};
+ghost use Rattle.ebpf_base.specs.Maps.{put_all};
 ghost use Rattle.ebpf_parts.specs.Memory.{is_parse_memory};
 ghost use Rattle.ebpf_parsing.specs.Programs.{is_program_symbol, program_bytes, range_faults, program_function, program_fault, program_functions, programs_fault, programs_of, with_key, last_programs};
 
@@ -95,7 +95,7 @@ fn check_program(
 }
 
 /// The index of the last program's symbol at each address.
-#[tactic(auto, using(crate::proofs::Lasts::row_more, crate::proofs::Lasts::row_passed, ebpf_base::proofs::Walks::rest_none))]
+#[tactic(auto, using(crate::proofs::Lasts::row_more, crate::proofs::Lasts::row_passed, ebpf_base::proofs::Lists::rest_none))]
 fn last_programs(alloc: Global, symbols: &[NamedSymbol<'_>]) -> Result<ByOffset<usize>, ParseError>
     ensures last { IfOk result (λ last. last ≡ last_programs symbols.now) }
     ensures memory { IfErr result (λ e. is_parse_memory e ≡ true) }
@@ -111,7 +111,7 @@ fn last_programs(alloc: Global, symbols: &[NamedSymbol<'_>]) -> Result<ByOffset<
 }
 
 /// Puts the functions of a section's programs by section and address, of symbols at one address the last one's alone.
-#[tactic(auto, using(ebpf_base::proofs::Walks::kept_more, ebpf_base::proofs::Walks::passed_more, ebpf_base::proofs::Walks::fault_here, ebpf_base::proofs::Walks::rest_none))]
+#[tactic(auto, using(ebpf_base::proofs::Lists::kept_more, ebpf_base::proofs::Lists::passed_more, ebpf_base::proofs::Lists::fault_here, ebpf_base::proofs::Lists::rest_none))]
 fn put_last_functions(
     alloc: Global,
     functions: &mut ByKey<Function>,
@@ -154,7 +154,7 @@ pub fn put_functions(
 }
 
 /// Puts the programs of a section by name.
-#[tactic(auto, using(ebpf_base::proofs::Walks::kept_more, ebpf_base::proofs::Walks::passed_more, ebpf_base::proofs::Walks::rest_none))]
+#[tactic(auto, using(ebpf_base::proofs::Lists::kept_more, ebpf_base::proofs::Lists::passed_more, ebpf_base::proofs::Lists::rest_none))]
 pub fn put_programs(
     alloc: Global,
     programs: &mut ByName<Program>,

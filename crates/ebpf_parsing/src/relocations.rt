@@ -6,7 +6,7 @@ ghost use Rattle.std.specs.List.{flat_map};
 ghost use Rattle.std.specs.Option.{option_copied};
 ghost use Rattle.std.specs.Prelude.{◌≡◌, OnOk, OnErr, ◌++◌, map, IfOk, IfErr, true};
 ghost use Rattle.ebpf_base.specs.Faults.{Refuses};
-ghost use Rattle.ebpf_base.specs.Keyed.{put_all};
+ghost use Rattle.ebpf_base.specs.Maps.{put_all};
 ghost use Rattle.ebpf_elf.specs.Relocations.{table_entries};
 ghost use Rattle.ebpf_parts.specs.Memory.{is_parse_memory};
 ghost use Rattle.ebpf_parts.specs.Sections.{target_fault};
@@ -164,7 +164,7 @@ pub fn check_targets(tables: &[RelocationTable<'_>]) -> Result<(), ParseError>
 }
 
 /// The index of the last section of relocations whose entries stand at the same offsets.
-#[tactic(auto, using(crate::proofs::RelocationTables::row_more, ebpf_base::proofs::Walks::rest_none))]
+#[tactic(auto, using(crate::proofs::RelocationTables::row_more, ebpf_base::proofs::Lists::rest_none))]
 fn last_tables(
     alloc: Global,
     tables: &[RelocationTable<'_>],
@@ -204,7 +204,7 @@ fn table_of(
 }
 
 /// Of sections whose entries stand at the same places, those of the last one alone.
-#[tactic(auto, using(ebpf_base::proofs::Walks::rest_none))]
+#[tactic(auto, using(ebpf_base::proofs::Lists::rest_none))]
 fn put_last_tables(
     alloc: Global,
     tables: &[RelocationTable<'_>],

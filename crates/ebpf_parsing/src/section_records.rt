@@ -195,7 +195,7 @@ pub struct RecordsByName<'e> {
 }
 
 impl<'e> Model for RecordsByName<'e> {
-    ghost use Rattle.ebpf_base.specs.Keys.{coded_text, text_cmp};
+    ghost use Rattle.ebpf_base.specs.Maps.{coded_text, text_cmp};
     ghost use Rattle.ebpf_ext.specs.ExtReading.{ExtInfo};
     ghost use Rattle.ebpf_ext.specs.contracts.ext_infos.FuncSecInfo as func_rows;
     ghost use Rattle.ebpf_ext.specs.contracts.ext_infos.LineSecInfo as line_rows;

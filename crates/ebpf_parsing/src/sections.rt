@@ -6,7 +6,7 @@ ghost use Rattle.std.specs.List.{list_any};
 ghost use Rattle.std.specs.Option.{option_copied};
 ghost use Rattle.std.specs.Prelude.{◌≡◌, ◌∷◌, ◌++◌, [], ◌==◌, ℕ, OnOk, IfErr, true, if◌then◌else◌, IfOk, filter};
 ghost use Rattle.ebpf_base.specs.Faults.{fault_of, Refuses};
-ghost use Rattle.ebpf_base.specs.Keyed.{put_all};
+ghost use Rattle.ebpf_base.specs.Maps.{put_all};
 ghost use Rattle.ebpf_elf.specs.Relocations.{relocation_sections, relocated_section};
 ghost use Rattle.ebpf_elf.specs.Sections.{sections};
 ghost use Rattle.ebpf_parts.specs.Memory.{is_parse_memory};

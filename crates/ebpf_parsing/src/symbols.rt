@@ -4,7 +4,7 @@ ghost use Rattle.std.specs.FinMap.{contains_key, get, insert};
 ghost use Rattle.std.specs.FinMap as map;
 ghost use Rattle.std.specs.Prelude.{◌≡◌, ◌∷◌, ◌++◌, [], ℕ, true, IfOk, OnOk, IfErr, Some, None, unwrap_or, if◌then◌else◌};
 ghost use Rattle.ebpf_base.specs.Faults.{Refuses, fault_of};
-ghost use Rattle.ebpf_base.specs.Keys.{lent_bytes};
+ghost use Rattle.ebpf_base.specs.Maps.{lent_bytes};
 ghost use Rattle.ebpf_elf.specs.Symbols.{symbol_name};
 ghost use Rattle.ebpf_parts.specs.Memory.{is_parse_memory};
 ghost use Rattle.ebpf_parsing.specs.Sections.{group_at};

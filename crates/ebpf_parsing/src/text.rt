@@ -6,7 +6,7 @@ ghost use Rattle.std.specs.List.{AllAdjacentBelow, HoldsAt, find};
 ghost use Rattle.std.specs.List.Sorted.{IsNonDecreasingBy, IsPartitionPoint};
 ghost use Rattle.std.specs.Prelude.{◌≡◌, ◌==◌, ◌<◌, ◌≤◌, ℕ, IfOk, IfErr, true, filter, map, length, option_map, ◌+◌, ◌∷◌, [], Some, OnOk};
 ghost use Rattle.ebpf_base.specs.Faults.{Refuses};
-ghost use Rattle.ebpf_base.specs.Keyed.{put_all};
+ghost use Rattle.ebpf_base.specs.Maps.{put_all};
 ghost use Rattle.ebpf_parts.specs.Memory.{is_parse_memory};
 ghost use Rattle.ebpf_parsing.specs.Programs.{with_key};
 ghost use Rattle.ebpf_parsing.specs.Texts.{conflict_fault, is_defined_text, is_text_at, is_at, function_at, text_fault_at, size_at, text_function, text_fault_of, text_functions, walk_fault, text_fault};

@@ -1,23 +1,24 @@
 -- One step of a walk over rows, and what holds of the row that a name gets.
-use Rattle.std.proofs.Common.{◌≡◌, ℕ, ◌+◌, ◌<◌, ◌≤◌, Bool, true, false, List, [], ◌∷◌, length, drop, filter, refl, ap, ◌∙◌, sym, ◌⊎◌, inl, inr, option_map, arith, suc, not, ◌&&◌, ◌++◌}
-use Rattle.std.specs.Prelude.{Option, Some, None, IfSome, if◌then◌else◌, nat_le, slice_index_or, ◌==◌, slice_get, nat_eq, slice_index}
+use denote.Enum.Bare.{sameb, same_true}
+use Rattle.std.proofs.Common.{◌≡◌, ℕ, ◌+◌, ◌<◌, ◌≤◌, Bool, true, false, List, [], ◌∷◌, length, drop, filter, refl, ap, ◌∙◌, ◌⊎◌, inl, inr, option_map, arith, suc, not, ◌&&◌, ◌++◌}
+use Rattle.std.specs.Prelude.{Option, Some, None, IfSome, if◌then◌else◌, nat_le, slice_index_or, ◌==◌, nat_eq, slice_index}
 use Rattle.std.specs.List.{fold, AllByRecursion, list_all, list_any, position_or_len, starts_with, flat_map}
 use Rattle.std.proofs.lemmas.Bool.{eqb-true, and_parts, both_ways, cases_Bool, not-true, or_cases, or_parts}
 use Rattle.std.specs.Str.{bytes_eq}
 use Rattle.std.proofs.lemmas.Slice.Eq.{bytes_eq-Decides}
-use Rattle.ebpf_base.proofs.Walks.{rest_more, rest_none, lists_more}
+use Rattle.ebpf_base.proofs.Lists.{rest_more, rest_none, lists_more}
 use Rattle.ebpf_base.specs.Faults.{or_else}
 use Rattle.ebpf_elf.specs.Relocations.{table_entries}
 use Rattle.ebpf_elf.specs.Sections.{SectionOf}
 use Rattle.ebpf_elf.specs.declared.relocation.ElfRelocation.{ElfRelocation}
-use Rattle.ebpf_parts.specs.ProgramTypes.{name_fits, longer, longest_fit, row_name, program_type_number, program_types, TypesAgree, has_target, is_marked, program_kind, section_type, program_section, first_piece, second_piece, one_piece, two_pieces, probe_sections, trace_sections, packet_sections, kernel_sections, pair_sections, xdp_sections, sk_skb_sections, sk_reuseport_sections, cgroup_skb_sections, cgroup_sections, socket_events, address_calls}
+use Rattle.ebpf_parts.specs.contracts.programs.program_type.bpf_prog_type.{the_type}
+use Rattle.ebpf_parts.specs.ProgramTypes.{name_fits, longer, longest_fit, row_name, TypesAgree, has_target, is_marked, program_kind, section_type, program_section, first_piece, second_piece, one_piece, two_pieces, piece_sections, pair_sections, xdp_sections, sk_skb_sections, sk_reuseport_sections, cgroup_skb_sections, cgroup_sections, socket_events, address_calls}
 use Rattle.ebpf_parts.specs.Sections.{target_fault}
 use Rattle.ebpf_parts.specs.declared.program_section.ProgramSection.{ProgramSection}
 use Rattle.ebpf_parts.specs.declared.programs.kind.NamedKind.{NamedKind}
 use Rattle.ebpf_parts.specs.declared.programs.kind.ProgramKind.{ProgramKind}
-use Rattle.ebpf_parts.specs.declared.programs.named_kinds.TheConstants.{NAMED_KINDS}
+use Rattle.ebpf_parts.specs.declared.programs.kind.TheConstants.{NAMED_KINDS}
 use Rattle.ebpf_parts.specs.declared.programs.program_type.bpf_prog_type.{bpf_prog_type}
-use Rattle.ebpf_parts.specs.declared.programs.program_type.bpf_prog_type.TheVariants as types
 
 -- a row that fits
 pub row_fits : (name : List ℕ) (found : Option NamedKind) (rows : List NamedKind) (i : ℕ) (row : NamedKind)
@@ -67,62 +68,13 @@ module _ (Q : NamedKind → Type 0) (name : List ℕ) where
   unfolding longest_fit
   of_longest rows all = of_found None rows tt all
 
--- ---- the types of programs, told apart by their numbers
-
-at_number : (t : bpf_prog_type) → slice_get program_types (program_type_number t) ≡ Some t
-unfolding program_types program_type_number
-at_number types.BPF_PROG_TYPE_UNSPEC = refl
-at_number types.BPF_PROG_TYPE_SOCKET_FILTER = refl
-at_number types.BPF_PROG_TYPE_KPROBE = refl
-at_number types.BPF_PROG_TYPE_SCHED_CLS = refl
-at_number types.BPF_PROG_TYPE_SCHED_ACT = refl
-at_number types.BPF_PROG_TYPE_TRACEPOINT = refl
-at_number types.BPF_PROG_TYPE_XDP = refl
-at_number types.BPF_PROG_TYPE_PERF_EVENT = refl
-at_number types.BPF_PROG_TYPE_CGROUP_SKB = refl
-at_number types.BPF_PROG_TYPE_CGROUP_SOCK = refl
-at_number types.BPF_PROG_TYPE_LWT_IN = refl
-at_number types.BPF_PROG_TYPE_LWT_OUT = refl
-at_number types.BPF_PROG_TYPE_LWT_XMIT = refl
-at_number types.BPF_PROG_TYPE_SOCK_OPS = refl
-at_number types.BPF_PROG_TYPE_SK_SKB = refl
-at_number types.BPF_PROG_TYPE_CGROUP_DEVICE = refl
-at_number types.BPF_PROG_TYPE_SK_MSG = refl
-at_number types.BPF_PROG_TYPE_RAW_TRACEPOINT = refl
-at_number types.BPF_PROG_TYPE_CGROUP_SOCK_ADDR = refl
-at_number types.BPF_PROG_TYPE_LWT_SEG6LOCAL = refl
-at_number types.BPF_PROG_TYPE_LIRC_MODE2 = refl
-at_number types.BPF_PROG_TYPE_SK_REUSEPORT = refl
-at_number types.BPF_PROG_TYPE_FLOW_DISSECTOR = refl
-at_number types.BPF_PROG_TYPE_CGROUP_SYSCTL = refl
-at_number types.BPF_PROG_TYPE_RAW_TRACEPOINT_WRITABLE = refl
-at_number types.BPF_PROG_TYPE_CGROUP_SOCKOPT = refl
-at_number types.BPF_PROG_TYPE_TRACING = refl
-at_number types.BPF_PROG_TYPE_STRUCT_OPS = refl
-at_number types.BPF_PROG_TYPE_EXT = refl
-at_number types.BPF_PROG_TYPE_LSM = refl
-at_number types.BPF_PROG_TYPE_SK_LOOKUP = refl
-at_number types.BPF_PROG_TYPE_SYSCALL = refl
-at_number types.BPF_PROG_TYPE_NETFILTER = refl
-
-unfoldable pub same_type : bpf_prog_type → bpf_prog_type → Bool
-same_type s t = program_type_number s == program_type_number t
-
-pub some_is : (s t : bpf_prog_type) → Some s ≡ Some t → s ≡ t
-some_is s t e = cc
-
--- types of one number are one
-pub same_type-is : (s t : bpf_prog_type) → same_type s t ≡ true → s ≡ t
-unfolding same_type
-same_type-is s t e = some_is _ _ (sym (at_number s) ∙ ap (slice_get program_types) (eqb-true _ _ e) ∙ at_number t)
-
 -- ---- names that both tables have are of one type: the rows are looked at one after the other, each with the pieces that the
 -- names which fit it have
 
 -- whether a type is that of a section, where there is one
 type_of : bpf_prog_type → Option bpf_prog_type → Bool
 type_of t None = false
-type_of t (Some s) = same_type s t
+type_of t (Some s) = sameb the_type s t
 
 typed : bpf_prog_type → Option ProgramSection → Bool
 typed t None = true
@@ -145,7 +97,7 @@ agrees second row =
     else typed row.kind.program_type (program_section (row_name row))
 
 all_agree : (second : Option (List ℕ)) → list_all (agrees second) NAMED_KINDS ≡ true
-unfolding agrees typed type_of same_type program_type_number probe_sections trace_sections packet_sections kernel_sections pair_sections xdp_sections sk_skb_sections sk_reuseport_sections cgroup_skb_sections cgroup_sections socket_events address_calls
+unfolding agrees typed type_of piece_sections pair_sections xdp_sections sk_skb_sections sk_reuseport_sections cgroup_skb_sections cgroup_sections socket_events address_calls
 all_agree second = refl
 
 -- ---- the first piece of a name that a row fits
@@ -216,26 +168,29 @@ rows_agree name (row ∷ rows) checked = (
   rows_agree name rows (λ second. (and_parts (agrees second row) _ (checked second)).1),
 )
 
+inside : (s t : bpf_prog_type) → Some s ≡ Some t → s ≡ t
+inside s t e = cc
+
 -- the kind of a row has the row's type
 kind_typed : (stated : Option ProgramSection) (found : Option NamedKind) (mark : Bool) (kind : ProgramKind)
     → IfSome found (λ row. typed row.kind.program_type stated ≡ true)
     → option_map (λ row. record row.kind { is_optional = mark }) found ≡ Some kind → typed kind.program_type stated ≡ true
 kind_typed stated None mark kind agreed loaded = absurd (cc)
 kind_typed stated (Some row) mark kind agreed loaded =
-    let same : row.kind.program_type ≡ kind.program_type = some_is _ _ (ap (option_map (λ (k : ProgramKind). k.program_type)) loaded) in
+    let same : row.kind.program_type ≡ kind.program_type = inside _ _ (ap (option_map (λ (k : ProgramKind). k.program_type)) loaded) in
     rw (← same) agreed
 
 -- a type that passed the check is the section's
 type_is : (t : bpf_prog_type) (o : Option bpf_prog_type) → type_of t o ≡ true → o ≡ Some t
 unfolding type_of
 type_is t None same = absurd (cc)
-type_is t (Some s) same = ap Some (same_type-is s t same)
+type_is t (Some s) same = ap Some (same_true the_type tt s t same)
 
 -- ---- names with a mark
 
 -- no table has a piece that begins with `?`
 no_pieces : (rest : List ℕ) (second : Option (List ℕ)) → pieces (63 ∷ rest) second ≡ None
-unfolding probe_sections trace_sections packet_sections kernel_sections pair_sections
+unfolding piece_sections pair_sections
 no_pieces rest second = refl
 
 pub marked_says_none : (name : List ℕ) → is_marked name ≡ true → program_section name ≡ None

@@ -1,20 +1,20 @@
 -- Maps, and what may be read and set of them.
 use Rattle.std.specs.Prelude.{ℕ, List, [], Option, Some, None, ◌==◌, option_map, if◌then◌else◌, ◌∷◌, Result, Ok, Err}
-use Rattle.ebpf_parts.specs.declared.maps.btf.BtfMap.{BtfMap}
+use Rattle.ebpf_parts.specs.declared.maps.either.BtfMap.{BtfMap}
 use Rattle.ebpf_parts.specs.declared.maps.definition.BtfMapDef.{BtfMapDef}
 use Rattle.ebpf_parts.specs.declared.maps.definition.bpf_map_def.{bpf_map_def}
 use Rattle.ebpf_parts.specs.declared.maps.either.Map.{Map}
 use Rattle.ebpf_parts.specs.declared.maps.either.Map.TheVariants.{Legacy, Btf}
-use Rattle.ebpf_parts.specs.declared.maps.info.bpf_map_info.{bpf_map_info}
-use Rattle.ebpf_parts.specs.declared.maps.legacy.LegacyMap.{LegacyMap}
+use Rattle.ebpf_parts.specs.declared.maps.either.bpf_map_info.{bpf_map_info}
+use Rattle.ebpf_parts.specs.declared.maps.either.LegacyMap.{LegacyMap}
 use Rattle.ebpf_parts.specs.declared.maps.map_type.bpf_map_type.{bpf_map_type}
 use Rattle.ebpf_parts.specs.declared.maps.map_type.bpf_map_type.TheVariants as types
-use Rattle.ebpf_parts.specs.declared.maps.pinning.PinningError.{PinningError}
-use Rattle.ebpf_parts.specs.declared.maps.pinning.PinningError.TheVariants.{Unsupported}
-use Rattle.ebpf_parts.specs.declared.maps.pinning.PinningType.{PinningType}
-use Rattle.ebpf_parts.specs.declared.maps.pinning.PinningType.TheVariants as pinned
-use Rattle.ebpf_parts.specs.declared.section_kind.EbpfSectionKind.{EbpfSectionKind}
-use Rattle.ebpf_parts.specs.declared.section_kind.EbpfSectionKind.TheVariants.{Undefined, BtfMaps}
+use Rattle.ebpf_parts.specs.declared.maps.definition.PinningError.{PinningError}
+use Rattle.ebpf_parts.specs.declared.maps.definition.PinningError.TheVariants.{Unsupported}
+use Rattle.ebpf_parts.specs.declared.maps.definition.PinningType.{PinningType}
+use Rattle.ebpf_parts.specs.declared.maps.definition.PinningType.TheVariants as pinned
+use Rattle.ebpf_parts.specs.declared.section.EbpfSectionKind.{EbpfSectionKind}
+use Rattle.ebpf_parts.specs.declared.section.EbpfSectionKind.TheVariants.{Undefined, BtfMaps}
 
 abbrev pub map_type_of : Map → ℕ
 map_type_of (Legacy m) = m.def.map_type

@@ -12,25 +12,25 @@ use Rattle.ebpf_parts.specs.declared.program_section.ProgramSection.{ProgramSect
 use Rattle.ebpf_parts.specs.declared.program_section.ProgramSection.TheVariants.{KRetProbe, KProbe, UProbe, URetProbe, TracePoint, SocketFilter, Xdp, SkMsg, SkSkbStream, SockOps, SchedClassifier, CgroupSkb, CgroupSockAddr, CgroupSysctl, CgroupSockopt, LircMode2, PerfEvent, RawTracePoint, Lsm, LsmCgroup, BtfTracePoint, FEntry, FExit, FlowDissector, Extension, SkLookup, SkReuseport, CgroupSock, CgroupDevice, Iter, Other}
 use Rattle.ebpf_parts.specs.declared.programs.attach_type.bpf_attach_type.{bpf_attach_type}
 use Rattle.ebpf_parts.specs.declared.programs.attach_type.bpf_attach_type.TheVariants.{BPF_CGROUP_INET_INGRESS, BPF_CGROUP_INET_EGRESS, BPF_CGROUP_INET_SOCK_CREATE, BPF_SK_SKB_STREAM_PARSER, BPF_SK_SKB_STREAM_VERDICT, BPF_CGROUP_INET4_BIND, BPF_CGROUP_INET6_BIND, BPF_CGROUP_INET4_CONNECT, BPF_CGROUP_INET6_CONNECT, BPF_CGROUP_INET4_POST_BIND, BPF_CGROUP_INET6_POST_BIND, BPF_CGROUP_UDP4_SENDMSG, BPF_CGROUP_UDP6_SENDMSG, BPF_CGROUP_UDP4_RECVMSG, BPF_CGROUP_UDP6_RECVMSG, BPF_CGROUP_GETSOCKOPT, BPF_CGROUP_SETSOCKOPT, BPF_CGROUP_INET4_GETPEERNAME, BPF_CGROUP_INET6_GETPEERNAME, BPF_CGROUP_INET4_GETSOCKNAME, BPF_CGROUP_INET6_GETSOCKNAME, BPF_XDP_DEVMAP, BPF_CGROUP_INET_SOCK_RELEASE, BPF_XDP_CPUMAP, BPF_XDP, BPF_SK_REUSEPORT_SELECT, BPF_SK_REUSEPORT_SELECT_OR_MIGRATE}
-use Rattle.ebpf_parts.specs.declared.programs.cgroup_skb.CgroupSkbAttachType.{CgroupSkbAttachType}
-use Rattle.ebpf_parts.specs.declared.programs.cgroup_skb.CgroupSkbAttachType.TheVariants.{Ingress, Egress}
-use Rattle.ebpf_parts.specs.declared.programs.cgroup_sock.CgroupSockAttachType.{CgroupSockAttachType}
-use Rattle.ebpf_parts.specs.declared.programs.cgroup_sock.CgroupSockAttachType.TheVariants.{PostBind4, PostBind6, SockCreate, SockRelease}
-use Rattle.ebpf_parts.specs.declared.programs.cgroup_sock_addr.CgroupSockAddrAttachType.{CgroupSockAddrAttachType}
-use Rattle.ebpf_parts.specs.declared.programs.cgroup_sock_addr.CgroupSockAddrAttachType.TheVariants.{Bind4, Bind6, Connect4, Connect6, GetPeerName4, GetPeerName6, GetSockName4, GetSockName6, UDPSendMsg4, UDPSendMsg6, UDPRecvMsg4, UDPRecvMsg6}
-use Rattle.ebpf_parts.specs.declared.programs.cgroup_sockopt.CgroupSockoptAttachType.{CgroupSockoptAttachType}
-use Rattle.ebpf_parts.specs.declared.programs.cgroup_sockopt.CgroupSockoptAttachType.TheVariants.{Get, Set}
+use Rattle.ebpf_parts.specs.declared.programs.attach_type.CgroupSkbAttachType.{CgroupSkbAttachType}
+use Rattle.ebpf_parts.specs.declared.programs.attach_type.CgroupSkbAttachType.TheVariants.{Ingress, Egress}
+use Rattle.ebpf_parts.specs.declared.programs.attach_type.CgroupSockAttachType.{CgroupSockAttachType}
+use Rattle.ebpf_parts.specs.declared.programs.attach_type.CgroupSockAttachType.TheVariants.{PostBind4, PostBind6, SockCreate, SockRelease}
+use Rattle.ebpf_parts.specs.declared.programs.attach_type.CgroupSockAddrAttachType.{CgroupSockAddrAttachType}
+use Rattle.ebpf_parts.specs.declared.programs.attach_type.CgroupSockAddrAttachType.TheVariants.{Bind4, Bind6, Connect4, Connect6, GetPeerName4, GetPeerName6, GetSockName4, GetSockName6, UDPSendMsg4, UDPSendMsg6, UDPRecvMsg4, UDPRecvMsg6}
+use Rattle.ebpf_parts.specs.declared.programs.attach_type.CgroupSockoptAttachType.{CgroupSockoptAttachType}
+use Rattle.ebpf_parts.specs.declared.programs.attach_type.CgroupSockoptAttachType.TheVariants.{Get, Set}
 use Rattle.ebpf_parts.specs.declared.programs.kind.NamedKind.{NamedKind}
 use Rattle.ebpf_parts.specs.declared.programs.kind.ProgramKind.{ProgramKind}
-use Rattle.ebpf_parts.specs.declared.programs.named_kinds.TheConstants.{NAMED_KINDS}
+use Rattle.ebpf_parts.specs.declared.programs.kind.TheConstants.{NAMED_KINDS}
 use Rattle.ebpf_parts.specs.declared.programs.program_type.bpf_prog_type.{bpf_prog_type}
 use Rattle.ebpf_parts.specs.declared.programs.program_type.bpf_prog_type.TheVariants as types
-use Rattle.ebpf_parts.specs.declared.programs.sk_reuseport.SkReuseportAttachType.{SkReuseportAttachType}
-use Rattle.ebpf_parts.specs.declared.programs.sk_reuseport.SkReuseportAttachType.TheVariants.{Select, SelectOrMigrate}
-use Rattle.ebpf_parts.specs.declared.programs.sk_skb.SkSkbKind.{SkSkbKind}
-use Rattle.ebpf_parts.specs.declared.programs.sk_skb.SkSkbKind.TheVariants.{StreamParser, StreamVerdict}
-use Rattle.ebpf_parts.specs.declared.programs.xdp.XdpAttachType.{XdpAttachType}
-use Rattle.ebpf_parts.specs.declared.programs.xdp.XdpAttachType.TheVariants.{Interface, CpuMap, DevMap}
+use Rattle.ebpf_parts.specs.declared.programs.attach_type.SkReuseportAttachType.{SkReuseportAttachType}
+use Rattle.ebpf_parts.specs.declared.programs.attach_type.SkReuseportAttachType.TheVariants.{Select, SelectOrMigrate}
+use Rattle.ebpf_parts.specs.declared.programs.attach_type.SkSkbKind.{SkSkbKind}
+use Rattle.ebpf_parts.specs.declared.programs.attach_type.SkSkbKind.TheVariants.{StreamParser, StreamVerdict}
+use Rattle.ebpf_parts.specs.declared.programs.attach_type.XdpAttachType.{XdpAttachType}
+use Rattle.ebpf_parts.specs.declared.programs.attach_type.XdpAttachType.TheVariants.{Interface, CpuMap, DevMap}
 use Rattle.ebpf_parts.specs.declared.reading.Reading.{Reading}
 use Rattle.ebpf_parts.specs.declared.reading.Reading.TheVariants.{Stated, Broad}
 
@@ -46,9 +46,10 @@ second_piece name = option_map (λ _. first_piece (after_first (λ b. b == 47) n
 abbrev pub lookup_piece : {X : Type 0} → List (List ℕ × X) → List ℕ → Option X
 lookup_piece table piece = lookup (bytes_eq piece) table
 
--- probes of the kernel and of processes
-unfoldable pub probe_sections : List (List ℕ × ProgramSection)
-probe_sections =
+-- the kinds that the first piece says alone: probes of the kernel and of processes, points that are traced, sockets, packets
+-- and signals, and what extends the kernel
+unfoldable pub piece_sections : List (List ℕ × ProgramSection)
+piece_sections =
     (codes "kprobe", KProbe)
     ∷ (codes "kretprobe", KRetProbe)
     ∷ (codes "uprobe", UProbe false false)
@@ -59,12 +60,7 @@ probe_sections =
     ∷ (codes "uretprobe.s", URetProbe true false)
     ∷ (codes "uretprobe.multi", URetProbe false true)
     ∷ (codes "uretprobe.multi.s", URetProbe true true)
-    ∷ []
-
--- points that are traced
-unfoldable pub trace_sections : List (List ℕ × ProgramSection)
-trace_sections =
-    (codes "tp_btf", BtfTracePoint)
+    ∷ (codes "tp_btf", BtfTracePoint)
     ∷ (codes "tracepoint", TracePoint)
     ∷ (codes "tp", TracePoint)
     ∷ (codes "raw_tp", RawTracePoint)
@@ -74,24 +70,14 @@ trace_sections =
     ∷ (codes "fentry.s", FEntry true)
     ∷ (codes "fexit", FExit false)
     ∷ (codes "fexit.s", FExit true)
-    ∷ []
-
--- sockets, packets and signals
-unfoldable pub packet_sections : List (List ℕ × ProgramSection)
-packet_sections =
-    (codes "socket", SocketFilter)
+    ∷ (codes "socket", SocketFilter)
     ∷ (codes "sk_msg", SkMsg)
     ∷ (codes "sockops", SockOps)
     ∷ (codes "classifier", SchedClassifier)
     ∷ (codes "sk_lookup", SkLookup)
     ∷ (codes "flow_dissector", FlowDissector)
     ∷ (codes "lirc_mode2", LircMode2)
-    ∷ []
-
--- what extends the kernel
-unfoldable pub kernel_sections : List (List ℕ × ProgramSection)
-kernel_sections =
-    (codes "lsm", Lsm false)
+    ∷ (codes "lsm", Lsm false)
     ∷ (codes "lsm.s", Lsm true)
     ∷ (codes "iter", Iter false)
     ∷ (codes "iter.s", Iter true)
@@ -99,12 +85,8 @@ kernel_sections =
     ∷ (codes "freplace", Extension)
     ∷ []
 
--- the kinds that the first piece says alone
 abbrev pub one_piece : List ℕ → Option ProgramSection
-one_piece piece =
-    or_else (lookup_piece probe_sections piece)
-    (or_else (lookup_piece trace_sections piece)
-    (or_else (lookup_piece packet_sections piece) (lookup_piece kernel_sections piece)))
+one_piece piece = lookup_piece piece_sections piece
 
 -- after `xdp` and `xdp.frags`
 unfoldable pub xdp_sections : Bool → List (List ℕ × ProgramSection)

@@ -1,13 +1,13 @@
-//! Why an object could not be parsed or changed.
+//! Why an object could not be parsed or changed, and words that errors share.
 
 ghost use Rattle.std.specs.Prelude.{◌≡◌};
 ghost use Rattle.ebpf_parts.specs.declared.error.ParseError.TheVariants.{OutOfMemory};
 
-use crate::wording::SymbolWords;
 use ebpf_base::{Items, Text};
 use ebpf_btf::BtfError;
 use ebpf_elf::ElfReadError;
 use std::alloc::{AllocError, AllocFailed};
+use std::fmt;
 use thiserror::Error;
 
 /// Why an object could not be parsed or changed.
@@ -108,5 +108,43 @@ impl<T: Drop> From<AllocFailed<T>> for ParseError {
 
     fn from(_error: AllocFailed<T>) -> ParseError {
         ParseError::OutOfMemory
+    }
+}
+
+/// A symbol, as errors speak of it: `symbol 12 "total"`, its index as `readelf -s` has it, and its name where it has one.
+#[derive(Clone, Copy, Debug)]
+pub struct SymbolWords<'a> {
+    /// Its number.
+    pub number: usize,
+    /// Its name, which may be empty.
+    pub name: &'a Option<Text>,
+}
+
+impl fmt::Display for SymbolWords<'_> {
+    fn fmt<W: fmt::Write>(&self, f: &mut fmt::Formatter<W>) -> fmt::Result {
+        write!(f, "symbol {}", self.number)?;
+        match self.name {
+            Some(name) if !name.is_empty() => write!(f, " {:?}", name.as_str()),
+            _ => Ok(()),
+        }
+    }
+}
+
+/// What stands before an error that is about one function or one section: `function "main": `. Nothing where the name is
+/// empty, as it is where memory was refused.
+#[derive(Clone, Copy, Debug)]
+pub struct Within<'a> {
+    /// What it is.
+    pub what: &'static str,
+    /// Its name.
+    pub name: &'a str,
+}
+
+impl fmt::Display for Within<'_> {
+    fn fmt<W: fmt::Write>(&self, f: &mut fmt::Formatter<W>) -> fmt::Result {
+        if self.name.is_empty() {
+            return Ok(());
+        }
+        write!(f, "{} {:?}: ", self.what, self.name)
     }
 }

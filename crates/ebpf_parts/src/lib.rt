@@ -10,13 +10,9 @@ mod program_section;
 pub mod programs;
 mod reading;
 mod section;
-mod section_kind;
 mod section_name;
-mod wording;
 
-pub use error::ParseError;
+pub use error::{ParseError, SymbolWords, Within};
 pub use program_section::ProgramSection;
 pub use reading::Reading;
-pub use section::{Relocation, Section};
-pub use section_kind::EbpfSectionKind;
-pub use wording::{SymbolWords, Within};
+pub use section::{EbpfSectionKind, Relocation, Section};

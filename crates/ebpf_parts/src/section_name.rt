@@ -2,7 +2,7 @@
 
 ghost use Rattle.std.specs.Prelude.{◌≡◌};
 ghost use Rattle.std.specs.Option.{option_copied};
-ghost use Rattle.ebpf_parts.specs.ProgramTypes.{address_calls, cgroup_section, cgroup_sections, cgroup_skb_sections, first_piece, kernel_sections, one_piece, packet_sections, probe_sections, program_section, lookup_piece, second_piece, sk_reuseport_sections, sk_skb_sections, socket_events, trace_sections, two_pieces, xdp_sections};
+ghost use Rattle.ebpf_parts.specs.ProgramTypes.{address_calls, cgroup_section, cgroup_sections, cgroup_skb_sections, first_piece, one_piece, program_section, lookup_piece, second_piece, sk_reuseport_sections, sk_skb_sections, socket_events, two_pieces, xdp_sections};
 
 use crate::program_section::ProgramSection;
 use crate::programs::{
@@ -30,10 +30,11 @@ fn second_piece(name: &str) -> Option<&str>
     }
 }
 
-/// Probes of the kernel and of processes.
-#[tactic(auto, unfolding(crate::specs::ProgramTypes::probe_sections))]
-fn probe(piece: &str) -> Option<ProgramSection>
-    ensures { result ≡ lookup_piece probe_sections piece.now }
+/// The kinds that the first piece says alone: probes of the kernel and of processes, points that are traced, sockets, packets
+/// and signals, and what extends the kernel.
+#[tactic(auto, unfolding(crate::specs::ProgramTypes::piece_sections))]
+fn one_piece(piece: &str) -> Option<ProgramSection>
+    ensures { result ≡ one_piece piece.now }
 {
     match piece {
         "kprobe" => Some(ProgramSection::KProbe),
@@ -70,16 +71,6 @@ fn probe(piece: &str) -> Option<ProgramSection>
             sleepable: true,
             multi: true,
         }),
-        _ => None,
-    }
-}
-
-/// Points that are traced.
-#[tactic(auto, unfolding(crate::specs::ProgramTypes::trace_sections))]
-fn trace(piece: &str) -> Option<ProgramSection>
-    ensures { result ≡ lookup_piece trace_sections piece.now }
-{
-    match piece {
         "tp_btf" => Some(ProgramSection::BtfTracePoint),
         "tracepoint" => Some(ProgramSection::TracePoint),
         "tp" => Some(ProgramSection::TracePoint),
@@ -90,16 +81,6 @@ fn trace(piece: &str) -> Option<ProgramSection>
         "fentry.s" => Some(ProgramSection::FEntry { sleepable: true }),
         "fexit" => Some(ProgramSection::FExit { sleepable: false }),
         "fexit.s" => Some(ProgramSection::FExit { sleepable: true }),
-        _ => None,
-    }
-}
-
-/// Sockets, packets and signals.
-#[tactic(auto, unfolding(crate::specs::ProgramTypes::packet_sections))]
-fn packet(piece: &str) -> Option<ProgramSection>
-    ensures { result ≡ lookup_piece packet_sections piece.now }
-{
-    match piece {
         "socket" => Some(ProgramSection::SocketFilter),
         "sk_msg" => Some(ProgramSection::SkMsg),
         "sockops" => Some(ProgramSection::SockOps),
@@ -107,16 +88,6 @@ fn packet(piece: &str) -> Option<ProgramSection>
         "sk_lookup" => Some(ProgramSection::SkLookup),
         "flow_dissector" => Some(ProgramSection::FlowDissector),
         "lirc_mode2" => Some(ProgramSection::LircMode2),
-        _ => None,
-    }
-}
-
-/// What extends the kernel.
-#[tactic(auto, unfolding(crate::specs::ProgramTypes::kernel_sections))]
-fn kernel(piece: &str) -> Option<ProgramSection>
-    ensures { result ≡ lookup_piece kernel_sections piece.now }
-{
-    match piece {
         "lsm" => Some(ProgramSection::Lsm { sleepable: false }),
         "lsm.s" => Some(ProgramSection::Lsm { sleepable: true }),
         "iter" => Some(ProgramSection::Iter { sleepable: false }),
@@ -125,22 +96,6 @@ fn kernel(piece: &str) -> Option<ProgramSection>
         "freplace" => Some(ProgramSection::Extension),
         _ => None,
     }
-}
-
-/// The kinds that the first piece says alone.
-fn one_piece(piece: &str) -> Option<ProgramSection>
-    ensures { result ≡ one_piece piece.now }
-{
-    if let Some(section) = probe(piece) {
-        return Some(section);
-    }
-    if let Some(section) = trace(piece) {
-        return Some(section);
-    }
-    if let Some(section) = packet(piece) {
-        return Some(section);
-    }
-    kernel(piece)
 }
 
 /// After `xdp` and `xdp.frags`.

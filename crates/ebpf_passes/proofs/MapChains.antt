@@ -1,45 +1,35 @@
--- The tables of maps that are handed in, and the places in their data along slots in a row.
-use Rattle.std.proofs.Common.{◌≡◌, ℕ, zero, suc, ◌+◌, ◌-◌, ◌*◌, ◌/◌, ◌%◌, ◌<◌, Bool, true, false, cond, List, [], ◌∷◌, length, map, Some, None, IsSome, Option, Result, Ok, Err, refl, sym, ap, subst, ◌∙◌, arith, nat_lt, ◌++◌}
+-- The tables of maps that are handed in, and the places in their data, slot by slot.
+use Rattle.std.proofs.Common.{◌≡◌, ℕ, zero, suc, ◌+◌, ◌-◌, ◌*◌, ◌/◌, ◌%◌, ◌<◌, Bool, true, false, cond, List, [], ◌∷◌, length, map, Some, None, Option, Result, Ok, Err, refl, sym, ap, subst, ◌∙◌, arith, nat_lt, ◌++◌}
 use Rattle.std.proofs.lemmas.Bool.Decides.{nat_tests}
-use Rattle.std.proofs.lemmas.Int.{ints}
-use Rattle.std.proofs.lemmas.List.FromFn.{sum_by-map-range_with_len_more}
-use Rattle.std.specs.Prelude.{ℤ, pos, ◌+ℤ◌, ◌==◌, ◌||◌, sum, unwrap_or}
+use Rattle.std.specs.Prelude.{ℤ, pos, ◌+ℤ◌, ◌==◌, ◌||◌, unwrap_or, option_map}
 use Rattle.std.specs.FinMap.{get, get-entries, find, entries, nat_cmp-IsAntisymmetric, FinMap, insert, empty}
-use Rattle.std.specs.List.{range_with_len, flat_map}
+use Rattle.std.specs.List.{flat_map}
 use Rattle.std.specs.Ordering.{nat_cmp, eq_by_cmp}
 use Rattle.std.proofs.lemmas.List.{map-append}
-use Rattle.ebpf_base.proofs.Keyed.{put_all-append}
-use Rattle.ebpf_base.proofs.Orderings.{is_equal}
-use Rattle.ebpf_base.specs.Faults.{first_some, or_else}
-use Rattle.ebpf_base.specs.Keyed.{put_all}
+use Rattle.ebpf_base.proofs.Mapped.{put_all-append}
+use Rattle.ebpf_base.proofs.Maps.{is_equal}
+use Rattle.ebpf_base.proofs.Faults.{both_None}
+use Rattle.ebpf_base.specs.Faults.{first_some}
+use Rattle.ebpf_base.specs.Maps.{put_all}
 use Rattle.ebpf_elf.specs.declared.relocation.ElfRelocation.{ElfRelocation}
 use Rattle.ebpf_model.specs.declared.function.Function.{Function}
 use Rattle.ebpf_model.specs.declared.symbol.Symbol.{Symbol}
 use Rattle.ebpf_parts.specs.Maps.{section_index_of, symbol_index_of}
 use Rattle.ebpf_parts.specs.Slots.{is_pseudo_call}
 use Rattle.ebpf_parts.specs.declared.insn.bpf_insn.{bpf_insn}
-use Rattle.ebpf_passes.specs.Maps.{address_in, data_address_in_section, data_address_of_symbol, data_address_by, data_address, IsChain, data_addresses, OffsetsAddUp, MapInputs, fits_imm, value_edit, target_edit, found_edit, map_target_at, edit_in_section, map_edit_of_symbol, map_edit, GivenMap, LentMap, given_map, map_target, at_symbol, tables_of, with_symbol, with_map_target}
+use Rattle.ebpf_passes.specs.Maps.{address_in, data_address_in_section, data_address_of_symbol, data_address_by, data_address, OffsetsAddUp, MapInputs, fits_imm, value_edit, target_edit, found_edit, map_target_at, edit_in_section, map_edit_of_symbol, map_edit, GivenMap, LentMap, given_map, map_target, at_symbol, tables_of, with_symbol, with_map_target}
 use Rattle.ebpf_passes.specs.Relocated.{slot_or_zeros, edited_next, found_slot, SectionRelocations, edit_of, edit_by, edit_at, is_in_slots, refused, refusal_at, first_refusal}
 use Rattle.ebpf_passes.specs.declared.edit.Edit.{Edit}
 use Rattle.ebpf_passes.specs.declared.edit.Edit.TheVariants.{Stay, Slot, Pair}
-use Rattle.ebpf_passes.specs.declared.map_tables.MapTables.{MapTables}
-use Rattle.ebpf_passes.specs.declared.map_tables.MapTarget.{MapTarget}
-use Rattle.ebpf_passes.specs.declared.refusal.SlotFault.{SlotFault}
-
--- ---- places in maps' data add up along slots in a row
+use Rattle.ebpf_passes.specs.declared.maps.MapTables.{MapTables}
+use Rattle.ebpf_passes.specs.declared.maps.MapTarget.{MapTarget}
+use Rattle.ebpf_passes.specs.declared.edit.SlotFault.{SlotFault}
 
 -- ---- no relocation is refused: the one at an offset isn't
 
-none_first : {A E : Type 0} (f : A → Option E) (x : A) (xs : List A) → first_some f (x ∷ xs) ≡ None → (f x ≡ None) × (first_some f xs ≡ None)
-none_first f x xs h = by (f x) refl h
-  where
-    by : (o : Option _) → f x ≡ o → or_else o (first_some f xs) ≡ None → (f x ≡ None) × (first_some f xs ≡ None)
-    by None is g = (is, g)
-    by (Some e) is g = absurd (cc)
-
 at_offset : {E : Type 0} (f : ℕ × ElfRelocation → Option E) (q : ℕ) (r : ElfRelocation) (es : List (ℕ × ElfRelocation)) → first_some f es ≡ None → find nat_cmp q es ≡ Some r → f (q, r) ≡ None
 at_offset f q r [] none there = absurd (cc)
-at_offset f q r (e ∷ es) none there = by (eq_by_cmp nat_cmp q e.0) refl there (none_first f e es none) (at_offset f q r es)
+at_offset f q r (e ∷ es) none there = by (eq_by_cmp nat_cmp q e.0) refl there (both_None (f e) (first_some f es) none) (at_offset f q r es)
   where
     by : (b : Bool) → eq_by_cmp nat_cmp q e.0 ≡ b → cond b (Some e.1) (find nat_cmp q es) ≡ Some r → (f e ≡ None) × (first_some f es ≡ None)
         → (first_some f es ≡ None → find nat_cmp q es ≡ Some r → f (q, r) ≡ None) → f (q, r) ≡ None
@@ -89,7 +79,7 @@ module _ (slot next : bpf_insn) (has_next : Bool) where
   in_data target address = by target.has_data has_next (fits_imm (slot.imm +ℤ pos address)) refl refl
     where
       by : (d m b : Bool) → has_next ≡ m → fits_imm (slot.imm +ℤ pos address) ≡ b
-          → Follows (cond d (Some address) None) (cond d (cond m (value_edit (cond b (Some (slot.imm +ℤ pos address)) None) slot target.descriptor) (Err Rattle.ebpf_passes.specs.declared.refusal.SlotFault.TheVariants.InvalidOffset)) (Ok (Slot (Rattle.ebpf_passes.specs.Maps.with_source slot 1 target.descriptor))))
+          → Follows (cond d (Some address) None) (cond d (cond m (value_edit (cond b (Some (slot.imm +ℤ pos address)) None) slot target.descriptor) (Err Rattle.ebpf_passes.specs.declared.edit.SlotFault.TheVariants.InvalidOffset)) (Ok (Slot (Rattle.ebpf_passes.specs.Maps.with_source slot 1 target.descriptor))))
       by false m b has holds = (λ e is. refl, λ none. refl)
       by true false b has holds = refuses _ _
       by true true false has holds = refuses _ _
@@ -158,39 +148,13 @@ module _ (inputs : MapInputs) (section_relocations : SectionRelocations) (f : Fu
           ap (λ o. edited_next (edit_by (map_edit inputs) o (here k) (more_at k)) (slot_or_zeros f.instructions (suc k))) there
           ∙ (follows_symbol (here k) (slot_or_zeros f.instructions (suc k)) (more_at k) inputs (get inputs.symbols r.symbol_index) r).1 own
 
-  begins : (i : ℕ) → ((h : ℕ) → h + 1 ≡ i → data_address inputs section_relocations f h ≡ None) → (here i).imm ≡ (slot_or_zeros f.instructions i).imm
-  begins zero least = refl
-  begins (suc h) least = ap (λ s. s.imm) (untouched h (least h (omega arith)))
-
-  value_of : (o : Option ℕ) → IsSome o → o ≡ Some (unwrap_or o 0)
-  value_of None h = absurd (cc)
-  value_of (Some a) h = refl
-
-  sum_push : (g : ℕ → ℕ) (a n : ℕ) → sum (map g (range_with_len a (suc n))) ≡ sum (map g (range_with_len a n)) + g (a + n)
-  sum_push g a n =
-      let e : suc n ≡ n + 1 = omega arith in
-      ap (λ k. sum (map g (range_with_len a k))) e ∙ sum_by-map-range_with_len_more (λ x. x) g a n (a + n) refl
-
-  added : (a : ℤ) (m n s : ℕ) → s ≡ m + n → (a +ℤ pos m) +ℤ pos n ≡ a +ℤ pos s
-  added a m n s e = omega (arith, ints)
-
-  adds : (i n : ℕ) → i + n < length f.instructions → IsChain inputs section_relocations f i n → (here (i + n)).imm ≡ (slot_or_zeros f.instructions i).imm +ℤ pos (data_addresses inputs section_relocations f i n)
-  adds i zero inside chain =
-      let e : i + 0 ≡ i = omega arith in
-      let none : (slot_or_zeros f.instructions i).imm ≡ (slot_or_zeros f.instructions i).imm +ℤ pos 0 = omega (arith, ints) in
-      ap (λ k. (here k).imm) e ∙ begins i chain.least ∙ none
-  adds i (suc n) inside chain =
-      let e : i + suc n ≡ suc (i + n) = omega arith in
-      let before : i + n < length f.instructions = omega arith in
-      let part : IsChain inputs section_relocations f i n = record { all = λ k le lt. chain.all k le (omega arith); least = chain.least } in
-      let address : data_address inputs section_relocations f (i + n) ≡ Some (unwrap_or (data_address inputs section_relocations f (i + n)) 0) = value_of _ (chain.all (i + n) (omega arith) (omega arith)) in
-      ap (λ k. (here k).imm) e
-      ∙ after (i + n) _ before address
-      ∙ ap (λ z. z +ℤ pos (unwrap_or (data_address inputs section_relocations f (i + n)) 0)) (adds i n before part)
-      ∙ added _ _ _ _ (sum_push (λ k. unwrap_or (data_address inputs section_relocations f k) 0) i n)
-
 pub offsets_add_up : OffsetsAddUp
-offsets_add_up inputs section_relocations f i n clear inside chain = adds inputs section_relocations f clear i n inside chain
+offsets_add_up inputs section_relocations f k clear inside = by (data_address inputs section_relocations f k) refl
+  where
+    by : (o : Option ℕ) → data_address inputs section_relocations f k ≡ o
+        → (here inputs section_relocations f clear (suc k)).imm ≡ unwrap_or (option_map (λ address. (here inputs section_relocations f clear k).imm +ℤ pos address) o) (slot_or_zeros f.instructions (suc k)).imm
+    by None is = ap (λ s. s.imm) (untouched inputs section_relocations f clear k is)
+    by (Some address) is = after inputs section_relocations f clear k address (omega arith) is
 
 -- ---- the maps that are handed in, with one more at the end
 

@@ -1,391 +1,363 @@
--- Relocations in the order of their offsets, written in place one after the other.
-use Rattle.std.proofs.Common.{◌≡◌, ℕ, ◌<◌, ◌≤◌, ◌≢◌, Bool, true, false, cond, List, [], ◌∷◌, Some, None, Option, refl, sym, ap, ◌∙◌, arith, ◌&&◌, T, nat_le, zero, suc, ◌+◌, length, set, get_or-set_same, get_or-set_other, inl, inr, add-one, ◌-◌, ◌*◌, ◌/◌, ◌%◌, subst, nat_lt, if◌then◌else◌, ◌==◌}
+-- Relocations in the order of their offsets: written in place one after the other, and the first that can't be applied.
+use Rattle.std.proofs.Common.{◌≡◌, ℕ, ◌<◌, ◌≤◌, ◌≢◌, Bool, true, false, cond, List, [], ◌∷◌, Some, None, Option, Result, Ok, Err, refl, sym, ap, ◌∙◌, arith, ◌&&◌, nat_le, zero, suc, ◌+◌, length, get_or-set_same, get_or-set_other, inl, inr, add-one, ◌-◌, ◌*◌, ◌/◌, ◌%◌, subst, nat_lt, if◌then◌else◌, ◌==◌}
+use Rattle.std.specs.Prelude.{pos, option_map, unwrap_or}
+use Rattle.std.specs.Ordering.{nat_cmp}
+use Rattle.std.specs.declared.cmp.Ordering.TheVariants.{Less}
+use Rattle.std.specs.Cmp.{ranked, unsigned_tied}
+use Rattle.std.specs.FinMap.{find, get, get-entries, entries, FinMap, empty}
+use Rattle.std.specs.List.{AllByRecursion}
+use Rattle.std.specs.List.Sorted.{IsStrictlySortedBy}
+use Rattle.std.specs.Map.{keys_of}
+use Rattle.std.proofs.lemmas.Bool.{cases_eq}
 use Rattle.std.proofs.lemmas.Bool.Decides.{nat_tests}
-use Rattle.std.specs.declared.cmp.Ordering.TheVariants.{Less, Equal, Greater}
-use Rattle.std.specs.Ordering.{nat_cmp, eq_by_cmp, is_eq, is_lt}
-use Rattle.std.specs.Cmp.{nat_cmp_total, tied_itself, ranked}
-use Rattle.std.specs.FinMap.{find, is_sorted, nat_cmp-IsAntisymmetric, get, get-entries, entries, entries_sorted, FinMap, empty}
-use Rattle.std.specs.FinMap.Entries.{below_all}
-use Rattle.std.proofs.lemmas.Bool.{cases_lt, cases_eq}
 use Rattle.std.proofs.lemmas.List.{length-set, ext_get_or}
-use Rattle.std.specs.Prelude.{ℤ, pos, option_map, unwrap_or}
 use Rattle.std.proofs.lemmas.List.FromFn.{get_or-map-range_with_len, length-map-range_with_len}
 use Rattle.ebpf_base.proofs.Mapped.{map_values-identity, map_values-same_at}
-use Rattle.ebpf_base.proofs.Maps.{entries-empty}
-use Rattle.ebpf_base.specs.EntriesFrom.{entries_from}
+use Rattle.ebpf_base.proofs.Maps.{entries-empty, entries_rise}
+use Rattle.ebpf_base.specs.Maps.{entries_from, key_cmp, mapped_entries, map_values}
 use Rattle.ebpf_base.specs.Faults.{first_some, or_else}
-use Rattle.ebpf_base.specs.Keys.{key_cmp}
-use Rattle.ebpf_base.specs.Mapped.{mapped_entries, map_values}
 use Rattle.ebpf_elf.specs.declared.relocation.ElfRelocation.{ElfRelocation}
+use Rattle.ebpf_model.specs.Walks.{entries_or_none}
 use Rattle.ebpf_model.specs.declared.function.Function.{Function}
 use Rattle.ebpf_model.specs.declared.symbol.Symbol.{Symbol}
 use Rattle.ebpf_parts.specs.declared.insn.bpf_insn.{bpf_insn}
-use Rattle.ebpf_passes.specs.Relocated.{slot_or_zeros, edited, edited_next, found_slot, slot_after, slots_after_edit, slots_after, EditRule, SectionRelocations, edit_of, edit_by, edit_at, slots_after_relocations, slots_after_relocation, Relocations, relocations_of_section, refusal_at, first_refusal, function_fault, error_of, relocated, PassesKeepShapes}
+use Rattle.ebpf_passes.specs.Relocated.{slot_or_zeros, edited, edited_next, found_slot, slot_after, slots_after_edit, slots_after, EditRule, SectionRelocations, edit_of, edit_by, edit_at, slots_after_relocations, slots_after_relocation, Relocations, relocations_of_section, is_in_slots, refused, refusal_at, first_refusal, function_fault, error_of, relocated, PassesKeepShapes, Pending, pending_slot, pending_of, pending_after, scan_on, scan, tried}
 use Rattle.ebpf_passes.specs.declared.edit.Edit.{Edit}
 use Rattle.ebpf_passes.specs.declared.edit.Edit.TheVariants.{Stay, Slot, Pair}
+use Rattle.ebpf_passes.specs.declared.edit.SlotFault.{SlotFault}
+use Rattle.ebpf_passes.specs.declared.edit.SlotFault.TheVariants.{InvalidOffset}
+use Rattle.ebpf_passes.specs.declared.edit.SlotRefusal.{SlotRefusal}
 
--- ---- relocations in the order of their offsets: what stands at an offset
+-- ---- relocations in the order of their offsets
 
-apart_cmp : (x y : ℕ) → x ≢ y → eq_by_cmp nat_cmp x y ≡ false
-apart_cmp x y ne = elim (nat_cmp x y) as (λ r. nat_cmp x y ≡ r → is_eq r ≡ false) [
-  | Less ↦ λ e. refl
-  | Equal ↦ λ e. absurd (ne (nat_cmp-IsAntisymmetric x y e))
-  | Greater ↦ λ e. refl
-] refl
+-- the offsets rise, from one on
+abbrev Rises : ℕ → List (ℕ × ElfRelocation) → Type 0
+Rises low [] = Unit {0}
+Rises low (e ∷ es) = (low ≤ e.0) × Rises (suc e.0) es
 
-same_cmp : (x : ℕ) → eq_by_cmp nat_cmp x x ≡ true
-same_cmp x = ap is_eq (tied_itself nat_cmp_total x)
+rises_after : (o : ℕ) (es : List (ℕ × ElfRelocation)) → AllByRecursion (λ k. nat_cmp o k ≡ Less) (keys_of es) → IsStrictlySortedBy nat_cmp (keys_of es) → Rises (suc o) es
+unfolding IsStrictlySortedBy
+rises_after o [] above up = tt
+rises_after o (e ∷ es) above up = (ranked o e.0 Less (sym above.0), rises_after e.0 es up.0 up.1)
 
-is_below : (x y : ℕ) → T (is_lt (nat_cmp x y)) → x < y
-is_below x y h = elim (nat_cmp x y) as (λ r. nat_cmp x y ≡ r → T (is_lt r) → x < y) [
-  | Less ↦ λ e g. ranked x y Less (sym e)
-  | Equal ↦ λ e g. absurd g
-  | Greater ↦ λ e g. absurd g
-] refl h
+rises : (es : List (ℕ × ElfRelocation)) → IsStrictlySortedBy nat_cmp (keys_of es) → Rises 0 es
+unfolding IsStrictlySortedBy
+rises [] up = tt
+rises (e ∷ es) up = (omega arith, rises_after e.0 es up.0 up.1)
 
--- all offsets are above one
-abbrev pub Above : ℕ → List (ℕ × ElfRelocation) → Type 0
-Above o [] = Unit {0}
-Above o (e ∷ es) = (o < e.0) × Above o es
+find_other : (q : ℕ) (e : ℕ × ElfRelocation) (es : List (ℕ × ElfRelocation)) → q ≢ e.0 → find nat_cmp q (e ∷ es) ≡ find nat_cmp q es
+find_other q e es ne =
+    let other : (q == e.0) ≡ false = grind (arith, nat_tests) in
+    rw (unsigned_tied q e.0, other) refl
 
--- the offsets rise
-abbrev pub Rising : List (ℕ × ElfRelocation) → Type 0
-Rising [] = Unit {0}
-Rising (e ∷ es) = Above e.0 es × Rising es
+find_head : (e : ℕ × ElfRelocation) (es : List (ℕ × ElfRelocation)) → find nat_cmp e.0 (e ∷ es) ≡ Some e.1
+find_head e es =
+    let same : (e.0 == e.0) ≡ true = grind (arith, nat_tests) in
+    rw (unsigned_tied e.0 e.0, same) refl
 
--- no offset is below one
-abbrev pub AllFrom : ℕ → List (ℕ × ElfRelocation) → Type 0
-AllFrom start [] = Unit {0}
-AllFrom start (e ∷ es) = (start ≤ e.0) × AllFrom start es
+find_below : (q low : ℕ) (es : List (ℕ × ElfRelocation)) → Rises low es → q < low → find nat_cmp q es ≡ None
+find_below q low [] up lt = refl
+find_below q low (e ∷ es) up lt = find_other q e es (λ same. absurd (omega (arith, up.0))) ∙ find_below q (suc e.0) es up.1 (omega (arith, up.0))
 
--- an offset from the first of them on
-abbrev pub AtLeastHead : ℕ → List (ℕ × ElfRelocation) → Type 0
-AtLeastHead q [] = ⊥
-AtLeastHead q (e ∷ es) = e.0 ≤ q
-
-split_first : (a b : Bool) → T (a && b) → T a
-split_first true b h = tt
-split_first false b h = absurd h
-
-split_second : (a b : Bool) → T (a && b) → T b
-split_second true b h = h
-split_second false b h = absurd h
-
-pub rising_from : (es : List (ℕ × ElfRelocation)) → T (is_sorted nat_cmp es) → Rising es
-rising_from [] h = tt
-rising_from (e ∷ es) h = (above es (split_first _ _ h), rising_from es (split_second _ _ h))
+-- those from an offset on
+rises_from : (start low from : ℕ) (es : List (ℕ × ElfRelocation)) → ((q : ℕ) → low ≤ q → start ≤ q → from ≤ q) → Rises low es → Rises from (entries_from start es)
+rises_from start low from [] least up = tt
+rises_from start low from (e ∷ es) least up =
+    by (nat_le start e.0) refl (rises_from start (suc e.0) (suc e.0) es (λ q le at. le) up.1) (rises_from start (suc e.0) from es (λ q le at. least q (omega (arith, up.0)) at) up.1)
   where
-    above : (fs : List (ℕ × ElfRelocation)) → T (below_all nat_cmp e.0 fs) → Above e.0 fs
-    above [] g = tt
-    above (f ∷ fs) g = (is_below _ _ (split_first _ _ g), above fs (split_second _ _ g))
+    by : (b : Bool) → nat_le start e.0 ≡ b → Rises (suc e.0) (entries_from start es) → Rises from (entries_from start es) → Rises from (cond b (e ∷ entries_from start es) (entries_from start es))
+    by true at rest others = (least e.0 up.0 (grind (arith, nat_tests)), rest)
+    by false at rest others = others
 
-pub find_other : (q : ℕ) (e : ℕ × ElfRelocation) (es : List (ℕ × ElfRelocation)) → q ≢ e.0 → find nat_cmp q (e ∷ es) ≡ find nat_cmp q es
-find_other q e es ne = rw (apart_cmp q e.0 ne) refl
-
-pub find_head : (e : ℕ × ElfRelocation) (es : List (ℕ × ElfRelocation)) → find nat_cmp e.0 (e ∷ es) ≡ Some e.1
-find_head e es = rw (same_cmp e.0) refl
-
-pub find_none : (q o : ℕ) (es : List (ℕ × ElfRelocation)) → Above o es → q ≤ o → find nat_cmp q es ≡ None
-find_none q o [] h le = refl
-find_none q o (e ∷ es) h le =
-    let ne : q ≢ e.0 = λ same. absurd (omega (arith, h.0)) in
-    find_other q e es ne ∙ find_none q o es h.1 le
-
-pub above_head : (o q : ℕ) (es : List (ℕ × ElfRelocation)) → Above o es → AtLeastHead q es → o < q
-above_head o q [] h g = absurd g
-above_head o q (e ∷ es) h g = omega (arith, h.0)
-
--- ---- those from an offset on
-
-above_kept : (o start : ℕ) (es : List (ℕ × ElfRelocation)) → Above o es → Above o (entries_from start es)
-above_kept o start [] h = tt
-above_kept o start (e ∷ es) h = by (nat_le start e.0) (above_kept o start es h.1)
-  where
-    by : (b : Bool) → Above o (entries_from start es) → Above o (cond b (e ∷ entries_from start es) (entries_from start es))
-    by true rest = (h.0, rest)
-    by false rest = rest
-
-pub rising_kept : (start : ℕ) (es : List (ℕ × ElfRelocation)) → Rising es → Rising (entries_from start es)
-rising_kept start [] h = tt
-rising_kept start (e ∷ es) h = by (nat_le start e.0) (rising_kept start es h.1)
-  where
-    by : (b : Bool) → Rising (entries_from start es) → Rising (cond b (e ∷ entries_from start es) (entries_from start es))
-    by true rest = (above_kept e.0 start es h.0, rest)
-    by false rest = rest
-
-pub all_kept : (start : ℕ) (es : List (ℕ × ElfRelocation)) → AllFrom start (entries_from start es)
-all_kept start [] = tt
-all_kept start (e ∷ es) = by (nat_le start e.0) refl (all_kept start es)
-  where
-    by : (b : Bool) → nat_le start e.0 ≡ b → AllFrom start (entries_from start es) → AllFrom start (cond b (e ∷ entries_from start es) (entries_from start es))
-    by true at rest = (grind (arith, nat_tests), rest)
-    by false at rest = rest
-
-pub find_kept : (start q : ℕ) (es : List (ℕ × ElfRelocation)) → start ≤ q → find nat_cmp q (entries_from start es) ≡ find nat_cmp q es
-find_kept start q [] le = refl
-find_kept start q (e ∷ es) le = by (nat_le start e.0) refl (find_kept start q es le)
+find_from : (start q : ℕ) (es : List (ℕ × ElfRelocation)) → start ≤ q → find nat_cmp q (entries_from start es) ≡ find nat_cmp q es
+find_from start q [] le = refl
+find_from start q (e ∷ es) le = by (nat_le start e.0) refl (find_from start q es le)
   where
     by : (b : Bool) → nat_le start e.0 ≡ b → find nat_cmp q (entries_from start es) ≡ find nat_cmp q es → find nat_cmp q (cond b (e ∷ entries_from start es) (entries_from start es)) ≡ find nat_cmp q (e ∷ es)
-    by true at rest = ap (cond (eq_by_cmp nat_cmp q e.0) (Some e.1)) rest
-    by false at rest =
-        let below : e.0 < start = grind (arith, nat_tests) in
-        let ne : q ≢ e.0 = λ same. absurd (omega arith) in
-        rest ∙ sym (find_other q e es ne)
+    by true at rest = ap (cond (Rattle.std.specs.Ordering.eq_by_cmp nat_cmp q e.0) (Some e.1)) rest
+    by false at rest = rest ∙ sym (find_other q e es (λ same. absurd (grind (arith, nat_tests))))
 
 -- the first fault is the same, where those below the offset have none
-pub first_kept : {E : Type 0} (f : ℕ × ElfRelocation → Option E) (start : ℕ) (es : List (ℕ × ElfRelocation)) → ((e : ℕ × ElfRelocation) → nat_le start e.0 ≡ false → f e ≡ None) → first_some f (entries_from start es) ≡ first_some f es
-first_kept f start [] h = refl
-first_kept f start (e ∷ es) h = by (nat_le start e.0) refl (first_kept f start es h)
+first_from : {E : Type 0} (f : ℕ × ElfRelocation → Option E) (start : ℕ) (es : List (ℕ × ElfRelocation)) → ((e : ℕ × ElfRelocation) → nat_le start e.0 ≡ false → f e ≡ None) → first_some f (entries_from start es) ≡ first_some f es
+first_from f start [] h = refl
+first_from f start (e ∷ es) h = by (nat_le start e.0) refl (first_from f start es h)
   where
     by : (b : Bool) → nat_le start e.0 ≡ b → first_some f (entries_from start es) ≡ first_some f es → first_some f (cond b (e ∷ entries_from start es) (entries_from start es)) ≡ or_else (f e) (first_some f es)
     by true at rest = ap (or_else (f e)) rest
     by false at rest = rw (h e at) rest
 
-pub all_none : {E : Type 0} (f : ℕ × ElfRelocation → Option E) (o : ℕ) (es : List (ℕ × ElfRelocation)) → Above o es → ((e : ℕ × ElfRelocation) → o < e.0 → f e ≡ None) → first_some f es ≡ None
-all_none f o [] above h = refl
-all_none f o (e ∷ es) above h = rw (h e above.0) (all_none f o es above.1 h)
+all_none : {E : Type 0} (f : ℕ × ElfRelocation → Option E) (low : ℕ) (es : List (ℕ × ElfRelocation)) → Rises low es → ((e : ℕ × ElfRelocation) → low ≤ e.0 → f e ≡ None) → first_some f es ≡ None
+all_none f low [] up h = refl
+all_none f low (e ∷ es) up h = rw (h e up.0) (all_none f (suc e.0) es up.1 (λ d le. h d (omega (arith, up.0))))
 
-module _ (section_relocations : SectionRelocations) where
-  -- what stands from the first of some relocations on is among them
-  abbrev pub Tail : List (ℕ × ElfRelocation) → Type 0
-  Tail es = (q : ℕ) → AtLeastHead q es → get section_relocations q ≡ find nat_cmp q es
+module _ (section_relocations : SectionRelocations) (start : ℕ) where
+  -- some relocations are those that stand from slot p on
+  record AreLeft (p : ℕ) (es : List (ℕ × ElfRelocation)) : Type 0 where
+    low : ℕ
+    from : start ≤ low
+    near : start + 8 * p ≤ low + 7
+    up : Rises low es
+    known : (k : ℕ) → p ≤ k → get section_relocations (start + 8 * k) ≡ find nat_cmp (start + 8 * k) es
 
-  pub tail_on : (e : ℕ × ElfRelocation) (es : List (ℕ × ElfRelocation)) → Above e.0 es → Tail (e ∷ es) → Tail es
-  tail_on e es above tail q at_least =
-      let up : e.0 < q = above_head e.0 q es above at_least in
-      let ne : q ≢ e.0 = λ same. absurd (omega arith) in
-      tail q (omega arith) ∙ find_other q e es ne
+  -- at first all from the first slot on
+  all_left : AreLeft 0 (entries_from start (entries section_relocations))
+  all_left = record {
+    low = start;
+    from = omega arith;
+    near = omega arith;
+    up = rises_from start 0 start (entries section_relocations) (λ q le at. at) (rises (entries section_relocations) (entries_rise section_relocations));
+    known = λ k le. get-entries section_relocations (start + 8 * k) ∙ sym (find_from start (start + 8 * k) (entries section_relocations) (omega arith));
+  }
 
-pub at_least_start : (start q : ℕ) (es : List (ℕ × ElfRelocation)) → AllFrom start es → AtLeastHead q es → start ≤ q
-at_least_start start q [] from g = absurd g
-at_least_start start q (e ∷ es) from g = omega (arith, from.0)
+  -- where none is left, no slot has one
+  none_left : (p k : ℕ) → AreLeft p [] → p ≤ k → get section_relocations (start + 8 * k) ≡ None
+  none_left p k left le = left.known k le
 
--- ---- one edit more: the slots after it, where it stands past those that were made
+  module _ (e : ℕ × ElfRelocation) (es : List (ℕ × ElfRelocation)) (p : ℕ) (left : AreLeft p (e ∷ es)) where
+    -- a slot before the first of them has none
+    none_before : (k : ℕ) → p ≤ k → start + 8 * k < e.0 → get section_relocations (start + 8 * k) ≡ None
+    none_before k le lt =
+        left.known k le
+        ∙ find_other (start + 8 * k) e es (λ same. absurd (omega arith))
+        ∙ find_below (start + 8 * k) (suc e.0) es left.up.1 (omega arith)
 
-abbrev pub zeros : bpf_insn
-zeros = record { code = 0; regs = 0; off = pos 0; imm = pos 0 }
+    -- the slot at which it stands
+    stands_at : (k : ℕ) → e.0 ≡ start + 8 * k → get section_relocations (start + 8 * k) ≡ Some e.1
+    stands_at k here =
+        let le : p ≤ k = omega (arith, left.near, left.up.0) in
+        left.known k le ∙ ap (λ q. find nat_cmp q (e ∷ es)) (sym here) ∙ find_head e es
 
-next_alike : (s t : bpf_insn) (next : ℤ) → s ≡ t → edited_next (Pair s next) s ≡ edited_next (Pair s next) t
-next_alike s t next e = ap (edited_next (Pair s next)) e
-
--- slots after some edits
-pub record AreEdited (edit : ℕ → bpf_insn → Edit) (old new : List bpf_insn) : Type 0 where
-  pub as_many : length new ≡ length old
-  pub each : (j : ℕ) → j < length old → slot_or_zeros new j ≡ slot_after edit old j
-
--- edits that agree on the slots find and make the same
-module _ (edit has_next : ℕ → bpf_insn → Edit) (old : List bpf_insn) (same : (j : ℕ) (s : bpf_insn) → j < length old → has_next j s ≡ edit j s) where
-  found_same : (j : ℕ) → j < length old → found_slot has_next old j ≡ found_slot edit old j
-  found_same zero lt = refl
-  found_same (suc j) lt =
-      let below : j < length old = omega arith in
-      ap (λ s. edited_next (has_next j s) (slot_or_zeros old (suc j))) (found_same j below) ∙ ap (λ e. edited_next e (slot_or_zeros old (suc j))) (same j (found_slot edit old j) below)
-
-  pub same_edits : (new : List bpf_insn) → AreEdited edit old new → AreEdited has_next old new
-  same_edits new done = record { as_many = done.as_many; each = λ j lt. done.each j lt ∙ sym (ap (λ s. edited (has_next j s) s) (found_same j lt) ∙ ap (λ e. edited e (found_slot edit old j)) (same j (found_slot edit old j) lt)) }
-
--- an edit is added at slot p, where none stood at p or past it
-module _ (edit has_next : ℕ → bpf_insn → Edit) (old : List bpf_insn) (p : ℕ)
-    (others : (j : ℕ) (s : bpf_insn) → j ≢ p → has_next j s ≡ edit j s) (none : (j : ℕ) (s : bpf_insn) → p ≤ j → edit j s ≡ Stay) where
-  found_before : (j : ℕ) → j ≤ p → found_slot has_next old j ≡ found_slot edit old j
-  found_before zero le = refl
-  found_before (suc j) le =
-      let before : j ≤ p = omega arith in
-      let other : j ≢ p = λ e. absurd (omega arith) in
-      ap (λ s. edited_next (has_next j s) (slot_or_zeros old (suc j))) (found_before j before) ∙ ap (λ e. edited_next e (slot_or_zeros old (suc j))) (others j (found_slot edit old j) other)
-
-  -- past slot p no edit has written an immediate
-  found_own : (j : ℕ) → p ≤ j → found_slot edit old (suc j) ≡ slot_or_zeros old (suc j)
-  found_own j le = ap (λ e. edited_next e (slot_or_zeros old (suc j))) (none j (found_slot edit old j) le)
-
-  found_past : (j : ℕ) → p < j → found_slot has_next old (suc j) ≡ slot_or_zeros old (suc j)
-  found_past j lt =
-      let other : j ≢ p = λ e. absurd (omega arith) in
-      let from : p ≤ j = omega arith in
-      ap (λ e. edited_next e (slot_or_zeros old (suc j))) (others j (found_slot has_next old j) other ∙ none j (found_slot has_next old j) from)
-
-  after_here : slot_after edit old p ≡ found_slot has_next old p
-  after_here =
-      let le : p ≤ p = omega arith in
-      ap (λ e. edited e (found_slot edit old p)) (none p (found_slot edit old p) le) ∙ sym (found_before p le)
-
-  after_next : slot_after edit old (suc p) ≡ slot_or_zeros old (suc p)
-  after_next =
-      let le : p ≤ p = omega arith in
-      let next : p ≤ suc p = omega arith in
-      ap (λ e. edited e (found_slot edit old (suc p))) (none (suc p) (found_slot edit old (suc p)) next) ∙ found_own p le
-
-  more_next : slot_after has_next old (suc p) ≡ edited_next (has_next p (found_slot has_next old p)) (slot_or_zeros old (suc p))
-  more_next =
-      let other : suc p ≢ p = λ e. absurd (omega arith) in
-      let next : p ≤ suc p = omega arith in
-      ap (λ e. edited e (found_slot has_next old (suc p))) (others (suc p) (found_slot has_next old (suc p)) other ∙ none (suc p) (found_slot has_next old (suc p)) next)
-
-  elsewhere : (k : ℕ) → k ≢ p → k ≢ suc p → slot_after edit old k ≡ slot_after has_next old k
-  elsewhere zero a b = ap (λ e. edited e (slot_or_zeros old 0)) (sym (others 0 (slot_or_zeros old 0) a))
-  elsewhere (suc j) a b =
-      let same : found_slot edit old (suc j) ≡ found_slot has_next old (suc j) = elim (cases_lt j p) [
-        | inl before ↦ sym (found_before (suc j) (omega arith))
-        | inr from ↦ (let past : p < j = omega arith in found_own j from ∙ sym (found_past j past))
-      ] in
-      ap (λ s. edited (edit (suc j) s) s) same ∙ ap (λ e. edited e (found_slot has_next old (suc j))) (sym (others (suc j) (found_slot has_next old (suc j)) a))
-
-  module _ (new : List bpf_insn) (done : AreEdited edit old new) (inside : p < length old) where
-    own : slot_or_zeros new p ≡ found_slot has_next old p
-    own = done.each p inside ∙ after_here
-
-    -- by what is made of slot p
-    at_slot : (e : Edit) (k : ℕ) → k < length old → e ≡ has_next p (found_slot has_next old p) → slot_or_zeros (slots_after_edit new p e) k ≡ slot_after has_next old k
-    at_slot Stay k lt is = elim (cases_eq k p) [
-      | inl here ↦ rw here (own ∙ ap (λ e. edited e (found_slot has_next old p)) is)
-      | inr off ↦ elim (cases_eq k (suc p)) [
-        | inl next ↦ (let within : suc p < length old = omega arith in rw next (done.each (suc p) within ∙ after_next ∙ ap (λ e. edited_next e (slot_or_zeros old (suc p))) is ∙ sym more_next))
-        | inr far ↦ done.each k lt ∙ elsewhere k off far
-      ]
-    ]
-    at_slot (Slot made) k lt is = elim (cases_eq k p) [
-      | inl here ↦ (let in_new : p < length new = omega (arith, done.as_many) in rw here (get_or-set_same new p made zeros in_new ∙ ap (λ e. edited e (found_slot has_next old p)) is))
-      | inr off ↦ get_or-set_other new p k made zeros off ∙ elim (cases_eq k (suc p)) [
-        | inl next ↦ (let within : suc p < length old = omega arith in rw next (done.each (suc p) within ∙ after_next ∙ ap (λ e. edited_next e (slot_or_zeros old (suc p))) is ∙ sym more_next))
-        | inr far ↦ done.each k lt ∙ elsewhere k off far
-      ]
-    ]
-    at_slot (Pair made next) k lt is =
-        let first = set new (p + 1) (record (slot_or_zeros new (p + 1)) { imm = next }) in
-        elim (cases_eq k p) [
-          | inl here ↦ (let in_first : p < length first = omega (arith, done.as_many, length-set new (p + 1) (record (slot_or_zeros new (p + 1)) { imm = next })) in rw here (get_or-set_same first p made zeros in_first ∙ ap (λ e. edited e (found_slot has_next old p)) is))
-          | inr off ↦ get_or-set_other first p k made zeros off ∙ elim (cases_eq k (suc p)) [
-            | inl after ↦ (
-                let within : suc p < length old = omega arith in
-                let in_new : p + 1 < length new = omega (arith, done.as_many) in
-                let here : k ≡ p + 1 = omega arith in
-                rw here (get_or-set_same new (p + 1) _ zeros in_new ∙ rw add-one (next_alike (slot_or_zeros new (suc p)) (slot_or_zeros old (suc p)) next (done.each (suc p) within ∙ after_next) ∙ ap (λ e. edited_next e (slot_or_zeros old (suc p))) is ∙ sym more_next))
-                )
-            | inr far ↦ (let apart : k ≢ p + 1 = λ e. far (omega arith) in get_or-set_other new (p + 1) k _ zeros apart ∙ done.each k lt ∙ elsewhere k off far)
-          ]
-        ]
-
-    length-slots_after_edit : (e : Edit) → length (slots_after_edit new p e) ≡ length new
-    length-slots_after_edit Stay = refl
-    length-slots_after_edit (Slot made) = length-set new p made
-    length-slots_after_edit (Pair made next) = length-set _ p made ∙ length-set new (p + 1) _
-
-    pub one_more : AreEdited has_next old (slots_after_edit new p (has_next p (slot_or_zeros new p)))
-    one_more = record {
-      as_many = length-slots_after_edit (has_next p (slot_or_zeros new p)) ∙ done.as_many;
-      each = λ k lt. at_slot (has_next p (slot_or_zeros new p)) k lt (ap (has_next p) own);
+    -- the others, from a slot on past which it doesn't stand
+    others_left : (n : ℕ) → p ≤ n → start + 8 * n ≤ suc e.0 + 7 → ((k : ℕ) → n ≤ k → (start + 8 * k) ≢ e.0) → AreLeft n es
+    others_left n le near apart = record {
+      low = suc e.0;
+      from = omega (arith, left.from, left.up.0);
+      near = near;
+      up = left.up.1;
+      known = λ k at. left.known k (omega arith) ∙ find_other (start + 8 * k) e es (apart k at);
     }
 
--- ---- the relocations in order, written in place one after the other, give the slots of the definition
+-- what holds at a slot holds at a later one, where it is kept from each of those between to the next
+passed : (P : ℕ → Type 0) (p n : ℕ) → p ≤ n → ((k : ℕ) → p ≤ k → k < n → P k → P (suc k)) → P p → P n
+passed P p n le keep at = on (n - p) p (omega arith) (omega arith) at
+  where
+    on : (d k : ℕ) → k + d ≡ n → p ≤ k → P k → P n
+    on zero k is from at = let same : k ≡ n = omega arith in subst P same at
+    on (suc d) k is from at = on d (suc k) (omega arith) (omega arith) (keep k from (omega arith) at)
 
-abbrev unless : Option ElfRelocation → Edit → Edit
-unless None edit = edit
-unless (Some relocation) edit = Stay
+-- ---- an edit in place
 
--- the definition's slots are the slots that its edits make
-pub slots_made : (edit : ℕ → bpf_insn → Edit) (old new : List bpf_insn) → AreEdited edit old new → new ≡ slots_after edit old
-unfolding slots_after
-slots_made edit old new done = ext_get_or zeros new _ (done.as_many ∙ sym (length-map-range_with_len (slot_after edit old) 0 (length old))) (λ j lt.
-    let inside : j < length old = omega (arith, done.as_many) in
-    let from : 0 + j ≡ j = omega arith in
-    done.each j inside ∙ sym (get_or-map-range_with_len (slot_after edit old) 0 (length old) j j zeros inside from))
+abbrev zeros : bpf_insn
+zeros = record { code = 0; regs = 0; off = pos 0; imm = pos 0 }
+
+module _ (slots : List bpf_insn) (p : ℕ) where
+  length-slots_after_edit : (e : Edit) → length (slots_after_edit slots p e) ≡ length slots
+  length-slots_after_edit Stay = refl
+  length-slots_after_edit (Slot made) = length-set slots p made
+  length-slots_after_edit (Pair made next) = length-set _ p made ∙ length-set slots (p + 1) _
+
+  at_edit : (e : Edit) → p < length slots → slot_or_zeros (slots_after_edit slots p e) p ≡ edited e (slot_or_zeros slots p)
+  at_edit Stay lt = refl
+  at_edit (Slot made) lt = get_or-set_same slots p made zeros lt
+  at_edit (Pair made next) lt = get_or-set_same _ p made zeros (omega (arith, length-set slots (p + 1) (record (slot_or_zeros slots (p + 1)) { imm = next })))
+
+  after_edit : (e : Edit) → suc p < length slots → slot_or_zeros (slots_after_edit slots p e) (suc p) ≡ edited_next e (slot_or_zeros slots (suc p))
+  after_edit Stay lt = refl
+  after_edit (Slot made) lt = get_or-set_other slots p (suc p) made zeros (λ e. absurd (omega arith))
+  after_edit (Pair made next) lt =
+      get_or-set_other _ p (suc p) made zeros (λ e. absurd (omega arith))
+      ∙ rw add-one (get_or-set_same slots (suc p) (record (slot_or_zeros slots (suc p)) { imm = next }) zeros lt)
+
+  elsewhere : (e : Edit) (k : ℕ) → k ≢ p → k ≢ suc p → slot_or_zeros (slots_after_edit slots p e) k ≡ slot_or_zeros slots k
+  elsewhere Stay k off far = refl
+  elsewhere (Slot made) k off far = get_or-set_other slots p k made zeros off
+  elsewhere (Pair made next) k off far =
+      get_or-set_other _ p k made zeros off ∙ get_or-set_other slots (p + 1) k _ zeros (λ e. far (omega arith))
+
+-- ---- edits in order, written in place one after the other, give the slots of the definition
+
+module _ (edit : ℕ → bpf_insn → Edit) (old : List bpf_insn) where
+  -- the edits before slot p are made
+  record AreMade (p : ℕ) (new : List bpf_insn) : Type 0 where
+    as_many : length new ≡ length old
+    before : (k : ℕ) → k < p → k < length old → slot_or_zeros new k ≡ slot_after edit old k
+    here : p < length old → slot_or_zeros new p ≡ found_slot edit old p
+    after : (k : ℕ) → p < k → slot_or_zeros new k ≡ slot_or_zeros old k
+
+  none_made : AreMade 0 old
+  none_made = record { as_many = refl; before = λ k lt in_old. absurd (omega arith); here = λ lt. refl; after = λ k lt. refl }
+
+  one_made : (p : ℕ) (new : List bpf_insn) (e : Edit) → p < length old → e ≡ edit p (slot_or_zeros new p) → AreMade p new → AreMade (suc p) (slots_after_edit new p e)
+  one_made p new e inside is made = record {
+    as_many = length-slots_after_edit new p e ∙ made.as_many;
+    before = λ k lt in_old. elim (cases_eq k p) [
+      | inl same ↦ rw same (at_edit new p e (omega (arith, made.as_many)) ∙ ap (edited e) own ∙ ap (λ x. edited x (found_slot edit old p)) makes)
+      | inr off ↦ elsewhere new p e k off (λ next. absurd (omega arith)) ∙ made.before k (omega arith) in_old
+    ];
+    here = λ lt.
+        after_edit new p e (omega (arith, made.as_many))
+        ∙ ap (edited_next e) (made.after (suc p) (omega arith))
+        ∙ ap (λ x. edited_next x (slot_or_zeros old (suc p))) makes;
+    after = λ k lt. elsewhere new p e k (λ same. absurd (omega arith)) (λ same. absurd (omega arith)) ∙ made.after k (omega arith);
+  }
+    where
+      own : slot_or_zeros new p ≡ found_slot edit old p
+      own = made.here inside
+
+      makes : e ≡ edit p (found_slot edit old p)
+      makes = is ∙ ap (edit p) own
+
+  all_made : (new : List bpf_insn) → AreMade (length old) new → new ≡ slots_after edit old
+  unfolding slots_after
+  all_made new made = ext_get_or zeros new _ (made.as_many ∙ sym (length-map-range_with_len (slot_after edit old) 0 (length old))) (λ k lt.
+      let inside : k < length old = omega (arith, made.as_many) in
+      let from : 0 + k ≡ k = omega arith in
+      made.before k inside inside ∙ sym (get_or-map-range_with_len (slot_after edit old) 0 (length old) k k zeros inside from))
 
 module _ (rule_edit : EditRule) (section_relocations : SectionRelocations) (start : ℕ) (old : List bpf_insn) where
   abbrev edit : ℕ → bpf_insn → Edit
   edit = edit_at rule_edit section_relocations start (length old)
 
-  -- the edits without those of relocations that are still to come
-  abbrev made : List (ℕ × ElfRelocation) → ℕ → bpf_insn → Edit
-  made es j slot = unless (find nat_cmp (start + 8 * j) es) (edit j slot)
+  -- a slot without a relocation, and one with one
+  no_edit : (k : ℕ) (s : bpf_insn) → get section_relocations (start + 8 * k) ≡ None → edit k s ≡ Stay
+  no_edit k s none = ap (λ o. edit_by rule_edit o s (nat_lt (k + 1) (length old))) none
 
-  -- of a slot whose relocation is still to come, or that has none, nothing is made
-  not_yet : (o : Option ElfRelocation) (s : bpf_insn) (has_next : Bool) → unless o (edit_by rule_edit o s has_next) ≡ Stay
-  not_yet None s has_next = refl
-  not_yet (Some r) s has_next = refl
+  one_edit : (k : ℕ) (s : bpf_insn) (r : ElfRelocation) → get section_relocations (start + 8 * k) ≡ Some r → edit k s ≡ edit_of (rule_edit r s (nat_lt (k + 1) (length old)))
+  one_edit k s r is = ap (λ o. edit_by rule_edit o s (nat_lt (k + 1) (length old))) is
 
-  module _ (e : ℕ × ElfRelocation) (es : List (ℕ × ElfRelocation)) (rising : Rising (e ∷ es)) (from : start ≤ e.0) (tail : Tail section_relocations (e ∷ es)) where
-    -- a slot at another offset
-    at_others : (j : ℕ) (s : bpf_insn) → (start + 8 * j) ≢ e.0 → made es j s ≡ made (e ∷ es) j s
-    at_others j s ne = ap (λ o. unless o (edit j s)) (sym (find_other _ e es ne))
+  -- slots without relocations are passed over
+  made_on : (p n : ℕ) (slots : List bpf_insn) → p ≤ n → n ≤ length old → ((k : ℕ) → p ≤ k → k < n → get section_relocations (start + 8 * k) ≡ None) → AreMade edit old p slots → AreMade edit old n slots
+  made_on p n slots le inside none made =
+      passed (λ k. AreMade edit old k slots) p n le (λ k from lt at. one_made edit old k slots Stay (omega arith) (sym (no_edit k (slot_or_zeros slots k) (none k from lt))) at) made
 
-    -- a slot from here on
-    yet_to_come : (j : ℕ) (s : bpf_insn) → e.0 ≤ start + 8 * j → made (e ∷ es) j s ≡ Stay
-    yet_to_come j s le =
-        ap (λ o. unless (find nat_cmp (start + 8 * j) (e ∷ es)) (edit_by rule_edit o s (nat_lt (j + 1) (length old)))) (tail (start + 8 * j) le)
-        ∙ not_yet (find nat_cmp (start + 8 * j) (e ∷ es)) s (nat_lt (j + 1) (length old))
-
-    module _ (p : ℕ) (here : e.0 ≡ start + 8 * p) where
-      others : (j : ℕ) (s : bpf_insn) → j ≢ p → made es j s ≡ made (e ∷ es) j s
-      others j s ne = let apart : (start + 8 * j) ≢ e.0 = λ same. ne (omega arith) in at_others j s apart
-
-      none : (j : ℕ) (s : bpf_insn) → p ≤ j → made (e ∷ es) j s ≡ Stay
-      none j s le = yet_to_come j s (omega arith)
-
-      -- the edit that is made now
-      now : (s : bpf_insn) → made es p s ≡ edit_of (rule_edit e.1 s (nat_lt (p + 1) (length old)))
-      now s =
-          ap (λ o. unless o (edit p s)) (find_none (start + 8 * p) e.0 es rising.0 (omega arith))
-          ∙ ap (λ o. edit_by rule_edit o s (nat_lt (p + 1) (length old))) (ap (get section_relocations) (sym here) ∙ tail e.0 (omega arith) ∙ find_head e es)
-
-      here_relocation : (slots : List bpf_insn) → p < length old → AreEdited (made (e ∷ es)) old slots
-          → AreEdited (made es) old (slots_after_edit slots p (edit_of (rule_edit e.1 (slot_or_zeros slots p) (nat_lt (p + 1) (length slots)))))
-      here_relocation slots inside done =
-          subst (λ x. AreEdited (made es) old (slots_after_edit slots p x))
-          (now (slot_or_zeros slots p) ∙ ap (λ n. edit_of (rule_edit e.1 (slot_or_zeros slots p) (nat_lt (p + 1) n))) (sym done.as_many))
-          (one_more (made (e ∷ es)) (made es) old p others none slots done inside)
-
-    -- no slot is at an offset that is none's beginning
-    off_relocation : (slots : List bpf_insn) → ((e.0 - start) % 8 == 0) ≡ false → AreEdited (made (e ∷ es)) old slots → AreEdited (made es) old slots
-    off_relocation slots off done = same_edits (made (e ∷ es)) (made es) old (λ j s lt.
-        let apart : (start + 8 * j) ≢ e.0 = λ same. absurd (grind (arith, nat_tests)) in at_others j s apart) slots done
-
-    -- past the slots none is edited
-    past_relocation : (slots : List bpf_insn) → nat_lt ((e.0 - start) / 8) (length old) ≡ false → AreEdited (made (e ∷ es)) old slots → AreEdited edit old slots
-    past_relocation slots past done = same_edits (made (e ∷ es)) edit old (λ j s lt.
-        let under : (start + 8 * j) < e.0 = grind (arith, nat_tests) in
-        let apart : (start + 8 * j) ≢ e.0 = λ same. absurd (omega arith) in
-        sym (ap (λ o. unless o (edit j s)) (find_other _ e es apart ∙ find_none (start + 8 * j) e.0 es rising.0 (omega arith)))) slots done
-
-  abbrev Later : List (ℕ × ElfRelocation) → Type 0
-  Later es = (next : List bpf_insn) → AreEdited (made es) old next → AreEdited edit old (slots_after_relocations rule_edit start es next)
-
-  runs : (es : List (ℕ × ElfRelocation)) (slots : List bpf_insn) → Rising es → AllFrom start es → Tail section_relocations es → AreEdited (made es) old slots → AreEdited edit old (slots_after_relocations rule_edit start es slots)
-  runs [] slots rising from tail done = done
-  runs (e ∷ es) slots rising from tail done = by_cases _ _ refl refl (λ next made. runs es next rising.1 from.1 (tail_on section_relocations e es rising.0 tail) made)
+  runs : (es : List (ℕ × ElfRelocation)) (p : ℕ) (slots : List bpf_insn) → p ≤ length old → AreLeft section_relocations start p es → AreMade edit old p slots → AreMade edit old (length old) (slots_after_relocations rule_edit start es slots)
+  runs [] p slots le left made = made_on p (length old) slots le (omega arith) (λ k from lt. none_left section_relocations start p k left from) made
+  runs (e ∷ es) p slots le left made = by_cases _ _ refl refl (λ n next. runs es n next)
     where
-      by_cases : (b c : Bool) → nat_lt ((e.0 - start) / 8) (length slots) ≡ b → ((e.0 - start) % 8 == 0) ≡ c → Later es
-          → AreEdited edit old (if b then slots_after_relocations rule_edit start es (if c then slots_after_edit slots ((e.0 - start) / 8) (edit_of (rule_edit e.1 (slot_or_zeros slots ((e.0 - start) / 8)) (nat_lt ((e.0 - start) / 8 + 1) (length slots)))) else slots) else slots)
-      by_cases false c inside aligned later = past_relocation e es rising from.0 tail slots (ap (nat_lt ((e.0 - start) / 8)) (sym done.as_many) ∙ inside) done
-      by_cases true false inside aligned later = later slots (off_relocation e es rising from.0 tail slots aligned done)
+      by_cases : (b c : Bool) → nat_lt ((e.0 - start) / 8) (length slots) ≡ b → ((e.0 - start) % 8 == 0) ≡ c
+          → ((n : ℕ) (next : List bpf_insn) → n ≤ length old → AreLeft section_relocations start n es → AreMade edit old n next → AreMade edit old (length old) (slots_after_relocations rule_edit start es next))
+          → AreMade edit old (length old) (if b then slots_after_relocations rule_edit start es (if c then slots_after_edit slots ((e.0 - start) / 8) (edit_of (rule_edit e.1 (slot_or_zeros slots ((e.0 - start) / 8)) (nat_lt ((e.0 - start) / 8 + 1) (length slots)))) else slots) else slots)
+      by_cases false c past aligned later =
+          made_on p (length old) slots le (omega arith) (λ k from lt. none_before section_relocations start e es p left k from (grind (arith, nat_tests, made.as_many))) made
+      by_cases true false inside aligned later =
+          later p slots le (others_left section_relocations start e es p left p (omega arith) (omega (arith, left.near, left.up.0)) (λ k from same. absurd (grind (arith, nat_tests)))) made
       by_cases true true inside aligned later =
-          let here : e.0 ≡ start + 8 * ((e.0 - start) / 8) = grind (arith, nat_tests, from.0) in
-          let within : (e.0 - start) / 8 < length old = grind (arith, nat_tests, done.as_many) in
-          later _ (here_relocation e es rising from.0 tail ((e.0 - start) / 8) here slots within done)
-
-  -- before the first relocation nothing is made
-  module _ (es : List (ℕ × ElfRelocation)) (known : (q : ℕ) → start ≤ q → get section_relocations q ≡ find nat_cmp q es) where
-    none_made : (j : ℕ) (s : bpf_insn) → made es j s ≡ Stay
-    none_made j s =
-        ap (λ o. unless (find nat_cmp (start + 8 * j) es) (edit_by rule_edit o s (nat_lt (j + 1) (length old)))) (known (start + 8 * j) (omega arith))
-        ∙ not_yet (find nat_cmp (start + 8 * j) es) s (nat_lt (j + 1) (length old))
-
-    at_first : (j : ℕ) → slot_or_zeros old j ≡ slot_after (made es) old j
-    at_first zero = sym (ap (λ x. edited x (slot_or_zeros old 0)) (none_made 0 (slot_or_zeros old 0)))
-    at_first (suc j) =
-        sym (ap (λ x. edited x (found_slot (made es) old (suc j))) (none_made (suc j) (found_slot (made es) old (suc j)))
-        ∙ ap (λ x. edited_next x (slot_or_zeros old (suc j))) (none_made j (found_slot (made es) old j)))
-
-    before : AreEdited (made es) old old
-    before = record { as_many = refl; each = λ j lt. at_first j }
+          let n : ℕ = (e.0 - start) / 8 in
+          let here : e.0 ≡ start + 8 * n = grind (arith, nat_tests, left.from, left.up.0) in
+          let within : n < length old = grind (arith, nat_tests, made.as_many) in
+          let from : p ≤ n = omega (arith, left.near, left.up.0) in
+          let s : bpf_insn = slot_or_zeros slots n in
+          later (suc n) _ within
+          (others_left section_relocations start e es p left (suc n) (omega arith) (omega arith) (λ k past same. absurd (omega arith)))
+          (one_made edit old n slots _ within
+          (ap (λ l. edit_of (rule_edit e.1 s (nat_lt (n + 1) l))) made.as_many ∙ sym (one_edit n s e.1 (stands_at section_relocations start e es p left n here)))
+          (made_on p n slots from (omega arith) (λ k low lt. none_before section_relocations start e es p left k low (omega arith)) made))
 
   -- the relocations from the first slot on, in order, make the slots of the definition
   pub run_makes : slots_after_relocations rule_edit start (entries_from start (entries section_relocations)) old ≡ slots_after edit old
-  run_makes =
-      let es = entries_from start (entries section_relocations) in
-      let rising : Rising es = rising_kept start (entries section_relocations) (rising_from (entries section_relocations) (entries_sorted section_relocations)) in
-      let from : AllFrom start es = all_kept start (entries section_relocations) in
-      let known = λ (q : ℕ) (le : start ≤ q). get-entries section_relocations q ∙ sym (find_kept start q (entries section_relocations) le) in
-      slots_made edit old _ (runs es old rising from (λ q g. known q (at_least_start start q es from g)) (before es known))
+  run_makes = all_made edit old _ (runs (entries_from start (entries section_relocations)) 0 old (omega arith) (all_left section_relocations start) (none_made edit old))
+
+-- ---- the first relocation that can't be applied, found with what the edit before it leaves
+
+-- what an edit leaves is found by the next slot
+left_next : (edit : Edit) (j : ℕ) (s : bpf_insn) → edited_next edit s ≡ pending_slot (pending_of j edit) (suc j) s
+left_next Stay j s = refl
+left_next (Slot made) j s = refl
+left_next (Pair made next) j s =
+    let same : (j + 1 == suc j) ≡ true = grind (arith, nat_tests) in
+    rw same refl
+
+-- and by no later one
+left_later : (edit : Edit) (j k : ℕ) (s : bpf_insn) → suc j < k → pending_slot (pending_of j edit) k s ≡ s
+left_later Stay j k s lt = refl
+left_later (Slot made) j k s lt = refl
+left_later (Pair made next) j k s lt =
+    let other : (j + 1 == k) ≡ false = grind (arith, nat_tests) in
+    rw other refl
+
+module _ (rule_edit : EditRule) (section_relocations : SectionRelocations) (start : ℕ) (slots : List bpf_insn) where
+  abbrev makes : ℕ → bpf_insn → Edit
+  makes = edit_at rule_edit section_relocations start (length slots)
+
+  abbrev fault : ℕ × ElfRelocation → Option SlotRefusal
+  fault = refusal_at rule_edit section_relocations start slots
+
+  -- slot p is found with what is pending, which no later one is
+  record IsPending (p : ℕ) (pending : Pending) : Type 0 where
+    found : found_slot makes slots p ≡ pending_slot pending p (slot_or_zeros slots p)
+    later : (k : ℕ) (s : bpf_insn) → p < k → pending_slot pending k s ≡ s
+
+  -- slots without relocations are passed over
+  pending_on : (p n : ℕ) (pending : Pending) → p ≤ n → ((k : ℕ) → p ≤ k → k < n → get section_relocations (start + 8 * k) ≡ None) → IsPending p pending → IsPending n pending
+  pending_on p n pending le none is = passed (λ k. IsPending k pending) p n le (λ k from lt at. record {
+    found = ap (λ x. edited_next x (slot_or_zeros slots (suc k))) (no_edit rule_edit section_relocations start slots k (found_slot makes slots k) (none k from lt)) ∙ sym (at.later (suc k) (slot_or_zeros slots (suc k)) (omega arith));
+    later = λ j s past. at.later j s (omega arith);
+  }) is
+
+  -- what the edit of slot p leaves is pending at the next
+  pending_next : (p : ℕ) (made : Edit) → makes p (found_slot makes slots p) ≡ made → IsPending (suc p) (pending_of p made)
+  pending_next p made is = record {
+    found = ap (λ x. edited_next x (slot_or_zeros slots (suc p))) is ∙ left_next made p (slot_or_zeros slots (suc p));
+    later = λ k s past. left_later made p k s past;
+  }
+
+  scanned : (es : List (ℕ × ElfRelocation)) (p : ℕ) (pending : Pending) → AreLeft section_relocations start p es → IsPending p pending → scan rule_edit start slots pending es ≡ first_some fault es
+  scanned [] p pending left is = refl
+  scanned (e ∷ es) p pending left is = by_cases _ _ _ refl refl refl (λ n next. scanned es n next)
+    where
+      by_result : ((n : ℕ) (next : Pending) → AreLeft section_relocations start n es → IsPending n next → scan rule_edit start slots next es ≡ first_some fault es)
+          → (n : ℕ) (r : Result Edit SlotFault) → e.0 ≡ start + 8 * n → rule_edit e.1 (found_slot makes slots n) (nat_lt (n + 1) (length slots)) ≡ r
+          → scan_on e (pending_after n r) (λ next. scan rule_edit start slots next es) ≡ or_else (refused e r) (first_some fault es)
+      by_result later n (Err f) here gives = refl
+      by_result later n (Ok made) here gives =
+          later (suc n) (pending_of n made)
+          (others_left section_relocations start e es p left (suc n) (omega (arith, left.near, left.up.0)) (omega arith) (λ k past same. absurd (omega arith)))
+          (pending_next n made (one_edit rule_edit section_relocations start slots n (found_slot makes slots n) e.1 (stands_at section_relocations start e es p left n here) ∙ ap edit_of gives))
+
+      by_cases : (a b c : Bool) → nat_le start e.0 ≡ a → nat_lt ((e.0 - start) / 8) (length slots) ≡ b → ((e.0 - start) % 8 == 0) ≡ c
+          → ((n : ℕ) (next : Pending) → AreLeft section_relocations start n es → IsPending n next → scan rule_edit start slots next es ≡ first_some fault es)
+          → (if b then scan_on e (if c then pending_after ((e.0 - start) / 8) (rule_edit e.1 (pending_slot pending ((e.0 - start) / 8) (slot_or_zeros slots ((e.0 - start) / 8))) (nat_lt ((e.0 - start) / 8 + 1) (length slots))) else Err InvalidOffset) (λ next. scan rule_edit start slots next es) else None)
+          ≡ or_else (if a && b then (if c then refused e (rule_edit e.1 (found_slot makes slots ((e.0 - start) / 8)) (nat_lt ((e.0 - start) / 8 + 1) (length slots))) else refused e (Err InvalidOffset)) else None) (first_some fault es)
+      by_cases false b c at inside aligned later = absurd (grind (arith, nat_tests, left.from, left.up.0))
+      by_cases true false c at past aligned later = sym (all_none fault (suc e.0) es left.up.1 (λ f above.
+          let out : is_in_slots start (length slots) f.0 ≡ false = grind (arith, nat_tests) in
+          rw out refl))
+      by_cases true true false at inside aligned later = refl
+      by_cases true true true at inside aligned later =
+          let n : ℕ = (e.0 - start) / 8 in
+          let here : e.0 ≡ start + 8 * n = grind (arith, nat_tests) in
+          let now = pending_on p n pending (omega (arith, left.near, left.up.0)) (λ k low lt. none_before section_relocations start e es p left k low (omega arith)) is in
+          ap (λ s. scan_on e (pending_after n (rule_edit e.1 s (nat_lt (n + 1) (length slots)))) (λ next. scan rule_edit start slots next es)) (sym now.found)
+          ∙ by_result later n _ here refl
+
+  -- the search over the relocations from the first slot on finds the first of all that can't be applied
+  finds_first : scan rule_edit start slots None (entries_from start (entries section_relocations)) ≡ first_some fault (entries section_relocations)
+  finds_first =
+      scanned (entries_from start (entries section_relocations)) 0 None (all_left section_relocations start) (record { found = refl; later = λ k s past. refl })
+      ∙ first_from fault start (entries section_relocations) (λ e out. rw out refl)
+
+-- of a function: by its relocations from its first slot on
+pub first_scanned : (rule_edit : EditRule) (section_relocations : SectionRelocations) (f : Function)
+    → scan rule_edit f.section_offset f.instructions None (entries_from f.section_offset (entries section_relocations)) ≡ first_refusal rule_edit section_relocations f
+unfolding first_refusal
+first_scanned rule_edit section_relocations f = finds_first rule_edit section_relocations f.section_offset f.instructions
+
+-- ---- what is tried along a walk
+
+-- a section without relocations is one with an empty table of them
+pub entries_kept : (section_relocations : Option (FinMap nat_cmp ElfRelocation)) → entries_or_none section_relocations ≡ entries (unwrap_or section_relocations empty)
+entries_kept None = sym (entries-empty nat_cmp ElfRelocation)
+entries_kept (Some section_relocations) = refl
+
+module _ (rule_edit : EditRule) (start : ℕ) (slots : List bpf_insn) (e : ℕ × ElfRelocation) (inside : nat_lt ((e.0 - start) / 8) (length slots) ≡ true) where
+  -- one that can be applied is passed over
+  pub tried_on : (pending next : Pending) (rest : List (ℕ × ElfRelocation)) → tried rule_edit slots pending (e.0 - start) e.1 ≡ Ok next
+      → scan rule_edit start slots pending (e ∷ rest) ≡ scan rule_edit start slots next rest
+  tried_on pending next rest is = rw (inside, is) refl
+
+  -- it stands before the end of the slots
+  pub before_end : e.0 < start + 8 * length slots
+  before_end = grind (arith, nat_tests)
 
 -- ---- relocations that leave the slots as they are
 

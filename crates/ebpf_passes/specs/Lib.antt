@@ -1,6 +1,5 @@
 pub mod Relocated
-pub mod Externs
-pub mod Maps
 pub mod Passes
+pub mod Maps
 
 -- What only private contracts and proofs name.

@@ -1,11 +1,11 @@
 -- File descriptors of maps in slots, and the offsets in maps' data that slots in a row add up.
-use Rattle.std.specs.Prelude.{ℕ, ℤ, pos, negsuc, ◌^◌, ◌+ℤ◌, Bool, true, false, ◌||◌, if◌then◌else◌, nat_lt, List, [], ◌∷◌, map, Option, Some, None, Result, Ok, Err, ◌≡◌, ◌≤◌, ◌<◌, ◌+◌, ◌*◌, length, sum, IsSome, unwrap_or}
+use Rattle.std.specs.Prelude.{ℕ, ℤ, pos, negsuc, ◌^◌, ◌+ℤ◌, Bool, true, false, ◌||◌, if◌then◌else◌, nat_lt, List, [], ◌∷◌, map, Option, Some, None, Result, Ok, Err, ◌≡◌, ◌<◌, ◌+◌, ◌*◌, length, sum, unwrap_or, suc, option_map}
 use Rattle.std.specs.FinMap.{FinMap, get, empty, insert}
-use Rattle.std.specs.List.{flat_map, range_with_len}
+use Rattle.std.specs.List.{flat_map}
 use Rattle.std.specs.Ordering.{nat_cmp}
 use denote.Ref.{Bor}
 use Rattle.ebpf_base.specs.Faults.{or_else}
-use Rattle.ebpf_base.specs.Keyed.{put_all}
+use Rattle.ebpf_base.specs.Maps.{put_all}
 use Rattle.ebpf_elf.specs.declared.relocation.ElfRelocation.{ElfRelocation}
 use Rattle.ebpf_model.specs.Symbols.{TextSections}
 use Rattle.ebpf_model.specs.declared.function.Function.{Function}
@@ -17,10 +17,10 @@ use Rattle.ebpf_parts.specs.declared.maps.either.Map.{Map}
 use Rattle.ebpf_passes.specs.Relocated.{slot_or_zeros, found_slot, SectionRelocations, edit_at, first_refusal}
 use Rattle.ebpf_passes.specs.declared.edit.Edit.{Edit}
 use Rattle.ebpf_passes.specs.declared.edit.Edit.TheVariants.{Stay, Slot, Pair}
-use Rattle.ebpf_passes.specs.declared.map_tables.MapTables.{MapTables}
-use Rattle.ebpf_passes.specs.declared.map_tables.MapTarget.{MapTarget}
-use Rattle.ebpf_passes.specs.declared.refusal.SlotFault.{SlotFault}
-use Rattle.ebpf_passes.specs.declared.refusal.SlotFault.TheVariants.{UnknownSymbol, InvalidOffset, SectionNotFound, MapAddressOverflow}
+use Rattle.ebpf_passes.specs.declared.maps.MapTables.{MapTables}
+use Rattle.ebpf_passes.specs.declared.maps.MapTarget.{MapTarget}
+use Rattle.ebpf_passes.specs.declared.edit.SlotFault.{SlotFault}
+use Rattle.ebpf_passes.specs.declared.edit.SlotFault.TheVariants.{UnknownSymbol, InvalidOffset, SectionNotFound, MapAddressOverflow}
 
 -- a map that is handed in: its descriptor, and the map
 abbrev pub GivenMap : Type 0
@@ -109,7 +109,7 @@ map_edit_of_symbol inputs (Some symbol) relocation slot has_next = edit_in_secti
 abbrev pub map_edit : MapInputs → ElfRelocation → bpf_insn → Bool → Result Edit SlotFault
 map_edit inputs relocation slot has_next = map_edit_of_symbol inputs (get inputs.symbols relocation.symbol_index) relocation slot has_next
 
--- ---- the offsets in maps' data that slots in a row add up
+-- ---- the offsets in maps' data, slot by slot
 
 abbrev pub address_in : Option MapTarget → ℕ → Option ℕ
 address_in None address = None
@@ -134,22 +134,14 @@ data_address_by inputs (Some relocation) slot = data_address_of_symbol inputs (g
 abbrev pub data_address : MapInputs → SectionRelocations → Function → ℕ → Option ℕ
 data_address inputs section_relocations f k = data_address_by inputs (get section_relocations (f.section_offset + 8 * k)) (slot_or_zeros f.instructions k)
 
--- slot i is the first of those before slot j that are all relocated to maps with data, none where it is j
-pub record IsChain (inputs : MapInputs) (section_relocations : SectionRelocations) (f : Function) (i n : ℕ) : Type 0 where
-  pub all : (k : ℕ) → i ≤ k → k < i + n → IsSome (data_address inputs section_relocations f k)
-  pub least : (h : ℕ) → h + 1 ≡ i → data_address inputs section_relocations f h ≡ None
-
--- the addresses of n slots from slot i on, added up
-abbrev pub data_addresses : MapInputs → SectionRelocations → Function → ℕ → ℕ → ℕ
-data_addresses inputs section_relocations f i n = sum (map (λ k. unwrap_or (data_address inputs section_relocations f k) 0) (range_with_len i n))
-
--- Where no relocation is refused, the slot after n slots in a row that are relocated to maps with data is found with
--- the immediate of the first of them plus the addresses of all of them.
+-- Where no relocation is refused, the slot after one that is relocated to a map with data is found with the immediate that
+-- this one is found with plus the symbol's address, and the slot after another as it was.
 abbrev pub OffsetsAddUp : Type 0
-OffsetsAddUp = (inputs : MapInputs) (section_relocations : SectionRelocations) (f : Function) (i n : ℕ)
-    → first_refusal (map_edit inputs) section_relocations f ≡ None → i + n < length f.instructions → IsChain inputs section_relocations f i n
-    → (found_slot (edit_at (map_edit inputs) section_relocations f.section_offset (length f.instructions)) f.instructions (i + n)).imm
-    ≡ (slot_or_zeros f.instructions i).imm +ℤ pos (data_addresses inputs section_relocations f i n)
+OffsetsAddUp = (inputs : MapInputs) (section_relocations : SectionRelocations) (f : Function) (k : ℕ)
+    → first_refusal (map_edit inputs) section_relocations f ≡ None → suc k < length f.instructions
+    → (found_slot (edit_at (map_edit inputs) section_relocations f.section_offset (length f.instructions)) f.instructions (suc k)).imm
+    ≡ unwrap_or (option_map (λ address. (found_slot (edit_at (map_edit inputs) section_relocations f.section_offset (length f.instructions)) f.instructions k).imm +ℤ pos address)
+    (data_address inputs section_relocations f k)) (slot_or_zeros f.instructions (suc k)).imm
 
 -- ---- what contracts of private functions name and no public one
 

@@ -4,20 +4,20 @@ use Rattle.std.specs.List.{range_with_len}
 use Rattle.std.specs.FinMap.{FinMap, get, empty, entries}
 use Rattle.std.specs.Ordering.{nat_cmp}
 use Rattle.ebpf_base.specs.Faults.{first_some}
-use Rattle.ebpf_base.specs.Keys.{key_cmp}
+use Rattle.ebpf_base.specs.Maps.{key_cmp}
 use Rattle.ebpf_elf.specs.declared.relocation.ElfRelocation.{ElfRelocation}
 use Rattle.ebpf_model.specs.Walks.{KeepsShape}
 use Rattle.ebpf_model.specs.declared.error.EbpfRelocationError.{EbpfRelocationError}
 use Rattle.ebpf_model.specs.declared.error.RelocationError.{RelocationError}
-use Rattle.ebpf_model.specs.declared.error.RelocationError.TheVariants as error
 use Rattle.ebpf_model.specs.declared.function.Function.{Function}
 use Rattle.ebpf_model.specs.declared.symbol.Symbol.{Symbol}
 use Rattle.ebpf_parts.specs.declared.insn.bpf_insn.{bpf_insn}
 use Rattle.ebpf_passes.specs.declared.edit.Edit.{Edit}
 use Rattle.ebpf_passes.specs.declared.edit.Edit.TheVariants.{Stay, Slot, Pair}
-use Rattle.ebpf_passes.specs.declared.refusal.SlotFault.{SlotFault}
-use Rattle.ebpf_passes.specs.declared.refusal.SlotFault.TheVariants.{UnknownSymbol, InvalidOffset, SectionNotFound, MapAddressOverflow, ExternNotFound, UnresolvableSymbol}
-use Rattle.ebpf_passes.specs.declared.refusal.SlotRefusal.{SlotRefusal}
+use Rattle.ebpf_passes.specs.declared.edit.SlotFault.{SlotFault}
+use Rattle.ebpf_passes.specs.declared.edit.SlotFault.TheVariants.{UnknownSymbol, InvalidOffset, SectionNotFound, MapAddressOverflow, ExternNotFound, UnresolvableSymbol}
+use Rattle.ebpf_passes.specs.declared.edit.SlotRefusal.{SlotRefusal}
+use Rattle.ebpf_model.specs.declared.error.RelocationError.TheVariants as error
 
 -- ---- what edits make of the slots of a function, slot by slot
 

@@ -3,8 +3,9 @@
 ghost use Rattle.ebpf_passes.specs.Maps.{OffsetsAddUp};
 ghost use Rattle.ebpf_passes.specs.Relocated.{PassesKeepShapes};
 
-/// The offset in a map's data that a slot is found with: where the slots before it, from one on that follows none such,
-/// are all relocated to maps with data, it is the immediate of the first of them plus the addresses of their symbols.
+/// The offset in a map's data that a slot is found with, slot by slot: where the slot before it is relocated to a map with
+/// data, it is the immediate that this one is found with plus the address of its symbol, and else the slot's own. So the
+/// addresses of slots in a row add up.
 #[tactic(auto, using(crate::proofs::MapChains::offsets_add_up))]
 pub fn offsets_add_up()
     ensures { OffsetsAddUp }

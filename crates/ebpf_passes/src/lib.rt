@@ -2,17 +2,10 @@
 #![tactic(auto)]
 
 mod edit;
-mod errors;
-mod extern_rule;
 mod externs;
 mod functions;
 pub mod laws;
-mod map_rule;
-mod map_tables;
 mod maps;
-mod refusal;
-mod rule;
-mod search;
 mod slots;
 
 pub use externs::relocate_externs;

@@ -2,7 +2,7 @@
 use Rattle.std.proofs.Common.{◌≡◌, ◌≤◌, ◌<◌, ◌+◌, ◌*◌, ℕ, List, [], ◌∷◌, length, drop, map, Bor, Option, Some, None, sym, ap, ◌∙◌, arith, ◌≢◌, Bool, true, false}
 use Rattle.std.specs.Prelude.{slice_index_or, ℤ, slice_get, option_map, unwrap_or, if◌then◌else◌}
 use Rattle.std.specs.FinMap.{get, contains_key}
-use Rattle.ebpf_base.proofs.Walks.{rest_more, rest_none}
+use Rattle.ebpf_base.proofs.Lists.{rest_more, rest_none}
 use Rattle.ebpf_elf.specs.declared.relocation.ElfRelocation.{ElfRelocation}
 use Rattle.ebpf_linker.proofs.Visits.{CallsRefer}
 use Rattle.ebpf_linker.specs.Functions.{SlotReference, Nothing, Faulty, Names, or_empty}

@@ -18,10 +18,8 @@ use Rattle.std.proofs.lemmas.Bool.Decides.{nat_tests}
 use Rattle.std.specs.declared.alloc.Global.{Global}
 use Rattle.std.proofs.lemmas.List.Elements.{All-nil, All-cons}
 use Rattle.std.proofs.lemmas.Option.{slice_get-map, slice_get_cases}
-use Rattle.ebpf_base.proofs.Maps.{key_exact}
-use Rattle.ebpf_base.proofs.Orderings.{is_equal}
-use Rattle.ebpf_base.proofs.Sorted.{entries_rise}
-use Rattle.ebpf_base.specs.Keys.{key_cmp, key_total}
+use Rattle.ebpf_base.proofs.Maps.{key_exact, is_equal, entries_rise}
+use Rattle.ebpf_base.specs.Maps.{key_cmp, key_total}
 use Rattle.ebpf_linker.proofs.Carry.{least_to, program_to, layout_numbers, map_to}
 use Rattle.ebpf_linker.proofs.Renamed.{renamed, Numbers, AllNumbers}
 use Rattle.ebpf_linker.specs.Faults.{LeastFault, checked_references}

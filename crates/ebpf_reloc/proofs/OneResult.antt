@@ -7,7 +7,7 @@ use Rattle.std.specs.Ordering.{eq_by_cmp}
 use Rattle.std.specs.Cmp.{eq_by_cmp_equiv}
 use Rattle.std.proofs.lemmas.Bool.{cases_lt}
 use Rattle.ebpf_base.proofs.Maps.{key_exact}
-use Rattle.ebpf_base.specs.Keys.{key_cmp, key_total}
+use Rattle.ebpf_base.specs.Maps.{key_cmp, key_total}
 use Rattle.ebpf_linker.proofs.OneResult.{one_layout, one_program, one_fault, not_linked, plain_stays, one_link_map, same_size, lands}
 use Rattle.ebpf_linker.proofs.Visits.{same_visits}
 use Rattle.ebpf_linker.proofs.Whole.{can_be_linked}

@@ -8,10 +8,9 @@ use Rattle.std.proofs.lemmas.Option.{slice_get_cases, slice_get-get_or, get_or_f
 use Rattle.std.specs.List.{list_any}
 use Rattle.std.specs.Ordering.{eq_by_cmp}
 use Rattle.std.proofs.lemmas.Bool.{cases_lt}
-use Rattle.ebpf_base.proofs.Maps.{key_exact}
-use Rattle.ebpf_base.proofs.Orderings.{is_equal}
-use Rattle.ebpf_base.proofs.Walks.{rest_more, rest_none}
-use Rattle.ebpf_base.specs.Keys.{key_cmp, key_total}
+use Rattle.ebpf_base.proofs.Maps.{key_exact, is_equal}
+use Rattle.ebpf_base.proofs.Lists.{rest_more, rest_none}
+use Rattle.ebpf_base.specs.Maps.{key_cmp, key_total}
 use Rattle.ebpf_linker.proofs.Visits.{same_visits}
 use Rattle.ebpf_linker.specs.Faults.{LeastFault, checked_references}
 use Rattle.ebpf_linker.specs.Result.{IsProgram}

@@ -1,7 +1,7 @@
 -- What follows of linked programs from what linking promises.
 use Rattle.std.specs.Prelude.{◌≡◌, ◌+◌, ℕ, List, ◌∷◌, Some, Result, Ok, Err, slice_get, ◌<◌, [], map, length}
 use Rattle.std.specs.FinMap.{FinMap}
-use Rattle.ebpf_base.specs.Keys.{key_cmp}
+use Rattle.ebpf_base.specs.Maps.{key_cmp}
 use Rattle.ebpf_linker.specs.Functions.{Nothing, BeginsAt, body, Among}
 use Rattle.ebpf_linker.specs.LinkMap.{CopyOf, Lands, copied_slot_count}
 use Rattle.ebpf_linker.specs.declared.link_map.Reference.{Reference}

@@ -3,7 +3,7 @@ use Rattle.std.specs.Prelude.{◌≡◌, List, map, Some, ◌<◌, ℕ, ◌∷�
 use Rattle.std.specs.FinMap.{FinMap, get, contains_key}
 use Rattle.std.specs.List.{list_any}
 use Rattle.std.specs.Ordering.{eq_by_cmp}
-use Rattle.ebpf_base.specs.Keys.{key_cmp}
+use Rattle.ebpf_base.specs.Maps.{key_cmp}
 use Rattle.ebpf_linker.specs.Faults.{LeastFault, checked_references}
 use Rattle.ebpf_linker.specs.LinkMap.{CopyOf, IsLinkMap}
 use Rattle.ebpf_linker.specs.Machine.{SameVisits, OnCallsOrLoads}

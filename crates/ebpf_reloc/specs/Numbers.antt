@@ -2,7 +2,7 @@
 use Rattle.std.specs.Prelude.{ℕ, List, map, slice_get, slice_index_or}
 use Rattle.std.specs.FinMap.{FinMap, entries}
 use Rattle.std.specs.Map.{keys_of}
-use Rattle.ebpf_base.specs.Keys.{key_cmp}
+use Rattle.ebpf_base.specs.Maps.{key_cmp}
 use Rattle.ebpf_linker.specs.declared.reference.Fault.{Fault}
 use Rattle.ebpf_linker.specs.declared.reference.Fault.TheVariants.{UnsupportedTextSymbol, UnknownFunction, FunctionInfoMismatch, ProgramTooLong, InvalidLineInfo}
 use Rattle.ebpf_model.specs.Symbols.{FunctionKey}

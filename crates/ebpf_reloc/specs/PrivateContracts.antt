@@ -12,7 +12,7 @@ use Rattle.ebpf_reloc.specs.SlotTargets.{LinkableValue, slot_target_of}
 use Rattle.ebpf_model.specs.Symbols.{FunctionKey}
 use Rattle.std.specs.List.{position_from}
 use Rattle.std.specs.Ordering.{eq_by_cmp}
-use Rattle.ebpf_base.specs.Keys.{key_cmp}
+use Rattle.ebpf_base.specs.Maps.{key_cmp}
 use Rattle.ebpf_linker.specs.declared.reference.Call.{Call}
 use Rattle.ebpf_linker.specs.declared.reference.Fault.TheVariants.{UnsupportedTextSymbol, UnknownFunction}
 use Rattle.ebpf_linker.specs.declared.reference.Target.{Target}

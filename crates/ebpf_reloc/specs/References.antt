@@ -1,7 +1,7 @@
 -- The functions of an object by their keys, and what their slots refer to.
 use Rattle.std.specs.Prelude.{ℕ, List, [], Option, Some, None, if◌then◌else◌, slice_get, option_map}
 use Rattle.std.specs.FinMap.{FinMap, get, contains_key}
-use Rattle.ebpf_base.specs.Keys.{key_cmp}
+use Rattle.ebpf_base.specs.Maps.{key_cmp}
 use Rattle.ebpf_linker.specs.Functions.{SlotReference, Nothing, Faulty, Names, FunctionContent, Functions}
 use Rattle.ebpf_parts.specs.declared.insn.bpf_insn.{bpf_insn}
 use Rattle.ebpf_model.specs.Symbols.{FunctionKey}

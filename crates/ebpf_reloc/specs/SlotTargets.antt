@@ -3,7 +3,7 @@ use Rattle.std.specs.Prelude.{ℕ, ◌+◌, ◌*◌, ◌^◌, ◌==◌, ℤ, pos
 use Rattle.std.specs.FinMap.{FinMap, get}
 use Rattle.std.specs.Int.{int_rem_euclid}
 use Rattle.std.specs.Ordering.{nat_cmp}
-use Rattle.ebpf_base.specs.Keys.{key_cmp}
+use Rattle.ebpf_base.specs.Maps.{key_cmp}
 use Rattle.ebpf_elf.specs.declared.relocation.ElfRelocation.{ElfRelocation}
 use Rattle.ebpf_elf.specs.declared.symbol.SymbolKind.{SymbolKind}
 use Rattle.ebpf_elf.specs.declared.symbol.SymbolKind.TheVariants.{Text, Section}

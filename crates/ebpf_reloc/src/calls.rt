@@ -6,7 +6,7 @@ ghost use Rattle.ebpf_reloc.specs.PrivateContracts.{numbered_target, calls_of, c
 ghost use Rattle.ebpf_model.specs.Walks.{walked_relocations, IsBefore};
 ghost use Rattle.ebpf_reloc.specs.SlotTargets.{slot_target_of, relocation_of, read};
 ghost use Rattle.std.specs.List.Sorted.{IsStrictlySortedBy};
-ghost use Rattle.ebpf_base.specs.Keys.{key_cmp};
+ghost use Rattle.ebpf_base.specs.Maps.{key_cmp};
 
 use crate::linkable::Linkable;
 use crate::numbers::KeyNumbers;

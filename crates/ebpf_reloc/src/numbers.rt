@@ -3,7 +3,7 @@
 ghost use Rattle.std.specs.Prelude.{◌≡◌, map, IfOk, IfSome, Some};
 ghost use Rattle.std.proofs.Props.{props};
 ghost use Rattle.std.specs.List.Sorted.{IsStrictlySortedBy};
-ghost use Rattle.ebpf_base.specs.Keys.{key_cmp};
+ghost use Rattle.ebpf_base.specs.Maps.{key_cmp};
 ghost use Rattle.ebpf_reloc.specs.Numbers.{function_keys, function_list};
 ghost use Rattle.ebpf_reloc.specs.PrivateContracts.{number_of_key};
 

@@ -5,9 +5,9 @@ use Rattle.std.specs.FinMap.{FinMap, IsAntisymmetric, entries, empty, find, get,
 use Rattle.std.specs.Option.{is_some, option_map, option_or}
 use Rattle.std.specs.Ordering.{eq_by_cmp}
 use Rattle.std.specs.declared.cmp.Ordering.{Ordering}
-use Rattle.ebpf_base.specs.Mapped.{map_values, mapped_entries}
+use Rattle.ebpf_base.specs.Maps.{map_values, mapped_entries}
 use Rattle.ebpf_base.proofs.Mapped.{map_values-from_get}
-use Rattle.ebpf_base.proofs.Orderings.{is_equal}
+use Rattle.ebpf_base.proofs.Maps.{is_equal}
 use Rattle.ebpf_report.specs.HelperCalls.{put_first, put_firsts}
 
 or_none : {X : Type 0} (x : Option X) → x ≡ option_or x None

@@ -6,7 +6,7 @@ use Rattle.std.specs.FinMap.Entries.{below_all, is_sorted-where_key}
 use Rattle.std.specs.List.{filter}
 use Rattle.std.specs.Ordering.{is_lt, nat_cmp}
 use Rattle.std.proofs.lemmas.Bool.Decides.{nat_tests}
-use Rattle.ebpf_base.specs.EntriesFrom.{entries_from}
+use Rattle.ebpf_base.specs.Maps.{entries_from}
 use Rattle.ebpf_base.proofs.Lists.{filter-filter}
 use Rattle.ebpf_report.specs.FunctionMaps.{within}
 use Rattle.ebpf_report.specs.PrivateContracts.{up_to}

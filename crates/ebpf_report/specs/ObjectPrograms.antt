@@ -4,17 +4,15 @@ use Rattle.std.specs.FinMap.{FinMap, entries}
 use Rattle.std.specs.List.{flat_map}
 use Rattle.std.specs.Option.{option_and_then, option_map_or, option_to_list}
 use Rattle.std.specs.Result.{result_ok}
-use Rattle.ebpf_base.specs.Keyed.{put_all}
-use Rattle.ebpf_base.specs.Keys.{text_cmp}
-use Rattle.ebpf_base.specs.Mapped.{map_values}
+use Rattle.ebpf_base.specs.Maps.{put_all, text_cmp, map_values}
 use Rattle.ebpf_btf.specs.Strings.{id_of_name, type_name}
 use Rattle.ebpf_btf.specs.TypeInfo.{TypeInfo}
 use Rattle.ebpf_btf.specs.declared.kind.BtfKind.TheVariants as kinds
 use Rattle.ebpf_btf.specs.declared.members.DataSecEntry.{DataSecEntry}
 use Rattle.ebpf_btf.specs.declared.types.BtfType.{BtfType}
 use Rattle.ebpf_btf.specs.declared.types.BtfType.TheVariants.{DataSec}
-use Rattle.ebpf_model.specs.declared.extern_desc.ExternDesc.{ExternDesc}
-use Rattle.ebpf_model.specs.declared.program.Program.{Program}
+use Rattle.ebpf_model.specs.declared.symbol.ExternDesc.{ExternDesc}
+use Rattle.ebpf_model.specs.declared.function.Program.{Program}
 use Rattle.ebpf_report.specs.declared.programs.ObjectProgram.{ObjectProgram}
 
 -- the name of a program, and the key of its function

@@ -2,7 +2,7 @@
 use Rattle.std.specs.Prelude.{ℕ, nat_lt, List, [], ◌∷◌, if◌then◌else◌}
 use Rattle.std.specs.FinMap.{FinMap}
 use Rattle.std.specs.Ordering.{nat_cmp}
-use Rattle.ebpf_base.specs.Mapped.{map_values}
+use Rattle.ebpf_base.specs.Maps.{map_values}
 use Rattle.ebpf_report.specs.FunctionMaps.{NamedMaps}
 use Rattle.ebpf_report.specs.declared.map_uses.MapNames.{MapNames}
 use denote.Ref.{Bor}

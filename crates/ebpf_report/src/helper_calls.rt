@@ -1,7 +1,7 @@
 //! The helper functions that functions call.
 
 ghost use Rattle.std.specs.Prelude.{◌≡◌, IfOk};
-ghost use Rattle.ebpf_base.specs.Mapped.{map_values};
+ghost use Rattle.ebpf_base.specs.Maps.{map_values};
 ghost use Rattle.ebpf_report.specs.HelperCalls.{helper_called, helper_set, helpers_called, set_of};
 
 use ebpf_base::ByKey;

@@ -3,9 +3,8 @@
 ghost use Rattle.std.specs.Prelude.{◌≡◌, ◌++◌, IfOk, OnOk, string_bytes};
 ghost use Rattle.std.specs.FinMap as finite;
 ghost use Rattle.std.specs.Option.{option_copied, option_to_list};
-ghost use Rattle.ebpf_base.specs.EntriesFrom.{entries_from};
+ghost use Rattle.ebpf_base.specs.Maps.{entries_from, put_all};
 ghost use Rattle.ebpf_base.specs.Faults.{or_else};
-ghost use Rattle.ebpf_base.specs.Keyed.{put_all};
 ghost use Rattle.ebpf_report.specs.HelperCalls.{put_first, put_firsts};
 ghost use Rattle.ebpf_report.specs.FunctionMaps.{end_of, first_slots, function_maps, if_used, map_referred, map_use, maps_by_function, maps_used, named_maps, names_by_section, names_by_symbol, referred, uses_at};
 ghost use Rattle.ebpf_report.specs.PrivateContracts.{lent_names, names_in, up_to};

@@ -2,8 +2,7 @@
 
 ghost use Rattle.std.specs.Prelude.{◌≡◌, OnOk};
 ghost use Rattle.std.specs.FinMap as finite;
-ghost use Rattle.ebpf_base.specs.Keyed.{put_all};
-ghost use Rattle.ebpf_base.specs.Mapped.{mapped_entries};
+ghost use Rattle.ebpf_base.specs.Maps.{put_all, mapped_entries};
 ghost use Rattle.ebpf_report.specs.HelperCalls.{put_firsts};
 ghost use Rattle.ebpf_report.specs.ObjectPrograms.{settings_named, unknown};
 

@@ -10,21 +10,19 @@ use Rattle.std.specs.BTreeMap.{is_at}
 use Rattle.std.specs.HashMap.{HashMap, Updates}
 use Rattle.std.specs.Map.{lookup}
 use Rattle.std.proofs.lemmas.Map.Text.{is_eq-slice_cmp}
-use Rattle.ebpf_answers.specs.Entries.{value_by_bytes}
+use Rattle.ebpf_answers.specs.Listing.{value_by_bytes}
 use Rattle.ebpf_base.proofs.Maps.{get-view, one_set}
 use Rattle.ebpf_base.proofs.TextMaps.{text_exact}
-use Rattle.ebpf_base.proofs.Walks.{rest_more}
-use Rattle.ebpf_base.specs.Keyed.{put_all}
-use Rattle.ebpf_base.specs.Keys.{text_cmp, text_total}
+use Rattle.ebpf_base.proofs.Lists.{rest_more}
+use Rattle.ebpf_base.specs.Maps.{put_all, text_cmp, text_total}
 use Rattle.ebpf_object.proofs.Values.{Given, get_given}
 use Rattle.ebpf_object.specs.Patches.{global_of, globals_of, Global}
 use Rattle.ebpf_object.specs.Stages.{descriptor_of}
 use Rattle.ebpf_rows.specs.Descriptors.{text_of, name_in, descriptors_in}
-use Rattle.ebpf_rows.specs.NamedRows.{row_named}
-use Rattle.ebpf_rows.specs.PrivateContracts.{lent_value}
-use Rattle.ebpf_rows.specs.Reads.{or_number}
+use Rattle.ebpf_rows.specs.Reads.{row_named, or_number}
+use Rattle.ebpf_rows.specs.Variables.{lent_value}
 use Rattle.ebpf_rows.specs.declared.reads.ebpf_descriptor.{ebpf_descriptor}
-use Rattle.ebpf_rows.specs.declared.value_rows.ebpf_value.{ebpf_value}
+use Rattle.ebpf_rows.specs.declared.variables.ebpf_value.{ebpf_value}
 
 pub text_is : (bytes : List ℕ) → IsUtf8 bytes → text_of bytes ≡ Some bytes
 unfolding text_of

@@ -3,16 +3,16 @@ use Rattle.std.specs.Prelude.{ℕ, List, Option, Some, None, slice_get, Bool, is
 use Rattle.std.specs.Option.{option_and_then}
 use Rattle.std.specs.Result.{result_ok}
 use Rattle.std.specs.FinMap.{contains_key}
-use Rattle.ebpf_answers.specs.Flags.{flag}
+use Rattle.ebpf_answers.specs.Refusals.{flag}
 use Rattle.ebpf_answers.specs.Numbers.{type_refusal}
 use Rattle.ebpf_answers.specs.declared.refusal.Refusal.{Refusal}
 use Rattle.ebpf_base.specs.Faults.{first_in, first_of}
 use Rattle.ebpf_base.specs.declared.endianness.Endianness.{Endianness}
 use Rattle.ebpf_base.specs.declared.endianness.Endianness.TheVariants.{Little, Big}
 use Rattle.ebpf_btf.specs.Memory.{is_btf_memory}
+use Rattle.ebpf_btf.specs.TypeInfo.{TypeInfo}
 use Rattle.ebpf_btf.specs.Reading.{type_info_of}
 use Rattle.ebpf_btf.specs.Strings.{type_name}
-use Rattle.ebpf_btf.specs.TypeInfo.{TypeInfo}
 use Rattle.ebpf_btf.specs.declared.error.BtfError.{BtfError}
 use Rattle.ebpf_elf.specs.Faults.{faults}
 use Rattle.ebpf_elf.specs.Headers.{ei_data}

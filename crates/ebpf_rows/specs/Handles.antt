@@ -1,8 +1,12 @@
 -- What a call leaves of a handle, and why it refuses.
-use Rattle.std.specs.Prelude.{◌≡◌, ◌⊎◌, ⊤, ℕ, List, Option, Some, None, Result, Err, MatchBool, MatchResult}
+use Rattle.ebpf_answers.specs.Listing.{value_by_bytes}
+use Rattle.ebpf_parts.specs.declared.maps.either.Map.{Map}
+use Rattle.ebpf_base.specs.Maps.{text_cmp}
+use Rattle.std.specs.FinMap.{FinMap, insert}
+use Rattle.std.specs.Prelude.{◌≡◌, ◌⊎◌, ⊤, ℕ, List, Option, Some, None, Result, Err, MatchBool, MatchResult, MatchOption}
 use Rattle.ebpf_answers.specs.Numbers.{parse_refusal}
 use Rattle.ebpf_answers.specs.Refusals.{plain, IsReported}
-use Rattle.ebpf_answers.specs.declared.codes.TheConstants.{CLOSED, MEMORY}
+use Rattle.ebpf_answers.specs.declared.codes.TheConstants.{CLOSED, MEMORY, DONE, NO_MAP}
 use Rattle.ebpf_answers.specs.declared.refusal.Refusal.{Refusal}
 use Rattle.ebpf_answers.specs.declared.refusal.ebpf_refusal.{ebpf_refusal}
 use Rattle.ebpf_object.specs.declared.object.Object.{Object}
@@ -39,3 +43,8 @@ pub record IsRefused (Why : Refusal → Type 0) (answer : ℕ) (before after : O
   pub refusal : Refusal
   pub why : Why refusal
   pub reported : IsReported refusal answer about_before about_after report
+
+-- the map of a name is another one, or no map has the name
+abbrev pub IsSet : (Map → Map) → List ℕ → FinMap text_cmp Map → ℕ → FinMap text_cmp Map → Type 0
+IsSet set name before number after =
+    MatchOption (value_by_bytes before name) ((number ≡ NO_MAP) × (after ≡ before)) (λ m. (number ≡ DONE) × (after ≡ insert before name (set m)))

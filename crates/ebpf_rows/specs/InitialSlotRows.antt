@@ -6,7 +6,7 @@ use Rattle.ebpf_initial_slots.specs.declared.target.InitialTarget.{InitialTarget
 use Rattle.ebpf_initial_slots.specs.declared.target.InitialTarget.TheVariants.{Map, Program}
 use Rattle.ebpf_object.specs.declared.object.Object.{Object}
 use Rattle.ebpf_answers.specs.Answers.{Listed}
-use Rattle.ebpf_answers.specs.Flags.{flag}
+use Rattle.ebpf_answers.specs.Refusals.{flag}
 use Rattle.ebpf_rows.specs.Handles.{IsRefusal}
 use Rattle.ebpf_answers.specs.Listing.{listed_by, zero_terminated}
 use Rattle.ebpf_rows.specs.Numbers.{initial_slots_refusal}

@@ -1,21 +1,19 @@
 -- What C reads of the externs that the kernel's configuration gives.
+use denote.Ref.{Bor}
 use Rattle.std.specs.Prelude.{ℕ, Bool, false, [], ◌∷◌, length, ◌≡◌, ◌⊎◌, ⊤, List, Option, Some, None, Result, Ok, Err, MatchBool, true, option_map}
 use Rattle.std.specs.List.{find, filter_map}
 use Rattle.std.specs.Option.{option_and_then}
 use Rattle.std.specs.Str.{bytes_eq}
 use Rattle.std.specs.FinMap.{FinMap, empty}
 use Rattle.ebpf_answers.specs.Answers.{Listed}
-use Rattle.ebpf_answers.specs.Flags.{flag}
+use Rattle.ebpf_answers.specs.Refusals.{flag, plain}
 use Rattle.ebpf_answers.specs.Listing.{listed_by, zero_terminated}
-use Rattle.ebpf_answers.specs.Refusals.{plain}
 use Rattle.ebpf_answers.specs.declared.codes.TheConstants.{NO_EXTERN, BAD_NAME, BAD_VALUE}
 use Rattle.ebpf_answers.specs.declared.refusal.Refusal.{Refusal}
-use Rattle.ebpf_base.specs.Keyed.{put_all}
-use Rattle.ebpf_base.specs.Keys.{text_cmp}
+use Rattle.ebpf_base.specs.Maps.{put_all, text_cmp}
 use Rattle.ebpf_kconfig.specs.ConfiguredValues.{configured_value, loader_value, with_name}
-use Rattle.ebpf_kconfig.specs.KconfigExterns.{kconfig_externs, kconfig_externs_fault, is_kconfig_memory}
+use Rattle.ebpf_kconfig.specs.KconfigExterns.{kconfig_externs, kconfig_externs_fault, is_kconfig_memory, kconfig_size}
 use Rattle.ebpf_kconfig.specs.KconfigMaps.{kconfig_fault, symbols_defined, with_kconfig_map}
-use Rattle.ebpf_kconfig.specs.KconfigTypes.{kconfig_size}
 use Rattle.ebpf_kconfig.specs.declared.error.KconfigError.{KconfigError}
 use Rattle.ebpf_kconfig.specs.declared.externs.KconfigExtern.{KconfigExtern}
 use Rattle.ebpf_kconfig.specs.declared.kconfig_type.KconfigType.{KconfigType}
@@ -25,8 +23,8 @@ use Rattle.ebpf_rows.specs.Descriptors.{text_of, name_in}
 use Rattle.ebpf_rows.specs.Handles.{IsRefusal}
 use Rattle.ebpf_rows.specs.Numbers.{kconfig_refusal}
 use Rattle.ebpf_rows.specs.Variables.{are_named, bytes_in, have_values}
-use Rattle.ebpf_rows.specs.declared.value_rows.ebpf_kconfig_extern.{ebpf_kconfig_extern}
-use Rattle.ebpf_rows.specs.declared.value_rows.ebpf_value.{ebpf_value}
+use Rattle.ebpf_rows.specs.declared.variables.ebpf_kconfig_extern.{ebpf_kconfig_extern}
+use Rattle.ebpf_rows.specs.declared.variables.ebpf_value.{ebpf_value}
 
 abbrev pub kconfig_kind : KconfigType → ℕ
 kconfig_kind kinds.Bool = 0
@@ -160,3 +158,7 @@ CannotDefine rows text bytes o r =
     (IsKconfigRefusal (λ e. kconfig_fault o.btf o.symbol_table (given_values text bytes rows) ≡ Some e) r)
     (r ≡ plain BAD_VALUE))
     (r ≡ plain BAD_NAME)
+
+-- an extern's name and its value, both lent
+abbrev pub lent_pair : Bor (List ℕ) × Bor (List ℕ) → List ℕ × List ℕ
+lent_pair given = (given.0.now, given.1.now)

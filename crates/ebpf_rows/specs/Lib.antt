@@ -6,8 +6,6 @@ pub mod Kconfig
 pub mod Records
 pub mod Numbers
 pub mod MapRows
-pub mod NamedRows
-pub mod PrivateContracts
-pub mod ProgramRows
 pub mod Reads
+pub mod ProgramRows
 pub mod Variables

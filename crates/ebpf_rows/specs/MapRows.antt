@@ -5,12 +5,12 @@ use Rattle.ebpf_loading.specs.MapTypeIds.{map_type_ids, no_type_ids}
 use Rattle.ebpf_loading.specs.declared.map_type_ids.MapTypeIds.{MapTypeIds}
 use Rattle.ebpf_parts.specs.Maps.{map_type_of, key_size_of, value_size_of, max_entries_of, map_flags_of, map_extra_of, pinning_of, bytes_of, section_index_of, section_kind_of, inner_of}
 use Rattle.ebpf_parts.specs.declared.maps.either.Map.{Map}
-use Rattle.ebpf_parts.specs.declared.maps.pinning.PinningType.{PinningType}
-use Rattle.ebpf_parts.specs.declared.maps.pinning.PinningType.TheVariants as pinned
-use Rattle.ebpf_parts.specs.declared.section_kind.EbpfSectionKind.{EbpfSectionKind}
-use Rattle.ebpf_parts.specs.declared.section_kind.EbpfSectionKind.TheVariants.{Undefined, Maps, BtfMaps, Program, Data, Rodata, Bss, Text, BtfExt, License, Version}
-use Rattle.ebpf_parts.specs.declared.section_kind.EbpfSectionKind.TheVariants as kind
-use Rattle.ebpf_answers.specs.Flags.{flag}
+use Rattle.ebpf_parts.specs.declared.maps.definition.PinningType.{PinningType}
+use Rattle.ebpf_parts.specs.declared.maps.definition.PinningType.TheVariants as pinned
+use Rattle.ebpf_parts.specs.declared.section.EbpfSectionKind.{EbpfSectionKind}
+use Rattle.ebpf_parts.specs.declared.section.EbpfSectionKind.TheVariants.{Undefined, Maps, BtfMaps, Program, Data, Rodata, Bss, Text, BtfExt, License, Version}
+use Rattle.ebpf_parts.specs.declared.section.EbpfSectionKind.TheVariants as kind
+use Rattle.ebpf_answers.specs.Refusals.{flag}
 use Rattle.ebpf_rows.specs.declared.maps.ebpf_map.{ebpf_map}
 use Rattle.ebpf_rows.specs.declared.maps.ebpf_map_shape.{ebpf_map_shape}
 

@@ -1,10 +1,9 @@
 -- The numbers and names of the refusals of what a loader asks for beside relocation.
 use Rattle.std.specs.Prelude.{ℕ, ◌+◌, List}
-use Rattle.ebpf_answers.specs.Details.{at_offset, no_details, of_kind, of_size, of_symbol, of_type, two_sizes, at_slot, of_count, of_index, of_relocation, two_addresses}
+use Rattle.ebpf_answers.specs.Refusals.{at_offset, no_details, of_kind, of_size, of_symbol, of_type, two_sizes, at_slot, of_count, of_index, of_relocation, two_addresses, detailed, detailed_with_name, plain, refusal_with_name}
 use Rattle.ebpf_answers.specs.Numbers.{file_fault, type_refusal, parse_refusal, slot_refusal, type_fault}
-use Rattle.ebpf_answers.specs.Refusals.{detailed, detailed_with_name, plain, refusal_with_name}
 use Rattle.ebpf_answers.specs.declared.codes.TheConstants.{MEMORY}
-use Rattle.ebpf_answers.specs.declared.details.Details.{Details}
+use Rattle.ebpf_answers.specs.declared.refusal.Details.{Details}
 use Rattle.ebpf_answers.specs.declared.refusal.Refusal.{Refusal}
 use Rattle.ebpf_core.specs.declared.error.RelocationError.{RelocationError as RecordError}
 use Rattle.ebpf_core.specs.declared.error.RelocationError.TheVariants as core

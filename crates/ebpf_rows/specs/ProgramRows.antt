@@ -2,13 +2,12 @@
 use Rattle.std.specs.Prelude.{ℕ, ◌==◌, List, [], Option, Some, None, length}
 use Rattle.std.specs.List.{find}
 use Rattle.std.specs.FinMap.{FinMap, get}
-use Rattle.ebpf_base.specs.Keys.{key_cmp}
+use Rattle.ebpf_base.specs.Maps.{key_cmp}
 use Rattle.ebpf_elf.specs.declared.section.SectionIndex.{SectionIndex}
-use Rattle.ebpf_model.specs.declared.program.Program.{Program}
+use Rattle.ebpf_model.specs.declared.function.Program.{Program}
 use Rattle.ebpf_parts.specs.ProgramTypes.{program_kind}
 use Rattle.ebpf_model.specs.declared.function.Function.{Function}
-use Rattle.ebpf_answers.specs.Loading.{loaded_as}
-use Rattle.ebpf_answers.specs.ProgramKinds.{program_kind_number}
+use Rattle.ebpf_answers.specs.Loading.{loaded_as, program_kind_number}
 use Rattle.ebpf_answers.specs.declared.loading.Loading.{Loading}
 use Rattle.ebpf_rows.specs.declared.programs.ebpf_program.{ebpf_program}
 

@@ -1,25 +1,25 @@
--- What C reads of an object: lists, or the number of the refusal.
+-- What C reads of an object: its lists, what stands under a name, and the rows of maps and programs by their names.
 use Rattle.std.specs.Prelude.{ℕ, List, Option, Some, None, Result, Ok, Err}
 use Rattle.std.specs.FinMap.{FinMap, entries, get}
-use Rattle.ebpf_base.specs.Keys.{key_cmp}
+use Rattle.ebpf_base.specs.Maps.{key_cmp, text_cmp}
 use Rattle.ebpf_ext.specs.declared.ext_infos.bpf_func_info.{bpf_func_info}
 use Rattle.ebpf_ext.specs.declared.ext_infos.bpf_line_info.{bpf_line_info}
 use Rattle.ebpf_object.specs.declared.object.Object.{Object}
-use Rattle.ebpf_model.specs.declared.program.Program.{Program}
+use Rattle.ebpf_model.specs.declared.function.Program.{Program}
 use Rattle.ebpf_parts.specs.Maps.{bytes_of}
 use Rattle.ebpf_parts.specs.declared.insn.bpf_insn.{bpf_insn}
 use Rattle.ebpf_model.specs.declared.function.Function.{Function}
 use Rattle.ebpf_answers.specs.Answers.{Listed}
-use Rattle.ebpf_answers.specs.Entries.{value_by_bytes}
-use Rattle.ebpf_answers.specs.ObjectRows.{extern_row, section_row}
-use Rattle.ebpf_answers.specs.Listing.{listing_of}
+use Rattle.ebpf_answers.specs.Listing.{value_by_bytes, extern_row, section_row, listing_of}
+use Rattle.ebpf_answers.specs.declared.codes.TheConstants.{CLOSED, NO_MAP, NO_PROGRAM, DONE}
+use Rattle.ebpf_answers.specs.declared.entries.ebpf_extern.{ebpf_extern}
+use Rattle.ebpf_answers.specs.declared.entries.ebpf_section.{ebpf_section}
 use Rattle.ebpf_rows.specs.MapRows.{map_row}
 use Rattle.ebpf_rows.specs.ProgramRows.{program_row, name_of_section_number}
-use Rattle.ebpf_answers.specs.declared.codes.TheConstants.{CLOSED, NO_MAP, NO_PROGRAM}
-use Rattle.ebpf_answers.specs.declared.entries.ebpf_extern.{ebpf_extern}
 use Rattle.ebpf_rows.specs.declared.maps.ebpf_map.{ebpf_map}
 use Rattle.ebpf_rows.specs.declared.programs.ebpf_program.{ebpf_program}
-use Rattle.ebpf_answers.specs.declared.entries.ebpf_section.{ebpf_section}
+
+-- ---- what C reads of an object: lists, or the number of the refusal
 
 -- what a call on a handle gives, which may be closed
 abbrev pub of_open : {X : Type 0} → (Object → Result X ℕ) → Option Object → Result X ℕ
@@ -79,3 +79,25 @@ read_map_data name o = or_number NO_MAP bytes_of (value_by_bytes o.maps name)
 
 abbrev pub read_license : Object → Result (List ℕ) ℕ
 read_license o = Ok o.license
+
+-- ---- the row of one thing by its name, as the lists of such things have it
+
+-- the row of the thing that some bytes name, which are the text that the row points into; a number where there is none
+abbrev pub row_named : {V R : Type 0} → ℕ → (List ℕ → V → ℕ → R) → FinMap text_cmp V → List ℕ → Result R ℕ
+row_named missing row values name = or_number missing (λ v. row name v 0) (value_by_bytes values name)
+
+abbrev pub map_named : List ℕ → Object → Result ebpf_map ℕ
+map_named name o = row_named NO_MAP (map_row o.btf) o.maps name
+
+abbrev pub program_named : List ℕ → Object → Result ebpf_program ℕ
+program_named name o = row_named NO_PROGRAM (program_row o.functions (entries o.section_infos)) o.programs name
+
+-- ---- what a call leaves of one row: `Err` is a number that it answers without writing
+
+abbrev pub answer_row : {R : Type 0} → Result R ℕ → ℕ
+answer_row (Err number) = number
+answer_row (Ok found) = DONE
+
+abbrev pub row_after : {R : Type 0} → Result R ℕ → R → R
+row_after (Err number) row = row
+row_after (Ok found) row = found

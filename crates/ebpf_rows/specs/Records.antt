@@ -1,7 +1,7 @@
 -- What C reads of the CO-RE records of an object: what each comes to over a kernel's types.
 use Rattle.std.specs.Prelude.{◌≡◌, ℕ, List, [], ◌∷◌, length, is_some, Option, Some, None, Result, Ok, Err, unwrap_or, map}
 use Rattle.ebpf_answers.specs.Answers.{Listed}
-use Rattle.ebpf_answers.specs.Flags.{flag}
+use Rattle.ebpf_answers.specs.Refusals.{flag}
 use Rattle.ebpf_answers.specs.Listing.{listed_by, zero_terminated}
 use Rattle.ebpf_answers.specs.declared.refusal.Refusal.{Refusal}
 use Rattle.ebpf_btf.specs.Strings.{text_at}
@@ -9,10 +9,10 @@ use Rattle.ebpf_btf.specs.TypeInfo.{TypeInfo}
 use Rattle.ebpf_btf.specs.declared.error.BtfError.{BtfError}
 use Rattle.ebpf_core_relo.specs.declared.absence.Absence.{Absence}
 use Rattle.ebpf_core_relo.specs.declared.absence.Absence.TheVariants.{NoType, TypeOfAnotherKind, NoMember, MemberOfAnotherKind, NoEnumerator, NoValue}
-use Rattle.ebpf_core_relo.specs.declared.record_outcome.RecordOutcome.{RecordOutcome}
-use Rattle.ebpf_core_relo.specs.declared.record_outcome.RecordResult.{RecordResult}
-use Rattle.ebpf_core_relo.specs.declared.record_outcome.RecordResult.TheVariants.{Value, Absent, Refused}
-use Rattle.ebpf_core_relo.specs.declared.record_outcome.RecordSlot.{RecordSlot}
+use Rattle.ebpf_core_relo.specs.declared.outcomes.RecordOutcome.{RecordOutcome}
+use Rattle.ebpf_core_relo.specs.declared.outcomes.RecordResult.{RecordResult}
+use Rattle.ebpf_core_relo.specs.declared.outcomes.RecordResult.TheVariants.{Value, Absent, Refused}
+use Rattle.ebpf_core_relo.specs.declared.outcomes.RecordSlot.{RecordSlot}
 use Rattle.ebpf_linker.specs.declared.link_map.Reference.{Reference}
 use Rattle.ebpf_object.specs.WrittenSlots.{outcomes_by}
 use Rattle.ebpf_object.specs.declared.object.Object.{Object}
@@ -34,8 +34,7 @@ result_number (Refused fault) = 2
 -- the value, 0 where there is none
 abbrev pub value_of : RecordResult → ℕ
 value_of (Value outcome) = unwrap_or outcome.value 0
-value_of (Absent absence) = 0
-value_of (Refused fault) = 0
+value_of _ = 0
 
 abbrev pub absence_number : Absence → ℕ
 absence_number NoType = 1
@@ -47,15 +46,13 @@ absence_number NoValue = 6
 
 -- why there is no value, 0 where that is not why
 abbrev pub absence_of_result : RecordResult → ℕ
-absence_of_result (Value outcome) = 0
 absence_of_result (Absent absence) = absence_number absence
-absence_of_result (Refused fault) = 0
+absence_of_result _ = 0
 
 -- the number by which a pass refuses such a record, 0 where it is not refused
 abbrev pub fault_of_result : RecordResult → ℕ
-fault_of_result (Value outcome) = 0
-fault_of_result (Absent absence) = 0
 fault_of_result (Refused fault) = (record_fault fault).0
+fault_of_result _ = 0
 
 -- the slot of a record; zeros where no function has it
 abbrev pub slot_or_zeros : Option RecordSlot → RecordSlot

@@ -1,5 +1,6 @@
 -- Values of variables, as C hands them over: each row says where its variable's name stands in a text, and where its value
 -- stands in a block of bytes.
+use denote.Ref.{Bor}
 use Rattle.std.specs.Prelude.{◌≡◌, ⊤, ℕ, ◌+◌, ◌==◌, not, true, Bool, List, length, take, drop, nat_le, Option, Some, None, option_map, is_some, MatchBool, if◌then◌else◌, [], ◌∷◌, ◌++◌, Result}
 use Rattle.std.specs.FinMap.{FinMap, empty, get, entries}
 use Rattle.std.specs.List.{filter_map, list_all, find}
@@ -11,10 +12,9 @@ use Rattle.ebpf_answers.specs.Numbers.{parse_refusal}
 use Rattle.ebpf_answers.specs.Refusals.{plain}
 use Rattle.ebpf_answers.specs.declared.codes.TheConstants.{BAD_NAME, BAD_VALUE, NO_VARIABLE}
 use Rattle.ebpf_answers.specs.declared.refusal.Refusal.{Refusal}
-use Rattle.ebpf_base.specs.Keyed.{put_all}
-use Rattle.ebpf_base.specs.Keys.{text_cmp}
+use Rattle.ebpf_base.specs.Maps.{put_all, text_cmp}
 use Rattle.ebpf_model.specs.declared.symbol.Symbol.{Symbol}
-use Rattle.ebpf_object.specs.Patches.{Global, all_patched, patches_of, patches_fault, symbol_indices, symbol_named}
+use Rattle.ebpf_object.specs.Patches.{Global, all_patched, patches_of, patches_fault, symbol_indices, symbol_named, global_of}
 use Rattle.ebpf_object.specs.declared.object.Object.{Object}
 use Rattle.ebpf_parts.specs.Maps.{bytes_of, section_index_of}
 use Rattle.ebpf_parts.specs.Memory.{is_parse_memory}
@@ -22,7 +22,7 @@ use Rattle.ebpf_parts.specs.declared.maps.either.Map.{Map}
 use Rattle.ebpf_rows.specs.Descriptors.{name_in, text_of}
 use Rattle.ebpf_rows.specs.Handles.{IsRefusal}
 use Rattle.ebpf_rows.specs.Reads.{or_number}
-use Rattle.ebpf_rows.specs.declared.value_rows.ebpf_value.{ebpf_value}
+use Rattle.ebpf_rows.specs.declared.variables.ebpf_value.{ebpf_value}
 use Rattle.ebpf_rows.specs.declared.variables.ebpf_variable.{ebpf_variable}
 
 -- the bytes at an offset of a block, where it is inside
@@ -126,3 +126,7 @@ text_if name (Some v) = variable_text name v
 abbrev pub variable_list : Object → Listed ebpf_variable
 variable_list o =
     listed_by (λ e at. row_if e.0 (variable_at o.symbol_table (entries o.maps) e.1) at) (λ e. text_if e.0 (variable_at o.symbol_table (entries o.maps) e.1)) (entries (symbol_indices o.symbol_table))
+
+-- a variable's name with its value, both lent
+abbrev pub lent_value : Bor (List ℕ) × (Bor (List ℕ) × Bool) → List ℕ × Global
+lent_value given = (given.0.now, global_of given.1)

@@ -7,6 +7,4 @@ pub mod programs;
 pub mod reads;
 pub mod record_rows;
 pub mod refusals;
-pub mod target_types;
-pub mod value_rows;
 pub mod variables;

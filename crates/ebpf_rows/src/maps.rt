@@ -5,13 +5,13 @@ ghost use Rattle.std.specs.Option.{option_copied};
 ghost use Rattle.ebpf_answers.specs.Listing.{zero_terminated};
 ghost use Rattle.ebpf_parts.specs.Maps.{inner_of};
 ghost use Rattle.ebpf_rows.specs.MapRows.{map_row, pinning_number, section_kind_number, shape_if, shape_of, type_ids_of};
-ghost use Rattle.ebpf_rows.specs.NamedRows.{answer_row, map_named, program_named, row_after};
+ghost use Rattle.ebpf_rows.specs.Reads.{answer_row, map_named, program_named, row_after};
 
 use crate::programs::{ebpf_program, program_row};
 use crate::reads::text_of;
+use ebpf_answers::buffers::{Listing, Rows, add_row};
 use ebpf_answers::codes::{DONE, NO_MAP, NO_PROGRAM, flag};
 use ebpf_answers::entries::Entry;
-use ebpf_answers::listing::{Listing, Rows, add_row};
 use ebpf_btf::Btf;
 use ebpf_loading::{MapTypeIds, map_types};
 use ebpf_object::Object;

@@ -6,11 +6,10 @@ ghost use Rattle.ebpf_answers.specs.Listing.{zero_terminated};
 ghost use Rattle.ebpf_rows.specs.InitialSlotRows.{names_program, slot_row, slot_text, target_name};
 ghost use Rattle.ebpf_rows.specs.ProgramRows.{loading_of, name_of_section_number, program_row, slot_count};
 
+use ebpf_answers::buffers::{Listing, Rows, add_name, add_row};
 use ebpf_answers::codes::flag;
 use ebpf_answers::entries::Entry;
-use ebpf_answers::listing::{Listing, Rows, add_name, add_row};
-use ebpf_answers::loading::{Loading, loaded_as};
-use ebpf_answers::program_kind::program_kind_number;
+use ebpf_answers::loading::{Loading, loaded_as, program_kind_number};
 use ebpf_base::{ByKey, ByName};
 use ebpf_elf::SectionIndex;
 use ebpf_initial_slots::{InitialSlot, InitialTarget};

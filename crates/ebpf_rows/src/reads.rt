@@ -3,15 +3,14 @@
 ghost use Rattle.std.specs.Prelude.{◌≡◌, map, IfOk, OnOk, option_map};
 ghost use Rattle.std.specs.Option.{option_copied};
 ghost use Rattle.std.specs.FinMap.{insert};
-ghost use Rattle.ebpf_answers.specs.LentResults.{found_list};
+ghost use Rattle.ebpf_answers.specs.Answers.{found_list};
 ghost use Rattle.ebpf_object.specs.Stages.{descriptor_of};
 ghost use Rattle.ebpf_rows.specs.Descriptors.{name_in, text_of, have_names, descriptors_in};
-ghost use Rattle.ebpf_rows.specs.Kconfig.{given_by_row, given_values};
-ghost use Rattle.ebpf_rows.specs.PrivateContracts.{lent_pair};
+ghost use Rattle.ebpf_rows.specs.Kconfig.{given_by_row, given_values, lent_pair};
 ghost use Rattle.ebpf_rows.specs.Reads.{read_func_infos, function_by_bytes, read_line_infos, read_map_data, read_section_name, read_slots};
 
 use crate::programs::name_of_section;
-use crate::value_rows::{bytes_in, ebpf_value};
+use crate::variables::{bytes_in, ebpf_value};
 use ebpf_answers::codes::{NO_MAP, NO_PROGRAM};
 use ebpf_answers::entries::value_by_bytes;
 use ebpf_base::{ByName, Items};
@@ -127,7 +126,7 @@ pub fn have_names(rows: &[ebpf_descriptor], text: &[u8]) -> bool
 }
 
 /// The names of maps with their descriptors. A row that names none is passed over.
-#[tactic(auto, using(crate::proofs::Rows::one_read, crate::proofs::Rows::none_read, ebpf_base::proofs::Walks::rest_none))]
+#[tactic(auto, using(crate::proofs::Rows::one_read, crate::proofs::Rows::none_read, ebpf_base::proofs::Lists::rest_none))]
 pub fn descriptors_in<'a>(
     alloc: Global,
     rows: &[ebpf_descriptor],
@@ -177,7 +176,7 @@ fn put_given(
 }
 
 /// The values of externs by name, later rows over earlier ones.
-#[tactic(auto, using(crate::proofs::Rows::one_put, crate::proofs::Rows::none_put, ebpf_base::proofs::Walks::rest_none))]
+#[tactic(auto, using(crate::proofs::Rows::one_put, crate::proofs::Rows::none_put, ebpf_base::proofs::Lists::rest_none))]
 pub fn given_values(
     alloc: Global,
     rows: &[ebpf_value],

@@ -5,8 +5,8 @@ ghost use Rattle.ebpf_answers.specs.Listing.{zero_terminated};
 ghost use Rattle.ebpf_rows.specs.Records.{absence_number, absence_of_result, fault_of_result, outcome_row, result_number, section_name_in, slot_or_zeros, value_of, copy_row, reference_row, reference_rows};
 
 use crate::refusals::record_fault;
+use ebpf_answers::buffers::{Listing, Rows, add_row};
 use ebpf_answers::codes::flag;
-use ebpf_answers::listing::{Listing, Rows, add_row};
 use ebpf_base::{Items, Text};
 use ebpf_btf::{Btf, BtfError};
 use ebpf_core_relo::{Absence, RecordOutcome, RecordResult, RecordSlot};

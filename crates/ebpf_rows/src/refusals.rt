@@ -5,11 +5,8 @@ ghost use Rattle.ebpf_rows.specs.Numbers.{kconfig_refusal, initial_slots_refusal
 
 use crate::info::type_refusal_in;
 use ebpf_answers::codes::MEMORY;
-use ebpf_answers::details::Details;
-use ebpf_answers::parse_refusal::parse_refusal;
-use ebpf_answers::refusal::Refusal;
-use ebpf_answers::slot_refusal::slot_refusal;
-use ebpf_answers::type_fault::{file_fault, type_fault, type_refusal};
+use ebpf_answers::faults::{file_fault, parse_refusal, slot_refusal, type_fault, type_refusal};
+use ebpf_answers::refusal::{Details, Refusal};
 use ebpf_core::RelocationError;
 use ebpf_core_relo::BtfRelocationError;
 use ebpf_initial_slots::InitialSlotError;

@@ -1,6 +1,6 @@
 use ebpf_base::{ByKey, ByName, Text};
 use ebpf_btf::{Btf, BtfEnum, BtfError, BtfMember, Endianness};
-use ebpf_core_relo::{RecordOutcome, RecordOutcomes, RecordResult, record_outcomes};
+use ebpf_core_relo::{RecordOutcomes, RecordResult, record_outcomes};
 use ebpf_elf::SectionIndex;
 use ebpf_ext::BtfExt;
 use ebpf_model::Function;
@@ -120,17 +120,12 @@ fn instructions(alloc: Global) -> Result<Vec<bpf_insn>, AllocError> {
     Ok(instructions)
 }
 
-/// The function `p`.
-fn function(alloc: Global) -> Result<Function, AllocError> {
+/// The function `p`, by its key.
+fn functions(alloc: Global) -> Result<ByKey<Function>, AllocError> {
     let instructions = instructions(alloc)?;
     let name = Text::from_str(alloc, "p")?;
-    Ok(function_of(alloc, name, instructions))
-}
-
-/// The functions, by their keys.
-fn functions(alloc: Global) -> Result<ByKey<Function>, AllocError> {
     let mut functions = ByKey::new(alloc);
-    functions.insert((3, 0), function(alloc)?)?;
+    functions.insert((3, 0), function_of(alloc, name, instructions))?;
     Ok(functions)
 }
 
@@ -144,27 +139,10 @@ fn sections(alloc: Global) -> Result<ByName<SectionIndex>, AllocError> {
 /// Adds what a record comes to, in a word or two.
 fn add_words(text: &mut String, answer: &RecordResult) -> Result<(), AllocError> {
     match answer {
-        RecordResult::Value(outcome) => write!(text, "{:?}; ", outcome.value)?,
-        RecordResult::Absent(absence) => write!(text, "{absence:?}; ")?,
-        RecordResult::Refused(fault) => write!(text, "{fault:?}; ")?,
+        RecordResult::Value(outcome) => write!(text, "{:?}; ", outcome.value),
+        RecordResult::Absent(absence) => write!(text, "{absence:?}; "),
+        RecordResult::Refused(fault) => write!(text, "{fault:?}; "),
     }
-    Ok(())
-}
-
-/// What records come to, one after the other.
-fn add_records(text: &mut String, records: &[RecordOutcome]) -> Result<(), AllocError> {
-    for record in records {
-        add_words(text, &record.result)?;
-    }
-    Ok(())
-}
-
-/// Slots, by their codes and immediates.
-fn add_slots(text: &mut String, slots: &[bpf_insn]) -> Result<(), AllocError> {
-    for slot in slots {
-        write!(text, "{:x}:{} ", slot.code, slot.imm)?;
-    }
-    Ok(())
 }
 
 /// The slots of the function that were written; none if none were.
@@ -175,11 +153,15 @@ fn written(outcomes: &RecordOutcomes) -> &[bpf_insn] {
     }
 }
 
-/// What records come to, and then the slots of the function, if some were written.
+/// What records come to, and then the slots of the function by their codes and immediates, if some were written.
 fn shown(alloc: Global, outcomes: &RecordOutcomes) -> Result<String, AllocError> {
     let mut text = String::new(alloc);
-    add_records(&mut text, outcomes.records.as_slice())?;
-    add_slots(&mut text, written(outcomes))?;
+    for record in outcomes.records.iter() {
+        add_words(&mut text, &record.result)?;
+    }
+    for slot in written(outcomes) {
+        write!(text, "{:x}:{} ", slot.code, slot.imm)?;
+    }
     Ok(text)
 }
 
@@ -201,12 +183,6 @@ fn told(
     record_outcomes(alloc, &functions, &sections, local, ext, target)
 }
 
-/// That as text.
-fn told_text(alloc: Global, local: &Btf, ext: &BtfExt, target: &Btf) -> Result<String, AllocError> {
-    let told = told(alloc, local, ext, target)?;
-    shown(alloc, &told)
-}
-
 /// What records of section `name` come to, and then the slots.
 fn outcomes(
     alloc: Global,
@@ -216,7 +192,8 @@ fn outcomes(
     records: &[[u32; 4]],
 ) -> Result<String, BtfError> {
     let ext = ext_of(alloc, local, name, records)?;
-    Ok(told_text(alloc, local, &ext, target)?)
+    let told = told(alloc, local, &ext, target)?;
+    Ok(shown(alloc, &told)?)
 }
 
 /// Strings of a local side: a section and paths.

@@ -3,7 +3,7 @@ use ebpf_btf::{Btf, BtfError};
 use ebpf_core_places::{Step, place_in};
 use std::alloc::{AllocError, Global};
 use std::test::Fail;
-use test_same::same;
+use test_same::shows;
 use test_types::{add_int, add_pointer, add_struct, member};
 
 /// The name `a`, the first string that is added.
@@ -24,33 +24,21 @@ fn add_others(alloc: Global, btf: &mut Btf, name: u32, count: usize) -> Result<u
     add_struct(btf, 0, 8, &members)
 }
 
-/// The member `a`, whose local type is the type 1.
-fn step_to_a(alloc: Global) -> Result<Step, AllocError> {
-    Ok(Step::Name {
-        name: Text::from_str(alloc, "a")?,
-        local_type: 1,
-    })
-}
-
-/// The root index 0 and then that member.
+/// The root index 0 and then the member `a`, whose local type is the type 1.
 fn path_to_a(alloc: Global) -> Result<Vec<Step>, AllocError> {
     let mut path = Vec::new(alloc);
     path.push(Step::Index { index: 0 })?;
-    path.push(step_to_a(alloc)?)?;
+    path.push(Step::Name {
+        name: Text::from_str(alloc, "a")?,
+        local_type: 1,
+    })?;
     Ok(path)
-}
-
-/// What walking a path comes to.
-fn place_text(alloc: Global, btf: &Btf, root: u32, path: &[Step]) -> Result<String, AllocError> {
-    let outcome = place_in(btf, btf, root, path);
-    format!(in alloc; "{outcome:?}")
 }
 
 /// Fails where looking for `a` in a type doesn't come to this.
 fn leads(alloc: Global, btf: &Btf, root: u32, want: &str) -> Result<(), Fail> {
     let path = path_to_a(alloc)?;
-    let text = place_text(alloc, btf, root, &path)?;
-    same(text.as_str(), want)
+    shows(alloc, &place_in(btf, btf, root, &path), want)
 }
 
 /// Types with `a` in the strings and an int as type 1.

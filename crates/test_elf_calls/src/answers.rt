@@ -2,7 +2,7 @@
 
 use super::file::{Field, file_with};
 use ebpf_base::Endianness;
-use ebpf_elf::{ElfFile, ElfReadError, ElfRelocation, ElfSection, ElfSymbol, SectionIndex};
+use ebpf_elf::{ElfFile, ElfReadError, ElfSection, ElfSymbol, SectionIndex};
 use std::alloc::{AllocError, Global};
 use std::test::Fail;
 use test_same::same;
@@ -10,11 +10,6 @@ use test_same::same;
 /// A section that a file has by a name.
 pub fn section_named<'a>(file: &ElfFile<'a>, name: &str) -> Option<ElfSection<'a>> {
     file.section_by_name(name)
-}
-
-/// The last symbol of a file.
-fn last_symbol<'a>(file: &ElfFile<'a>) -> Option<ElfSymbol<'a>> {
-    file.symbols().last()
 }
 
 /// How many sections a file has, how many symbols, and how many sections of relocations.
@@ -57,21 +52,16 @@ fn symbol_kind(alloc: Global, symbol: &ElfSymbol<'_>) -> Result<String, AllocErr
     format!(in alloc; "{:?} {is_definition} {}", symbol.kind(), symbol.is_weak())
 }
 
-/// A relocation: its offset, its size and the index of its symbol.
-fn add_relocation(text: &mut String, relocation: ElfRelocation) -> Result<(), AllocError> {
-    let ElfRelocation {
-        offset,
-        size,
-        symbol_index,
-    } = relocation;
-    write!(text, "{offset} {size} {symbol_index};")
-}
-
-/// The relocations of a section.
+/// The relocations of a section: of each its offset, its size and the index of its symbol.
 fn relocations(alloc: Global, section: &ElfSection<'_>) -> Result<String, AllocError> {
     let mut text = String::new(alloc);
     for relocation in section.relocations() {
-        add_relocation(&mut text, relocation)?;
+        let symbol_index = relocation.symbol_index;
+        write!(
+            text,
+            "{} {} {symbol_index};",
+            relocation.offset, relocation.size
+        )?;
     }
     Ok(text)
 }
@@ -106,40 +96,16 @@ pub enum Question<'a> {
     SecondName,
 }
 
-/// The answer on a symbol.
-fn symbol_answer(
-    alloc: Global,
-    symbol: &ElfSymbol<'_>,
-    question: Question<'_>,
-) -> Result<String, AllocError> {
-    match question {
-        Question::Symbol => symbol_fields(alloc, symbol),
-        _ => symbol_kind(alloc, symbol),
-    }
-}
-
 /// The answer on the last symbol.
 fn last_answer(
     alloc: Global,
     file: &ElfFile<'_>,
     question: Question<'_>,
 ) -> Result<String, AllocError> {
-    match last_symbol(file) {
-        Some(symbol) => symbol_answer(alloc, &symbol, question),
-        None => format!(in alloc; "no symbol"),
-    }
-}
-
-/// The answer on a section.
-fn section_answer(
-    alloc: Global,
-    section: &ElfSection<'_>,
-    question: Question<'_>,
-) -> Result<String, AllocError> {
-    match question {
-        Question::DataLength(_) => format!(in alloc; "{:?}", data_length(section)),
-        Question::Relocations(_) => relocations(alloc, section),
-        _ => fields(alloc, section),
+    match (file.symbols().last(), question) {
+        (Some(symbol), Question::Symbol) => symbol_fields(alloc, &symbol),
+        (Some(symbol), _) => symbol_kind(alloc, &symbol),
+        (None, _) => format!(in alloc; "no symbol"),
     }
 }
 
@@ -150,9 +116,13 @@ fn named_answer(
     name: &str,
     question: Question<'_>,
 ) -> Result<String, AllocError> {
-    match section_named(file, name) {
-        Some(section) => section_answer(alloc, &section, question),
-        None => format!(in alloc; "no section"),
+    let Some(section) = section_named(file, name) else {
+        return format!(in alloc; "no section");
+    };
+    match question {
+        Question::DataLength(_) => format!(in alloc; "{:?}", data_length(&section)),
+        Question::Relocations(_) => relocations(alloc, &section),
+        _ => fields(alloc, &section),
     }
 }
 

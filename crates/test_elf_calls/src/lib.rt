@@ -8,8 +8,4 @@ mod faults;
 #[cfg(test)]
 mod file;
 #[cfg(test)]
-mod relocations;
-#[cfg(test)]
-mod sections;
-#[cfg(test)]
-mod symbols;
+mod tables;

@@ -27,11 +27,6 @@ impl Sample for ExplainedParse<'_> {
     }
 }
 
-/// Adds an error as an object explains it.
-fn show_explained(lines: &mut Lines, object: &Object, error: &PrepareError) {
-    lines.show(object.explain(error));
-}
-
 /// What an object adds to.
 trait Explicable: Drop {
     /// Adds the line, as the object explains it.
@@ -40,7 +35,7 @@ trait Explicable: Drop {
 
 impl Explicable for PrepareError {
     fn show(&self, lines: &mut Lines, object: &Object) {
-        show_explained(lines, object, self);
+        lines.show(object.explain(self));
     }
 }
 
@@ -141,15 +136,6 @@ fn show_places(lines: &mut Lines, file: &[u8]) {
     show_changed(lines, file, 0x88, 0xff);
 }
 
-/// Adds the errors that the names of an object add to, once it has them.
-fn show_with_names(lines: &mut Lines, object: &mut Object) {
-    let step = put_names(lines.alloc(), object);
-    lines.has_memory(step);
-    show_maps(lines, object);
-    show_externs(lines, object);
-    show_calls(lines, object);
-}
-
 /// What gets names.
 trait Named: Drop {
     /// Adds the errors that the names add to.
@@ -158,7 +144,11 @@ trait Named: Drop {
 
 impl Named for Object {
     fn show(&mut self, lines: &mut Lines) {
-        show_with_names(lines, self);
+        let step = put_names(lines.alloc(), self);
+        lines.has_memory(step);
+        show_maps(lines, self);
+        show_externs(lines, self);
+        show_calls(lines, self);
     }
 }
 
@@ -168,14 +158,9 @@ fn show_named<T: Named>(lines: &mut Lines, mut object: T) {
     object.show(lines);
 }
 
-/// Adds the errors that an object's names add to.
-fn show_object(lines: &mut Lines) {
-    show_named(lines, empty_object(lines.alloc()));
-}
-
 /// Adds the errors that names add to.
 pub fn show_all(lines: &mut Lines, file: &[u8]) {
-    show_object(lines);
+    show_named(lines, empty_object(lines.alloc()));
     show_parsing(lines, file);
     show_places(lines, file);
 }

@@ -2,23 +2,17 @@
 
 use crate::lines::{Lines, Sample};
 use ebpf_elf::ElfReadError;
+use ebpf_variants::variant_name;
 
 impl Sample for ElfReadError {
     const TYPE: &'static str = "elf::ElfReadError";
 
     fn variant(&self) -> &'static str {
-        match self {
-            ElfReadError::TooShort => "TooShort",
-            ElfReadError::BadMagic => "BadMagic",
-            ElfReadError::NotElf64 => "NotElf64",
-            ElfReadError::BadByteOrder => "BadByteOrder",
-            ElfReadError::BadSectionTable => "BadSectionTable",
-            ElfReadError::BadSectionRange => "BadSectionRange",
-            ElfReadError::BadStringTable => "BadStringTable",
-            ElfReadError::BadSymbolTable => "BadSymbolTable",
-            ElfReadError::BadRelocationTable => "BadRelocationTable",
-            ElfReadError::ExtendedNumbering => "ExtendedNumbering",
-        }
+        variant_name!(
+            self,
+            ElfReadError: TooShort BadMagic NotElf64 BadByteOrder BadSectionTable BadSectionRange BadStringTable
+                BadSymbolTable BadRelocationTable ExtendedNumbering
+        )
     }
 }
 

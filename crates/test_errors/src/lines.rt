@@ -31,11 +31,6 @@ fn put_line<E: Display>(
     writeln!(text, "{path}::{variant}: {error}")
 }
 
-/// Bytes as a list.
-fn list_of(alloc: Global, bytes: &[u8]) -> Result<Items<u8>, AllocError> {
-    Ok(Items::from_vec(Vec::from_slice(alloc, bytes)?))
-}
-
 impl Lines {
     /// No lines yet.
     pub fn new(alloc: Global) -> Lines {
@@ -78,8 +73,8 @@ impl Lines {
 
     /// Bytes for an error.
     pub fn bytes(&mut self, bytes: &[u8]) -> Items<u8> {
-        match list_of(self.alloc, bytes) {
-            Ok(list) => list,
+        match Vec::from_slice(self.alloc, bytes) {
+            Ok(bytes) => Items::from_vec(bytes),
             Err(_) => {
                 self.is_whole = false;
                 Items::new(self.alloc)

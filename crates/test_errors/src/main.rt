@@ -34,17 +34,12 @@ fn show_all(lines: &mut Lines, file: &[u8]) {
     kernel_types::show_all(lines);
 }
 
-/// Prints lines.
-fn print(rt: &HostRuntime, lines: &Lines) -> io::Result<()> {
-    let text = lines.whole()?;
-    print!(rt; "{text}")
-}
-
 /// Prints all errors, with what the names of a file add.
 fn print_all(rt: &HostRuntime, file: &[u8]) -> io::Result<()> {
     let mut lines = Lines::new(rt.alloc());
     show_all(&mut lines, file);
-    print(rt, &lines)
+    let text = lines.whole()?;
+    print!(rt; "{text}")
 }
 
 fn main(rt: HostRuntime) -> io::Result<()> {

@@ -7,20 +7,13 @@ use ebpf_ksyms::KsymsError;
 use ebpf_model::{EbpfRelocationError, RelocationError};
 use ebpf_object::obj::ParseError;
 use ebpf_object::prepare::PrepareError;
+use ebpf_variants::variant_name;
 
 impl Sample for PrepareError {
     const TYPE: &'static str = "prepare::PrepareError";
 
     fn variant(&self) -> &'static str {
-        match self {
-            PrepareError::Parse(_) => "Parse",
-            PrepareError::Types(_) => "Types",
-            PrepareError::Maps(_) => "Maps",
-            PrepareError::Ksyms(_) => "Ksyms",
-            PrepareError::Externs(_) => "Externs",
-            PrepareError::Calls(_) => "Calls",
-            PrepareError::OutOfMemory => "OutOfMemory",
-        }
+        variant_name!(self, PrepareError: Parse Types Maps Ksyms Externs Calls OutOfMemory)
     }
 }
 

@@ -62,8 +62,8 @@ fn show_places(lines: &mut Lines) {
     lines.show(RelocationError::MaximumNestingLevelReached { type_name });
 }
 
-/// Adds the error of an access string whose part is past what its type has.
-fn show_access(lines: &mut Lines) {
+/// Adds the errors of an access string whose part is past what its type has, and of a question that can't be asked.
+fn show_questions(lines: &mut Lines) {
     let access_path = lines.text("s[0]");
     let spec = lines.text("0:3");
     let error = lines.text("members count from 0");
@@ -74,10 +74,6 @@ fn show_access(lines: &mut Lines) {
         len: 3,
         error,
     });
-}
-
-/// Adds the error of a question that can't be asked.
-fn show_kind(lines: &mut Lines) {
     let relocation_kind = lines.text("the sign of a field");
     let type_kind = lines.text("an element");
     let error = lines.text("s[0].values[1]");
@@ -110,8 +106,7 @@ fn show_instructions(lines: &mut Lines) {
 /// Adds each error of CO-RE relocations, and what stands before it.
 pub fn show_all(lines: &mut Lines) {
     show_places(lines);
-    show_access(lines);
-    show_kind(lines);
+    show_questions(lines);
     show_instructions(lines);
     let section = lines.text("kprobe/p");
     let error = RelocationError::FunctionNotFound;

@@ -11,18 +11,14 @@ impl Sample for KconfigError {
     }
 }
 
-/// Adds the errors on the object.
-fn show_externs(lines: &mut Lines) {
+/// Adds each error of externs of the kernel's configuration: those on the object, and those on values.
+pub fn show_all(lines: &mut Lines) {
     lines.show(KconfigError::NotAVariable { type_id: 70 });
     lines.show(KconfigError::UnreadableName { offset: 0x1000 });
     let name = lines.text("HZ");
     lines.show(KconfigError::UnknownName { name });
     let name = lines.text("CONFIG_HZ");
     lines.show(KconfigError::UnsupportedType { name });
-}
-
-/// Adds the errors on values.
-fn show_values(lines: &mut Lines) {
     let name = lines.text("CONFIG_HZ");
     lines.show(KconfigError::NoValue { name });
     let name = lines.text("CONFIG_HZ");
@@ -37,10 +33,4 @@ fn show_values(lines: &mut Lines) {
     let name = lines.text("CONFIG_HZ");
     lines.show(KconfigError::ValueOutOfRange { name });
     lines.show(KconfigError::OutOfMemory);
-}
-
-/// Adds each error of externs of the kernel's configuration.
-pub fn show_all(lines: &mut Lines) {
-    show_externs(lines);
-    show_values(lines);
 }

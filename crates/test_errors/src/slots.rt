@@ -40,7 +40,7 @@ fn show_written(lines: &mut Lines) {
     lines.show(RelocationError::MapAddressOverflow { offset: 0x18 });
 }
 
-/// Adds the errors on where a call leads.
+/// Adds the errors on where a call leads, and of functions that can't be appended.
 fn show_targets(lines: &mut Lines) {
     let caller_name = lines.text("f");
     lines.show(RelocationError::UnknownFunction {
@@ -52,10 +52,6 @@ fn show_targets(lines: &mut Lines) {
         address: 0,
     });
     lines.show(RelocationError::UnsupportedTextSymbol { index: 12 });
-}
-
-/// Adds the errors of functions that can't be appended.
-fn show_appended(lines: &mut Lines) {
     let name = lines.text("f");
     lines.show(RelocationError::FunctionInfoMismatch { name });
     let name = lines.text("f");
@@ -69,7 +65,6 @@ fn show_appended(lines: &mut Lines) {
 pub fn show_all(lines: &mut Lines) {
     show_written(lines);
     show_targets(lines);
-    show_appended(lines);
     let function = lines.text("p");
     let error = RelocationError::UnknownSymbol { index: 12 };
     lines.show(EbpfRelocationError { function, error });

@@ -91,15 +91,6 @@ const STRINGS: [Row; 6] = [
     ("CONFIG_NAME", SHORT, "UnsuitedValue"),
 ];
 
-/// An extern that isn't weak.
-fn strong(alloc: Global, name: &str, kind: KconfigType) -> Result<KconfigExtern, AllocError> {
-    Ok(KconfigExtern {
-        name: Text::from_str(alloc, name)?,
-        kind,
-        is_weak: false,
-    })
-}
-
 /// The value of an extern.
 fn value_of(
     alloc: Global,
@@ -130,21 +121,15 @@ fn without_name(alloc: Global, name: &str, error: &KconfigError) -> Result<Strin
     String::from_str(alloc, variant.unwrap_or(text.as_str()))
 }
 
-/// The value of an extern that isn't weak, or why there is none.
-fn outcome(
-    alloc: Global,
-    name: &str,
-    kind: KconfigType,
-    order: Endianness,
-) -> Result<String, AllocError> {
-    let wanted = strong(alloc, name, kind)?;
-    shown(alloc, name, value_of(alloc, &wanted, order))
-}
-
-/// Fails where the value of a row's extern isn't the row's.
+/// Fails where the value of a row's extern, which isn't weak, isn't the row's.
 fn has_value(alloc: Global, row: &Row, order: Endianness) -> Result<(), Fail> {
     let (name, kind, want) = *row;
-    let text = outcome(alloc, name, kind, order)?;
+    let wanted = KconfigExtern {
+        name: Text::from_str(alloc, name)?,
+        kind,
+        is_weak: false,
+    };
+    let text = shown(alloc, name, value_of(alloc, &wanted, order))?;
     same(text.as_str(), want)
 }
 

@@ -10,29 +10,18 @@ use ebpf_object::Object;
 use ebpf_parts::maps::Map;
 use std::alloc::{AllocError, Global};
 use std::test::Fail;
-use test_same::{same, same_number};
+use test_same::{same, same_number, shows};
 use test_types::externs::Extern;
 
 /// An extern's name, and its value.
 pub type Value<'a> = (&'a str, &'a [u8]);
 
-/// Adds a value.
-fn add_value(
-    alloc: Global,
-    values: &mut ByName<Items<u8>>,
-    name: &str,
-    bytes: &[u8],
-) -> Result<(), AllocError> {
-    let value = Items::from_vec(Vec::from_slice(alloc, bytes)?);
-    values.insert(String::from_str(alloc, name)?, value)?;
-    Ok(())
-}
-
 /// Values by name.
 fn values_of(alloc: Global, given: &[Value<'_>]) -> Result<ByName<Items<u8>>, AllocError> {
     let mut values = ByName::new(alloc);
     for (name, bytes) in given {
-        add_value(alloc, &mut values, name, bytes)?;
+        let value = Items::from_vec(Vec::from_slice(alloc, bytes)?);
+        values.insert(String::from_str(alloc, name)?, value)?;
     }
     Ok(values)
 }
@@ -42,56 +31,32 @@ fn define(object: &mut Object, values: &ByName<Items<u8>>) -> Result<(), Kconfig
     define_kconfig(object, values)
 }
 
-/// What defining the externs by these values says.
-fn outcome(alloc: Global, object: &mut Object, given: &[Value<'_>]) -> Result<String, AllocError> {
-    let values = values_of(alloc, given)?;
-    let defined = define(object, &values);
-    format!(in alloc; "{defined:?}")
-}
-
-/// Fails where that isn't this.
+/// Fails where defining the externs by these values doesn't say this.
 pub fn defines(
     alloc: Global,
     object: &mut Object,
     given: &[Value<'_>],
     want: &str,
 ) -> Result<(), Fail> {
-    let text = outcome(alloc, object, given)?;
-    same(text.as_str(), want)
+    let values = values_of(alloc, given)?;
+    shows(alloc, &define(object, &values), want)
 }
 
 /// Adds a symbol's line: its name, its section, its address, and whether it is defined.
 fn add_symbol(text: &mut String, symbol: &Symbol) -> Result<(), AllocError> {
-    let section = symbol.section_index;
-    let address = symbol.address;
-    let is_definition = symbol.is_definition;
-    writeln!(
-        text,
-        "{:?} {section:?} {address} {is_definition}",
-        symbol.name
-    )
-}
-
-/// Adds the line of the symbol with an index, where there is one.
-fn add_symbol_at(text: &mut String, object: &Object, index: usize) -> Result<(), AllocError> {
-    match object.symbol_table.get(index) {
-        Some(symbol) => add_symbol(text, symbol),
-        None => Ok(()),
-    }
-}
-
-/// A line for each symbol.
-fn symbols_shown(alloc: Global, object: &Object) -> Result<String, AllocError> {
-    let mut text = String::new(alloc);
-    for index in 0..20 {
-        add_symbol_at(&mut text, object, index)?;
-    }
-    Ok(text)
+    let (name, section) = (&symbol.name, symbol.section_index);
+    let (address, is_definition) = (symbol.address, symbol.is_definition);
+    writeln!(text, "{name:?} {section:?} {address} {is_definition}")
 }
 
 /// Fails where these lines aren't those of the symbols.
 pub fn has_symbols(alloc: Global, object: &Object, want: &str) -> Result<(), Fail> {
-    let text = symbols_shown(alloc, object)?;
+    let mut text = String::new(alloc);
+    for index in 0..20 {
+        if let Some(symbol) = object.symbol_table.get(index) {
+            add_symbol(&mut text, symbol)?;
+        }
+    }
     same(text.as_str(), want)
 }
 
@@ -128,26 +93,6 @@ const PLACES: &str = "Some(\"CONFIG_HZ\") Some(0) 16 true\n\
     Some(\"CONFIG_STR\") Some(0) 39 true\n\
     Some(\"CONFIG_ASTR\") Some(0) 36 true\n";
 
-/// The type of a map, the sizes of its keys and values, how many there are, and its flags.
-fn definition(alloc: Global, map: &Map) -> Result<String, AllocError> {
-    let map_type = map.map_type();
-    let key_size = map.key_size();
-    let value_size = map.value_size();
-    let max_entries = map.max_entries();
-    format!(in alloc;
-        "{map_type} {key_size} {value_size} {max_entries} {}",
-        map.map_flags()
-    )
-}
-
-/// Where a map stands, and the length of its data with the byte at offset 16.
-fn contents(alloc: Global, map: &Map) -> Result<String, AllocError> {
-    let section = map.section_index();
-    let symbol = map.symbol_index();
-    let data = map.data();
-    format!(in alloc; "{section} {symbol:?} {} {:?}", data.len(), data.get(16))
-}
-
 /// The type of the values of the map of externs; none where the object has no types.
 fn value_type(object: &Object, map: &Map) -> Option<u32> {
     match &object.btf {
@@ -156,22 +101,28 @@ fn value_type(object: &Object, map: &Map) -> Option<u32> {
     }
 }
 
-/// Fails where a map has another definition.
+/// Fails where a map has another definition: its type, the sizes of its keys and values, how many there are, and its flags.
 fn is_defined(alloc: Global, map: &Map, want: &str) -> Result<(), Fail> {
-    let text = definition(alloc, map)?;
-    same(text.as_str(), want)
+    let sizes = (map.key_size(), map.value_size(), map.max_entries());
+    shows(alloc, &(map.map_type(), sizes, map.map_flags()), want)
 }
 
-/// Fails where a map has other contents.
+/// Fails where a map stands elsewhere, or has data of another length or another byte at offset 16.
 fn contains(alloc: Global, map: &Map, want: &str) -> Result<(), Fail> {
-    let text = contents(alloc, map)?;
-    same(text.as_str(), want)
+    let data = map.data();
+    let found = (
+        map.section_index(),
+        map.symbol_index(),
+        data.len(),
+        data.get(16),
+    );
+    shows(alloc, &found, want)
 }
 
 /// Fails where a map isn't that of the externs above, whose DATASEC is the type 29.
 fn is_map(alloc: Global, object: &Object, map: &Map) -> Result<(), Fail> {
-    is_defined(alloc, map, "2 4 59 1 128")?;
-    contains(alloc, map, "0 None 59 Some(250)")?;
+    is_defined(alloc, map, "(2, (4, 59, 1), 128)")?;
+    contains(alloc, map, "(0, None, 59, Some(250))")?;
     same_number(u64::from(value_type(object, map).unwrap_or(0)), 29)
 }
 

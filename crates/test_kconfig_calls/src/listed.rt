@@ -52,17 +52,12 @@ const ALONE: [(&'static str, u32, &'static str); 8] = [
     ("", 5, "UnknownName { name: \"\" }"),
 ];
 
-/// Adds an extern's line.
-fn add_line(text: &mut String, wanted: &KconfigExtern) -> Result<(), AllocError> {
-    let weak = if wanted.is_weak { " weak" } else { "" };
-    writeln!(text, "{:?} {:?}{weak}", wanted.name, wanted.kind)
-}
-
 /// A line for each extern.
 fn shown(alloc: Global, externs: &[KconfigExtern]) -> Result<String, AllocError> {
     let mut text = String::new(alloc);
     for wanted in externs {
-        add_line(&mut text, wanted)?;
+        let weak = if wanted.is_weak { " weak" } else { "" };
+        writeln!(text, "{:?} {:?}{weak}", wanted.name, wanted.kind)?;
     }
     Ok(text)
 }
@@ -114,17 +109,12 @@ const SECTIONS: [(&str, Extern); 3] = [
     (".kconfig", ("CONFIG_B", 5, false)),
 ];
 
-fn add_sections(alloc: Global, types: &mut Btf) -> Result<(), BtfError> {
-    for (section, wanted) in SECTIONS.iter() {
-        add_externs(alloc, types, section, &[*wanted])?;
-    }
-    Ok(())
-}
-
 /// Types with these sections.
 fn types_with_sections(alloc: Global) -> Result<Btf, BtfError> {
     let mut types = kconfig_types(alloc)?;
-    add_sections(alloc, &mut types)?;
+    for (section, wanted) in SECTIONS.iter() {
+        add_externs(alloc, &mut types, section, &[*wanted])?;
+    }
     Ok(types)
 }
 

@@ -49,13 +49,6 @@ fn loading(alloc: Global) -> Result<Function, AllocError> {
     Ok(function_of(alloc, name, instructions))
 }
 
-/// The relocations of the function, by their offsets.
-fn loaded(alloc: Global) -> Result<ByOffset<Relocation>, AllocError> {
-    let mut relocations = ByOffset::new(alloc);
-    relocations.insert(0, RELOCATION)?;
-    Ok(relocations)
-}
-
 fn add_function(alloc: Global, functions: &mut ByKey<Function>) -> Result<(), AllocError> {
     functions.insert((3, 0), loading(alloc)?)?;
     Ok(())
@@ -65,7 +58,9 @@ fn add_relocations(
     alloc: Global,
     relocations: &mut BySection<ByOffset<Relocation>>,
 ) -> Result<(), AllocError> {
-    relocations.insert(3, loaded(alloc)?)?;
+    let mut loaded = ByOffset::new(alloc);
+    loaded.insert(0, RELOCATION)?;
+    relocations.insert(3, loaded)?;
     Ok(())
 }
 
@@ -109,18 +104,12 @@ fn slots(object: &Object) -> &[bpf_insn] {
     }
 }
 
-/// Slots, by their source registers and immediates.
-fn shown(alloc: Global, slots: &[bpf_insn]) -> Result<String, AllocError> {
+/// Fails where the slots of the function aren't these, by their source registers and immediates.
+fn has_slots(alloc: Global, object: &Object, want: &str) -> Result<(), Fail> {
     let mut text = String::new(alloc);
-    for slot in slots {
+    for slot in slots(object) {
         write!(text, "{}:{} ", slot.src_reg(), slot.imm)?;
     }
-    Ok(text)
-}
-
-/// Fails where the slots of the function aren't these.
-fn has_slots(alloc: Global, object: &Object, want: &str) -> Result<(), Fail> {
-    let text = shown(alloc, slots(object))?;
     same(text.as_str(), want)
 }
 

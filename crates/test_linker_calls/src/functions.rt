@@ -5,32 +5,30 @@ use ebpf_linker::{Body, Call, Fault, LinkedProgram, Tables, Target, is_sound, la
 use ebpf_parts::insn::{bpf_insn, opcodes};
 use std::alloc::{AllocError, Global};
 
-pub const CALL: bpf_insn = bpf_insn {
-    code: opcodes::CALL,
-    regs: 0x10,
-    off: 0,
-    imm: -1,
-};
-
-pub const EXIT: bpf_insn = bpf_insn {
-    code: opcodes::EXIT,
-    regs: 0,
-    off: 0,
-    imm: 0,
-};
-
-pub const LOAD: bpf_insn = bpf_insn {
-    code: opcodes::LD_IMM64,
-    regs: 0x01,
-    off: 0,
-    imm: 8,
-};
-
 pub const NOTHING: bpf_insn = bpf_insn {
     code: 0,
     regs: 0,
     off: 0,
     imm: 0,
+};
+
+pub const CALL: bpf_insn = bpf_insn {
+    code: opcodes::CALL,
+    regs: 0x10,
+    imm: -1,
+    ..NOTHING
+};
+
+pub const EXIT: bpf_insn = bpf_insn {
+    code: opcodes::EXIT,
+    ..NOTHING
+};
+
+pub const LOAD: bpf_insn = bpf_insn {
+    code: opcodes::LD_IMM64,
+    regs: 0x01,
+    imm: 8,
+    ..NOTHING
 };
 
 pub const CALLS: [bpf_insn; 2] = [CALL, EXIT];
@@ -100,10 +98,8 @@ fn list_of(
     let mut list = Vec::new(alloc);
     for (from, slot, target) in references {
         if *from == function {
-            list.push(Call {
-                slot: *slot,
-                target: *target,
-            })?;
+            let (slot, target) = (*slot, *target);
+            list.push(Call { slot, target })?;
         }
     }
     Ok(list)

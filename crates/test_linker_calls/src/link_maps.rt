@@ -4,53 +4,29 @@ use super::functions::{
     Answer, CALLS, CALLS_TWICE, Case, ENDS, EXIT, F, FAULT, G, LOAD, MapAnswer, NOTHING, PROGRAM,
     TestReference, TestSlots, link_map_of, linked, lists, plain_bodies,
 };
-use ebpf_linker::link_map::{NumberedCopy, NumberedLinkMap, Reference};
-use ebpf_linker::{Body, Call};
+use ebpf_linker::Body;
+use ebpf_linker::link_map::NumberedLinkMap;
 use ebpf_parts::insn::bpf_insn;
 use std::alloc::{AllocError, Global};
 use std::test::Fail;
 use test_same::same;
 
-/// Copies as function@base+slots.
-fn add_copies(text: &mut String, copies: &[NumberedCopy]) -> Result<(), AllocError> {
-    for copy in copies {
-        write!(text, "{}@{}+{} ", copy.function, copy.base, copy.slots)?;
-    }
-    Ok(())
-}
-
-/// A reference as place>base, with the imm of the linked slot there.
-fn add_reference(
-    text: &mut String,
-    slots: &[bpf_insn],
-    reference: &Reference,
-) -> Result<(), AllocError> {
-    let kind = if reference.is_call { "call" } else { "load" };
-    let imm = slots.get(reference.place).map(|slot| slot.imm);
-    write!(
-        text,
-        "{}>{} {kind} {imm:?} ",
-        reference.place, reference.base
-    )?;
-    Ok(())
-}
-
-fn add_references(
-    text: &mut String,
-    slots: &[bpf_insn],
-    references: &[Reference],
-) -> Result<(), AllocError> {
-    for reference in references {
-        add_reference(text, slots, reference)?;
-    }
-    Ok(())
-}
-
-/// The copies and the references, and how many slots there are.
+/// The copies as function@base+slots, the references as place>base with the imm of the linked slot there, and how many slots
+/// there are.
 fn printed(alloc: Global, slots: &[bpf_insn], map: &NumberedLinkMap) -> Result<String, AllocError> {
     let mut text = String::new(alloc);
-    add_copies(&mut text, map.copies.as_slice())?;
-    add_references(&mut text, slots, map.references.as_slice())?;
+    for copy in map.copies.iter() {
+        write!(text, "{}@{}+{} ", copy.function, copy.base, copy.slots)?;
+    }
+    for reference in map.references.iter() {
+        let kind = if reference.is_call { "call" } else { "load" };
+        let imm = slots.get(reference.place).map(|slot| slot.imm);
+        write!(
+            text,
+            "{}>{} {kind} {imm:?} ",
+            reference.place, reference.base
+        )?;
+    }
     write!(text, "of {}", slots.len())?;
     Ok(text)
 }
@@ -64,18 +40,7 @@ fn both(alloc: Global, program: &Answer, map: &MapAnswer) -> Result<String, Allo
     }
 }
 
-/// What the first function is made of, beside what linking it gave.
-fn beside(
-    alloc: Global,
-    bodies: &[Body<'_>],
-    calls: &[Vec<Call>],
-    program: &Answer,
-) -> Result<String, AllocError> {
-    let map = link_map_of(alloc, bodies, calls)?;
-    both(alloc, program, &map)
-}
-
-/// The first of these functions.
+/// What the first of these functions is made of, beside what linking it gives.
 fn outcome(
     alloc: Global,
     bodies: &[Body<'_>],
@@ -83,7 +48,8 @@ fn outcome(
 ) -> Result<String, AllocError> {
     let calls = lists(alloc, bodies.len(), references)?;
     let program = linked(alloc, bodies, &calls)?;
-    beside(alloc, bodies, &calls, &program)
+    let map = link_map_of(alloc, bodies, &calls)?;
+    both(alloc, &program, &map)
 }
 
 /// Fails where the first of these functions isn't made of this.

@@ -219,29 +219,20 @@ struct Row<'a> {
 }
 
 impl Row<'_> {
-    fn separate(&self, alloc: Global, decisions: &[bool]) -> Result<Run, AllocError> {
-        walk(alloc, Code::Separate(self.bodies, self.calls), decisions)
-    }
-
-    fn flat(&self, alloc: Global, decisions: &[bool]) -> Result<Run, AllocError> {
-        walk(alloc, Code::Flat(self.slots), decisions)
-    }
-
     fn name(&self, place: SlotPosition) -> Option<SlotPosition> {
         name(self.bodies, self.order, place)
     }
 
     /// Whether both machines visit the same slots and end, wait or go on alike.
     fn agrees(&self, alloc: Global, decisions: &[bool]) -> Result<bool, AllocError> {
-        let separate = self.separate(alloc, decisions)?;
-        let flat = self.flat(alloc, decisions)?;
-        if separate.stop == Stop::Left || separate.stop != flat.stop {
-            return Ok(false);
-        }
-        if separate.visited.len() != flat.visited.len() {
-            return Ok(false);
-        }
-        Ok(self.are_named(flat.visited.as_slice(), separate.visited.as_slice()))
+        let separate = walk(alloc, Code::Separate(self.bodies, self.calls), decisions)?;
+        let flat = walk(alloc, Code::Flat(self.slots), decisions)?;
+        Ok(
+            separate.stop != Stop::Left
+                && separate.stop == flat.stop
+                && separate.visited.len() == flat.visited.len()
+                && self.are_named(flat.visited.as_slice(), separate.visited.as_slice()),
+        )
     }
 
     /// Whether these places of the linked program are those of the functions.
@@ -253,7 +244,7 @@ impl Row<'_> {
     /// Each place that the linked program visits, with its function and slot, and why it stands.
     fn visits(&self, alloc: Global, decisions: &[bool]) -> Result<String, AllocError> {
         let mut text = String::new(alloc);
-        let run = self.flat(alloc, decisions)?;
+        let run = walk(alloc, Code::Flat(self.slots), decisions)?;
         for place in run.visited.iter() {
             self.add_place(&mut text, *place)?;
         }
@@ -312,14 +303,8 @@ fn slots_of(answer: &Answer) -> &[bpf_insn] {
     }
 }
 
-/// What a linked program visits under these decisions, and under how many lists it visits what the functions do.
-fn row_text(alloc: Global, row: &Row<'_>, decisions: &[bool]) -> Result<String, AllocError> {
-    let visits = row.visits(alloc, decisions)?;
-    let count = agreeing(alloc, row)?;
-    format!(in alloc; "{visits}, {count} lists agree")
-}
-
-/// That of the first function linked. `order` has the functions in the order in which they are to stand.
+/// What the first function, linked, visits under these decisions, and under how many lists it visits what the functions do.
+/// `order` has the functions in the order in which they are to stand.
 fn outcome(
     alloc: Global,
     bodies: &[Body<'_>],
@@ -334,7 +319,9 @@ fn outcome(
         slots: slots_of(&answer),
         order,
     };
-    row_text(alloc, &row, decisions)
+    let visits = row.visits(alloc, decisions)?;
+    let count = agreeing(alloc, &row)?;
+    format!(in alloc; "{visits}, {count} lists agree")
 }
 
 /// Functions with their references, and the order in which they are to stand.

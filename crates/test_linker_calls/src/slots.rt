@@ -11,41 +11,18 @@ use std::alloc::{AllocError, Global};
 use std::test::Fail;
 use test_same::same;
 
-/// The imm and the registers of each slot.
-fn add_slots(text: &mut String, slots: &[bpf_insn]) -> Result<(), AllocError> {
-    for slot in slots {
+/// The imm and the registers of each slot, the slots of records on functions and on lines, and the counts of both.
+fn add_program(text: &mut String, program: &LinkedProgram) -> Result<(), AllocError> {
+    for slot in program.slots.iter() {
         write!(text, "{}/{} ", slot.imm, slot.src_reg())?;
     }
-    Ok(())
-}
-
-/// The slots of records on functions.
-fn add_functions(text: &mut String, records: &[bpf_func_info]) -> Result<(), AllocError> {
-    for record in records {
+    for record in program.func_info.iter() {
         write!(text, "f{} ", record.insn_off)?;
     }
-    Ok(())
-}
-
-/// The slots of records on lines.
-fn add_lines(text: &mut String, records: &[bpf_line_info]) -> Result<(), AllocError> {
-    for record in records {
+    for record in program.line_info.iter() {
         write!(text, "l{} ", record.insn_off)?;
     }
-    Ok(())
-}
-
-/// The counts of both.
-fn add_counts(text: &mut String, program: &LinkedProgram) -> Result<(), AllocError> {
-    write!(text, "{:?} {:?}", program.func_count, program.line_count)?;
-    Ok(())
-}
-
-fn add_program(text: &mut String, program: &LinkedProgram) -> Result<(), AllocError> {
-    add_slots(text, program.slots.as_slice())?;
-    add_functions(text, program.func_info.as_slice())?;
-    add_lines(text, program.line_info.as_slice())?;
-    add_counts(text, program)
+    write!(text, "{:?} {:?}", program.func_count, program.line_count)
 }
 
 /// A linked program, or the fault.
@@ -58,12 +35,6 @@ fn add_answer(text: &mut String, answer: &Answer) -> Result<(), AllocError> {
     Ok(())
 }
 
-fn printed(alloc: Global, answer: &Answer) -> Result<String, AllocError> {
-    let mut text = String::new(alloc);
-    add_answer(&mut text, answer)?;
-    Ok(text)
-}
-
 /// The first function linked.
 fn outcome(
     alloc: Global,
@@ -72,7 +43,9 @@ fn outcome(
 ) -> Result<String, AllocError> {
     let calls = lists(alloc, bodies.len(), references)?;
     let answer = linked(alloc, bodies, &calls)?;
-    printed(alloc, &answer)
+    let mut text = String::new(alloc);
+    add_answer(&mut text, &answer)?;
+    Ok(text)
 }
 
 /// Fails where the first of these functions isn't linked so.
@@ -87,20 +60,6 @@ fn links(
     same(text.as_str(), want)
 }
 
-/// One of these functions linked, behind what was linked before.
-fn add_linked(
-    alloc: Global,
-    text: &mut String,
-    tables: &Tables,
-    bodies: &[Body<'_>],
-    calls: &[Vec<Call>],
-    start: usize,
-) -> Result<(), AllocError> {
-    let answer = linked_at(alloc, tables, bodies, calls, start)?;
-    add_answer(text, &answer)?;
-    text.push_str("; ")
-}
-
 /// Each of these functions linked in turn, with the same tables.
 fn outcomes(
     alloc: Global,
@@ -112,7 +71,9 @@ fn outcomes(
     let calls = lists(alloc, bodies.len(), references)?;
     let mut text = String::new(alloc);
     for start in starts {
-        add_linked(alloc, &mut text, tables, bodies, &calls, *start)?;
+        let answer = linked_at(alloc, tables, bodies, &calls, *start)?;
+        add_answer(&mut text, &answer)?;
+        text.push_str("; ")?;
     }
     Ok(text)
 }
@@ -207,13 +168,14 @@ const fn line_at(insn_off: u32) -> bpf_line_info {
     }
 }
 
-/// What a program with records that calls a function with these gives.
-fn with_records<'a>(
+/// Fails where a program with records that calls a function with these doesn't give this.
+fn links_records<'a>(
     alloc: Global,
     slots: &'a [bpf_insn],
     func_info: &'a [bpf_func_info],
     line_info: &'a [bpf_line_info],
-) -> Result<String, AllocError> {
+    want: &str,
+) -> Result<(), Fail> {
     let program = Body {
         slots: &CALLS,
         func_info: &[func_at(0)],
@@ -224,18 +186,7 @@ fn with_records<'a>(
         func_info,
         line_info,
     };
-    outcome(alloc, &[program, callee], &[(0, 0, F)])
-}
-
-/// Fails where that isn't this.
-fn links_records<'a>(
-    alloc: Global,
-    slots: &'a [bpf_insn],
-    func_info: &'a [bpf_func_info],
-    line_info: &'a [bpf_line_info],
-    want: &str,
-) -> Result<(), Fail> {
-    let text = with_records(alloc, slots, func_info, line_info)?;
+    let text = outcome(alloc, &[program, callee], &[(0, 0, F)])?;
     same(text.as_str(), want)
 }
 
@@ -254,36 +205,15 @@ fn refuses_records(rt: HostRuntime) -> Result<(), Fail> {
     links_records(rt.alloc(), &[NOTHING, EXIT], &[func_at(1)], &lines, want)
 }
 
-/// A list of one call, of a function.
-fn call_of(alloc: Global, function: usize) -> Result<Vec<Call>, AllocError> {
-    let mut list = Vec::new(alloc);
-    list.push(Call {
-        slot: 0,
-        target: Target::Function(function),
-    })?;
-    Ok(list)
-}
-
-/// So many functions that call, and one that ends.
-fn chain_bodies<'a>(alloc: Global, count: usize) -> Result<Vec<Body<'a>>, AllocError> {
-    let mut bodies = vec![in alloc; plain(&CALLS); count]?;
-    bodies.push(plain(&ENDS))?;
-    Ok(bodies)
-}
-
 /// The calls of so many functions, each of the next.
 fn chain_calls(alloc: Global, count: usize) -> Result<Vec<Vec<Call>>, AllocError> {
     let mut calls = Vec::new(alloc);
     for function in 0..count {
-        calls.push(call_of(alloc, function.saturating_add(1))?)?;
+        let target = Target::Function(function.saturating_add(1));
+        calls.push(vec![in alloc; Call { slot: 0, target }; 1]?)?;
     }
     calls.push(Vec::new(alloc))?;
     Ok(calls)
-}
-
-/// How many slots have the imm 1.
-fn count_ones(slots: &[bpf_insn]) -> usize {
-    slots.iter().filter(|slot| slot.imm == 1).count()
 }
 
 /// How many slots a linked program has, and how many of these have the imm 1.
@@ -291,7 +221,8 @@ fn counted(alloc: Global, answer: &Answer) -> Result<String, AllocError> {
     match answer {
         Some(Ok(program)) => {
             let slots = program.slots.as_slice();
-            format!(in alloc; "{} {}", slots.len(), count_ones(slots))
+            let ones = slots.iter().filter(|slot| slot.imm == 1).count();
+            format!(in alloc; "{} {ones}", slots.len())
         }
         Some(Err(fault)) => format!(in alloc; "{fault:?}"),
         None => format!(in alloc; "unsound"),
@@ -300,7 +231,8 @@ fn counted(alloc: Global, answer: &Answer) -> Result<String, AllocError> {
 
 /// That of a chain of so many functions, each of which calls the next.
 fn chain(alloc: Global, count: usize) -> Result<String, AllocError> {
-    let bodies = chain_bodies(alloc, count)?;
+    let mut bodies = vec![in alloc; plain(&CALLS); count]?;
+    bodies.push(plain(&ENDS))?;
     let calls = chain_calls(alloc, count)?;
     let answer = linked(alloc, &bodies, &calls)?;
     counted(alloc, &answer)
@@ -312,20 +244,22 @@ fn long_chain(rt: HostRuntime) -> Result<(), Fail> {
     same(text.as_str(), "20001 10000")
 }
 
-/// Five functions linked in turn: after a fault, and again.
-fn share_tables(alloc: Global, tables: &Tables) -> Result<(), Fail> {
-    let slots: [TestSlots<'_>; 4] = [&CALLS_TWICE, &CALLS, &ENDS, &CALLS_TWICE];
-    let references = [(0, 0, F), (0, 1, G), (1, 0, G), (3, 0, G), (3, 1, FAULT)];
-    let want = "2/1 3/1 0/0 1/1 0/0 0/0 Some(0) None; 1/1 0/0 0/0 Some(0) None; 0/0 None None; \
-        UnsupportedTextSymbol { index: 5 }; 1/1 0/0 0/0 Some(0) None; ";
-    link_in_turn(alloc, tables, &slots, &references, &[0, 1, 2, 3, 1], want)
-}
-
 /// What one program leaves in the tables serves the next: after a fault, and over other functions.
 #[test]
 fn programs_share_tables(rt: HostRuntime) -> Result<(), Fail> {
     let tables = Tables::new();
-    share_tables(rt.alloc(), &tables)?;
+    let slots: [TestSlots<'_>; 4] = [&CALLS_TWICE, &CALLS, &ENDS, &CALLS_TWICE];
+    let references = [(0, 0, F), (0, 1, G), (1, 0, G), (3, 0, G), (3, 1, FAULT)];
+    let want = "2/1 3/1 0/0 1/1 0/0 0/0 Some(0) None; 1/1 0/0 0/0 Some(0) None; 0/0 None None; \
+        UnsupportedTextSymbol { index: 5 }; 1/1 0/0 0/0 Some(0) None; ";
+    link_in_turn(
+        rt.alloc(),
+        &tables,
+        &slots,
+        &references,
+        &[0, 1, 2, 3, 1],
+        want,
+    )?;
     let alone = [(0, 0, PROGRAM)];
     let want = "1/1 0/0 -1/1 0/0 Some(0) None; ";
     link_in_turn(rt.alloc(), &tables, &[&CALLS], &alone, &[0], want)

@@ -2,9 +2,9 @@
 
 use ebpf_btf::{Btf, BtfError};
 use ebpf_loading::attach_target;
-use std::alloc::{AllocError, Global};
+use std::alloc::Global;
 use std::test::Fail;
-use test_same::same;
+use test_same::shows;
 use test_types::{add_function, add_typedef, add_variable};
 
 /// A kind of types.
@@ -27,30 +27,23 @@ const KERNEL: [(Kind, &str); 8] = [
     (Kind::Function, "bpf_iter_task"),
 ];
 
-fn add_named_function(types: &mut Btf, name: &str) -> Result<u32, BtfError> {
-    let name_offset = types.add_string(name)?;
-    add_function(types, name_offset)
-}
-
 fn add(types: &mut Btf, kind: Kind, name: &str) -> Result<u32, BtfError> {
     match kind {
-        Kind::Function => add_named_function(types, name),
+        Kind::Function => {
+            let name_offset = types.add_string(name)?;
+            add_function(types, name_offset)
+        }
         Kind::Typedef => add_typedef(types, name, 0),
         Kind::Variable => add_variable(types, name, 0, 1),
     }
 }
 
-fn add_kernel(types: &mut Btf) -> Result<(), BtfError> {
-    add_function(types, 9999)?;
-    for (kind, name) in KERNEL.iter() {
-        add(types, *kind, name)?;
-    }
-    Ok(())
-}
-
 fn kernel(alloc: Global) -> Result<Btf, BtfError> {
     let mut types = Btf::new(alloc)?;
-    add_kernel(&mut types)?;
+    add_function(&mut types, 9999)?;
+    for (kind, name) in KERNEL.iter() {
+        add(&mut types, *kind, name)?;
+    }
     Ok(types)
 }
 
@@ -105,16 +98,10 @@ const TOLD: [(&str, &str); 14] = [
     ("fentry/task", "NotFound { name: \"task\" }"),
 ];
 
-/// What is told of the target of a section.
-fn target(alloc: Global, types: &Btf, section: &str) -> Result<String, AllocError> {
-    let target = attach_target(alloc, section, types)?;
-    format!(in alloc; "{target:?}")
-}
-
-/// Fails where that isn't this.
+/// Fails where this isn't told of the target of a section.
 fn is_told(alloc: Global, types: &Btf, section: &str, want: &str) -> Result<(), Fail> {
-    let text = target(alloc, types, section)?;
-    same(text.as_str(), want)
+    let target = attach_target(alloc, section, types)?;
+    shows(alloc, &target, want)
 }
 
 /// Fails where it isn't of each of these sections.
@@ -143,16 +130,11 @@ fn no_targets(rt: HostRuntime) -> Result<(), Fail> {
     are_told(rt.alloc(), &types, &NOT_WANTED, "NotWanted")
 }
 
-/// Fails where each of these sections isn't told of as is said beside it.
-fn are_told_so(alloc: Global, types: &Btf, told: &[(&str, &str)]) -> Result<(), Fail> {
-    for (section, want) in told {
-        is_told(alloc, types, section, want)?;
-    }
-    Ok(())
-}
-
 #[test]
 fn prefixes(rt: HostRuntime) -> Result<(), Fail> {
     let types = kernel(rt.alloc())?;
-    are_told_so(rt.alloc(), &types, &TOLD)
+    for (section, want) in TOLD.iter() {
+        is_told(rt.alloc(), &types, section, want)?;
+    }
+    Ok(())
 }

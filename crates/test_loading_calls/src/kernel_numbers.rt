@@ -53,18 +53,13 @@ const MAP_TYPE_NAMES: [(&str, u32); 3] = [
     ("__MAX_BPF_MAP_TYPE", 3),
 ];
 
-fn add_kernel(alloc: Global, types: &mut Btf) -> Result<(), BtfError> {
-    add_typedef(types, "bpf_func_id", 2)?;
-    add_named(alloc, types, "bpf_func_id", &HELPER_NAMES)?;
-    add_named(alloc, types, "bpf_func_id", &OTHER_NAMES)?;
-    add_named(alloc, types, "bpf_map_type", &MAP_TYPE_NAMES)?;
-    Ok(())
-}
-
 /// A kernel with these.
 fn kernel(alloc: Global) -> Result<Btf, BtfError> {
     let mut types = Btf::new(alloc)?;
-    add_kernel(alloc, &mut types)?;
+    add_typedef(&mut types, "bpf_func_id", 2)?;
+    add_named(alloc, &mut types, "bpf_func_id", &HELPER_NAMES)?;
+    add_named(alloc, &mut types, "bpf_func_id", &OTHER_NAMES)?;
+    add_named(alloc, &mut types, "bpf_map_type", &MAP_TYPE_NAMES)?;
     Ok(types)
 }
 

@@ -12,37 +12,27 @@ use std::test::Fail;
 use test_types::{add_section, add_variable};
 
 /// `.bss` of 8 bytes with size 0 in its DATASEC, `.data` of 8 with size 8, `.rodata` of 8 with size 4.
-fn add_object(types: &mut Btf) -> Result<(), BtfError> {
-    add_variable(types, ".bss", 0, 1)?;
-    for (name, size) in [(".bss", 0), (".data", 8), (".rodata", 4), (".bss", 8)] {
-        add_section(types, name, size, &[])?;
-    }
-    Ok(())
-}
-
 fn object_types(alloc: Global) -> Result<Btf, BtfError> {
     let mut types = Btf::new(alloc)?;
-    add_object(&mut types)?;
-    Ok(types)
-}
-
-/// The definition of the map of a data section, whose value has a size.
-fn data_definition(value_size: u32) -> bpf_map_def {
-    bpf_map_def {
-        map_type: 2,
-        key_size: 4,
-        value_size,
-        max_entries: 1,
-        map_flags: 0,
-        id: 0,
-        pinning: PinningType::None,
+    add_variable(&mut types, ".bss", 0, 1)?;
+    for (name, size) in [(".bss", 0), (".data", 8), (".rodata", 4), (".bss", 8)] {
+        add_section(&mut types, name, size, &[])?;
     }
+    Ok(types)
 }
 
 /// The map of a data section of 8 bytes, whose value has a size.
 fn data_map(alloc: Global, kind: EbpfSectionKind, value_size: u32) -> Result<Map, AllocError> {
     Ok(Map::Legacy(LegacyMap {
-        def: data_definition(value_size),
+        def: bpf_map_def {
+            map_type: 2,
+            key_size: 4,
+            value_size,
+            max_entries: 1,
+            map_flags: 0,
+            id: 0,
+            pinning: PinningType::None,
+        },
         inner_def: None,
         section_index: 3,
         section_kind: kind,
@@ -75,10 +65,8 @@ const TYPED: [u32; 20] = [
     0, 1, 2, 3, 5, 6, 9, 10, 11, 19, 20, 21, 24, 27, 28, 29, 30, 31, 32, 34,
 ];
 
-/// A section of data, the size of its map's values, and the type of these.
-type DataRow = (&'static str, EbpfSectionKind, u32, u32);
-
-const DATA: [DataRow; 7] = [
+/// Sections of data, the size of their maps' values, and the type of these.
+const DATA: [(&str, EbpfSectionKind, u32, u32); 7] = [
     (".bss", EbpfSectionKind::Bss, 8, 2),
     (".bss", EbpfSectionKind::Bss, 16, 0),
     (".data", EbpfSectionKind::Data, 8, 3),
@@ -97,13 +85,7 @@ fn is_created_with(types: &Btf, name: &str, map: &Map, key: u32, value: u32) -> 
     Err(Fail::new(format_args!("{got:?} is not {key}, {value}")))
 }
 
-/// Fails where a map of a type, whose definition states the types 5 and 6, isn't created with these.
-fn is_stated(alloc: Global, types: &Btf, map_type: u32, key: u32, value: u32) -> Result<(), Fail> {
-    let map = stated_map(alloc, map_type);
-    is_created_with(types, ".data", &map, key, value)
-}
-
-/// Fails where maps of some types aren't.
+/// Fails where maps of some types, whose definitions state the types 5 and 6, aren't created with these.
 fn are_stated(
     alloc: Global,
     types: &Btf,
@@ -112,7 +94,8 @@ fn are_stated(
     value: u32,
 ) -> Result<(), Fail> {
     for map_type in numbers {
-        is_stated(alloc, types, *map_type, key, value)?;
+        let map = stated_map(alloc, *map_type);
+        is_created_with(types, ".data", &map, key, value)?;
     }
     Ok(())
 }
@@ -126,18 +109,12 @@ fn by_type_of_map(rt: HostRuntime) -> Result<(), Fail> {
     are_stated(alloc, &types, &[26], 5, 0)
 }
 
-/// Fails where the map of a section of data isn't created with this type of its value.
-fn is_of_data(alloc: Global, types: &Btf, row: &DataRow) -> Result<(), Fail> {
-    let (name, kind, value_size, value) = *row;
-    let map = data_map(alloc, kind, value_size)?;
-    is_created_with(types, name, &map, 0, value)
-}
-
 #[test]
 fn of_data_sections(rt: HostRuntime) -> Result<(), Fail> {
     let types = object_types(rt.alloc())?;
-    for row in DATA.iter() {
-        is_of_data(rt.alloc(), &types, row)?;
+    for (name, kind, value_size, value) in DATA.iter() {
+        let map = data_map(rt.alloc(), *kind, *value_size)?;
+        is_created_with(&types, name, &map, 0, *value)?;
     }
     Ok(())
 }

@@ -1,6 +1,8 @@
 //! What tests compare: a test that says what differs at each comparison is proved for each way in which it may end.
 #![tactic(auto)]
 
+use std::alloc::Global;
+use std::fmt::Debug;
 use std::test::Fail;
 
 /// Fails where a text isn't the wanted one.
@@ -9,6 +11,12 @@ pub fn same(got: &str, want: &str) -> Result<(), Fail> {
         return Ok(());
     }
     Err(Fail::new(format_args!("{got} is not {want}")))
+}
+
+/// Fails where a value isn't the wanted one, as `{:?}` writes it.
+pub fn shows<T: Debug>(alloc: Global, got: &T, want: &str) -> Result<(), Fail> {
+    let text = format!(in alloc; "{got:?}")?;
+    same(text.as_str(), want)
 }
 
 /// Fails where bytes aren't the wanted ones.

@@ -2,7 +2,7 @@
 
 use crate::lines::{Line, put_numbers};
 use ebpf_base::ByName;
-use ebpf_btf::{Btf, BtfType};
+use ebpf_btf::Btf;
 use ebpf_model::ExternDesc;
 use ebpf_parts::maps::{BtfMap, BtfMapDef, Map};
 use std::alloc::{AllocError, Global};
@@ -36,23 +36,17 @@ fn put_btf_map(text: &mut String, map: &BtfMap) -> Result<(), AllocError> {
     put_definition(text, &map.def)
 }
 
-/// A line for the maps that a map holds.
-fn put_inner(text: &mut String, inner: &Option<Map>) -> Result<(), AllocError> {
-    if let Some(Map::Btf(inner)) = inner {
-        write!(text, "inner")?;
-        put_btf_map(text, inner)?;
-    }
-    Ok(())
-}
-
 /// A line for a BTF-defined map, and one for the maps that it holds.
 fn put_map(text: &mut String, name: &str, map: &Map) -> Result<(), AllocError> {
     if let Map::Btf(map) = map {
         write!(text, "map {name}")?;
         put_btf_map(text, map)?;
     }
-    let inner = map.inner()?;
-    put_inner(text, &inner)
+    if let Some(Map::Btf(inner)) = &map.inner()? {
+        write!(text, "inner")?;
+        put_btf_map(text, inner)?;
+    }
+    Ok(())
 }
 
 /// A line for each BTF-defined map, in byte order of their names.
@@ -78,18 +72,14 @@ impl Line for ExternDesc {
     }
 }
 
-/// A line for a type, with its name.
-fn put_type(text: &mut String, btf: &Btf, id: usize, ty: &BtfType<'_>) -> Result<(), AllocError> {
-    match btf.type_name(ty) {
-        Ok(name) => writeln!(text, "{id} {name}: {ty:?}"),
-        Err(error) => writeln!(text, "{id} {error:?}: {ty:?}"),
-    }
-}
-
-/// A line for each type from an id on.
+/// A line for each type from an id on, with its name.
 pub fn put_types(text: &mut String, btf: &Btf, from: usize) -> Result<(), AllocError> {
     for id in from..btf.len() {
-        put_type(text, btf, id, &btf.at(id))?;
+        let ty = btf.at(id);
+        match btf.type_name(&ty) {
+            Ok(name) => writeln!(text, "{id} {name}: {ty:?}")?,
+            Err(error) => writeln!(text, "{id} {error:?}: {ty:?}")?,
+        }
     }
     Ok(())
 }

@@ -59,20 +59,12 @@ fn map_text_with_id(alloc: Global, map: &Map) -> Result<String, AllocError> {
     Ok(text)
 }
 
-/// A line for the id of a legacy map.
-fn put_map_id(text: &mut String, name: &str, map: &Map) -> Result<(), AllocError> {
-    if let Map::Legacy(legacy) = map {
-        let id = legacy.def.id;
-        writeln!(text, "map {name} id {id}")?;
-    }
-    Ok(())
-}
-
 /// A line for the id of each legacy map, in byte order of their names.
 pub fn put_map_ids(alloc: Global, text: &mut String, maps: &ByName<Map>) -> Result<(), AllocError> {
     for name in maps.names(alloc)? {
-        if let Some(map) = maps.get(name) {
-            put_map_id(text, name, map)?;
+        if let Some(Map::Legacy(legacy)) = maps.get(name) {
+            let id = legacy.def.id;
+            writeln!(text, "map {name} id {id}")?;
         }
     }
     Ok(())
@@ -105,14 +97,6 @@ pub fn map_info(alloc: Global, action: &Action<'_>) -> Result<String, AllocError
     map_text_with_id(alloc, &map)
 }
 
-/// Changes a map.
-fn change(map: &mut Map) -> Result<(), AllocError> {
-    map.set_value_size(9);
-    map.set_max_entries(17);
-    map.data_mut().push(5)?;
-    Ok(())
-}
-
 /// What may be read of a map, and whether it holds others.
 fn map_text_with_inner(alloc: Global, map: &Map) -> Result<String, AllocError> {
     let mut text = String::new(alloc);
@@ -122,15 +106,12 @@ fn map_text_with_inner(alloc: Global, map: &Map) -> Result<String, AllocError> {
     Ok(text)
 }
 
-/// What is made of a map that is changed and then copied.
-fn changed_copy(alloc: Global, map: &mut Map) -> Result<String, AllocError> {
-    change(map)?;
-    let copy = map.clone()?;
-    map_text_with_inner(alloc, &copy)
-}
-
 /// What is made of a map by its parameters that is changed and then copied.
 pub fn map_copy(alloc: Global) -> Result<String, AllocError> {
     let mut map = Map::new_from_params(alloc, 1, 4, 8, 16, 32);
-    changed_copy(alloc, &mut map)
+    map.set_value_size(9);
+    map.set_max_entries(17);
+    map.data_mut().push(5)?;
+    let copy = map.clone()?;
+    map_text_with_inner(alloc, &copy)
 }

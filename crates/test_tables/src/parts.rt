@@ -21,34 +21,16 @@ impl Line for SectionIndex {
     }
 }
 
-/// A line for a function.
-fn put_function(
-    text: &mut String,
-    section: usize,
-    address: u64,
-    function: &Function,
-) -> Result<(), AllocError> {
-    let name = function.name.as_str();
-    write!(text, "function {name} at {section} {address}")?;
-    let (offset, slots) = (function.section_offset, function.instructions.len());
-    put_numbers(text, &[("offset", offset as u64), ("slots", slots as u64)])?;
-    writeln!(text)
-}
-
 /// A line for each function, by its key.
 pub fn put_functions(text: &mut String, functions: &ByKey<Function>) -> Result<(), AllocError> {
     for ((section, address), function) in functions.iter() {
-        put_function(text, *section, *address, function)?;
+        let name = function.name.as_str();
+        write!(text, "function {name} at {section} {address}")?;
+        let (offset, slots) = (function.section_offset, function.instructions.len());
+        put_numbers(text, &[("offset", offset as u64), ("slots", slots as u64)])?;
+        writeln!(text)?;
     }
     Ok(())
-}
-
-/// A line for a symbol.
-fn put_symbol(text: &mut String, index: usize, symbol: &Symbol) -> Result<(), AllocError> {
-    let (kind, section) = (symbol.kind, symbol.section_index);
-    write!(text, "symbol {index} {kind:?} in {section:?}")?;
-    let (size, definition) = (symbol.size, symbol.is_definition);
-    writeln!(text, " size {size} defined {definition}")
 }
 
 /// A line for each symbol, by its number.
@@ -59,22 +41,11 @@ pub fn put_symbols(
 ) -> Result<(), AllocError> {
     for index in symbols.indices(alloc)? {
         if let Some(symbol) = symbols.get(index) {
-            put_symbol(text, index, symbol)?;
+            let (kind, section) = (symbol.kind, symbol.section_index);
+            write!(text, "symbol {index} {kind:?} in {section:?}")?;
+            let (size, definition) = (symbol.size, symbol.is_definition);
+            writeln!(text, " size {size} defined {definition}")?;
         }
-    }
-    Ok(())
-}
-
-/// A line for each relocation of a section, by its offset.
-fn put_section_relocations(
-    text: &mut String,
-    section: usize,
-    relocations: &ByOffset<Relocation>,
-) -> Result<(), AllocError> {
-    for (offset, relocation) in relocations.iter() {
-        let (size, symbol) = (relocation.size, relocation.symbol_index);
-        write!(text, "relocation at {section} {offset}")?;
-        writeln!(text, " size {size} symbol {symbol}")?;
     }
     Ok(())
 }
@@ -85,7 +56,13 @@ pub fn put_relocations(
     relocations: &BySection<ByOffset<Relocation>>,
 ) -> Result<(), AllocError> {
     for (section, relocations) in relocations.iter() {
-        put_section_relocations(text, *section, relocations)?;
+        for (offset, relocation) in relocations.iter() {
+            let (size, symbol) = (relocation.size, relocation.symbol_index);
+            writeln!(
+                text,
+                "relocation at {section} {offset} size {size} symbol {symbol}"
+            )?;
+        }
     }
     Ok(())
 }

@@ -2,38 +2,29 @@
 
 use ebpf_base::ByKey;
 use ebpf_btf::Btf;
-use ebpf_ext::{BtfExt, FuncSecInfo, LineSecInfo, Relocation};
+use ebpf_ext::{BtfExt, Relocation};
 use ebpf_model::Function;
 use std::alloc::{AllocError, Global};
 use test_cases::shown;
 
-/// The slots that have a record on functions, and how many records there are.
-fn put_funcs(text: &mut String, funcs: &FuncSecInfo) -> Result<(), AllocError> {
-    for row in funcs.func_info.as_slice() {
-        let slot = row.insn_off;
-        write!(text, " {slot}")?;
-    }
-    let count = funcs.num_info;
-    write!(text, " of {count},")
-}
-
-/// The slots that have a record on lines, with these, and how many records there are.
-fn put_source_lines(text: &mut String, lines: &LineSecInfo) -> Result<(), AllocError> {
-    for row in lines.line_info.as_slice() {
-        let (slot, line) = (row.insn_off, row.line_col);
-        write!(text, " {slot}/{line}")?;
-    }
-    let count = lines.num_info;
-    writeln!(text, " of {count}")
-}
-
-/// A line for the records of a function.
+/// A line for the records of a function: the slots that have a record on functions, and how many records there are; those
+/// that have one on lines, with these, and how many.
 fn put_record(text: &mut String, function: &Function) -> Result<(), AllocError> {
     let name = function.name.as_str();
     let (func_size, line_size) = (function.func_info_rec_size, function.line_info_rec_size);
     write!(text, "records {name} of {func_size} and {line_size} bytes:")?;
-    put_funcs(text, &function.func_info)?;
-    put_source_lines(text, &function.line_info)
+    for row in function.func_info.func_info.as_slice() {
+        let slot = row.insn_off;
+        write!(text, " {slot}")?;
+    }
+    let count = function.func_info.num_info;
+    write!(text, " of {count},")?;
+    for row in function.line_info.line_info.as_slice() {
+        let (slot, line) = (row.insn_off, row.line_col);
+        write!(text, " {slot}/{line}")?;
+    }
+    let count = function.line_info.num_info;
+    writeln!(text, " of {count}")
 }
 
 /// A line for the records of each function, by its key.
@@ -42,11 +33,6 @@ pub fn put_records(text: &mut String, functions: &ByKey<Function>) -> Result<(),
         put_record(text, function)?;
     }
     Ok(())
-}
-
-/// The text at an offset, or why there is none.
-fn text_at(alloc: Global, btf: &Btf, offset: u32) -> Result<String, AllocError> {
-    shown(alloc, btf.string_at(offset))
 }
 
 /// A line for a relocation of types, with its access string.
@@ -58,7 +44,7 @@ fn put_relocation(
 ) -> Result<(), AllocError> {
     let (at, held) = (relocation.insn_off, relocation.type_id);
     let (kind, number) = (relocation.kind, relocation.number);
-    let path = text_at(alloc, btf, relocation.access_str_off)?;
+    let path = shown(alloc, btf.string_at(relocation.access_str_off))?;
     writeln!(text, "{number} at {at} type {held} {path} {kind:?}")
 }
 
@@ -70,7 +56,7 @@ pub fn put_type_relocations(
     ext: &BtfExt,
 ) -> Result<(), AllocError> {
     for (section, relocations) in ext.relocations() {
-        let name = text_at(alloc, btf, *section)?;
+        let name = shown(alloc, btf.string_at(*section))?;
         writeln!(text, "in {name}")?;
         for relocation in relocations.as_slice() {
             put_relocation(alloc, text, btf, relocation)?;

@@ -2,33 +2,25 @@ use ebpf_btf::{Btf, BtfError, BtfKind};
 use ebpf_core_candidates::{KindsIndex, TypeIndex};
 use std::alloc::{AllocError, Global};
 use std::test::Fail;
-use test_same::same;
+use test_same::shows;
 use test_types::{add_struct, add_typedef};
-
-/// Adds a STRUCT of a name.
-fn add_named(btf: &mut Btf, name: &str) -> Result<u32, BtfError> {
-    let name_offset = btf.add_string(name)?;
-    add_struct(btf, name_offset, 8, &[])
-}
 
 /// Adds a TYPEDEF, or a STRUCT, of a name.
 fn add(btf: &mut Btf, kind: BtfKind, name: &str) -> Result<u32, BtfError> {
     match kind {
         BtfKind::Typedef => add_typedef(btf, name, 1),
-        _ => add_named(btf, name),
+        _ => {
+            let name_offset = btf.add_string(name)?;
+            add_struct(btf, name_offset, 8, &[])
+        }
     }
-}
-
-fn add_all(btf: &mut Btf, rows: &[Row]) -> Result<(), BtfError> {
-    for (kind, name) in rows {
-        add(btf, *kind, name)?;
-    }
-    Ok(())
 }
 
 fn types_of(alloc: Global, rows: &[Row]) -> Result<Btf, BtfError> {
     let mut btf = Btf::new(alloc)?;
-    add_all(&mut btf, rows)?;
+    for (kind, name) in rows {
+        add(&mut btf, *kind, name)?;
+    }
     Ok(btf)
 }
 
@@ -74,18 +66,7 @@ fn whole_answer(alloc: Global, index: &TypeIndex<'_>, name: &str) -> Result<Stri
     }
 }
 
-/// What an index answers.
-fn answer(
-    alloc: Global,
-    index: &KindsIndex<'_>,
-    kind: BtfKind,
-    name: &str,
-) -> Result<String, AllocError> {
-    let answer = index.candidates(kind, name);
-    format!(in alloc; "{answer:?}")
-}
-
-/// Fails where that isn't this.
+/// Fails where an index doesn't answer this.
 fn answers(
     alloc: Global,
     index: &KindsIndex<'_>,
@@ -93,8 +74,7 @@ fn answers(
     name: &str,
     want: &str,
 ) -> Result<(), Fail> {
-    let text = answer(alloc, index, kind, name)?;
-    same(text.as_str(), want)
+    shows(alloc, &index.candidates(kind, name), want)
 }
 
 /// Fails where both indices answer differently, or that of STRUCTs on TYPEDEFs.

@@ -23,13 +23,6 @@ const ARRAYS: [(u32, u32); 3] = [(2, 20), (2, 0), (1, 3)];
 /// The ARRAYs 16 and 17: of 2^31 chars, of 3.
 const MORE_ARRAYS: [(u32, u32); 2] = [(2, 0x8000_0000), (2, 3)];
 
-fn add_ints(types: &mut Btf) -> Result<(), BtfError> {
-    for (size, int_data) in INTS.iter() {
-        add_int(types, *size, *int_data)?;
-    }
-    Ok(())
-}
-
 fn add_array(types: &mut Btf, element_type: u32, len: u32) -> Result<u32, BtfError> {
     types.add_type(&BtfType::Array {
         name_offset: 0,
@@ -70,34 +63,24 @@ fn add_enumerations(types: &mut Btf) -> Result<(), BtfError> {
     Ok(())
 }
 
-fn add_typedef(types: &mut Btf, btf_type: u32) -> Result<u32, BtfError> {
-    types.add_type(&BtfType::Typedef {
-        name_offset: 0,
-        btf_type,
-    })
-}
-
-fn add_const(types: &mut Btf, btf_type: u32) -> Result<u32, BtfError> {
-    types.add_type(&BtfType::Const {
-        name_offset: 0,
-        btf_type,
-    })
-}
-
-fn add_volatile(types: &mut Btf, btf_type: u32) -> Result<u32, BtfError> {
-    types.add_type(&BtfType::Volatile {
-        name_offset: 0,
-        btf_type,
-    })
-}
-
 fn add_all(types: &mut Btf) -> Result<(), BtfError> {
-    add_ints(types)?;
+    for (size, int_data) in INTS.iter() {
+        add_int(types, *size, *int_data)?;
+    }
     add_enumerations(types)?;
     add_arrays(types, &ARRAYS)?;
-    add_typedef(types, 14)?;
-    add_const(types, 15)?;
-    add_volatile(types, 5)?;
+    types.add_type(&BtfType::Typedef {
+        name_offset: 0,
+        btf_type: 14,
+    })?;
+    types.add_type(&BtfType::Const {
+        name_offset: 0,
+        btf_type: 15,
+    })?;
+    types.add_type(&BtfType::Volatile {
+        name_offset: 0,
+        btf_type: 5,
+    })?;
     add_arrays(types, &MORE_ARRAYS)
 }
 
@@ -113,16 +96,7 @@ pub fn kconfig_types(alloc: Global) -> Result<Btf, BtfError> {
 /// The linkage of a variable that is an extern.
 const EXTERN: u32 = 2;
 
-/// The entry of a variable, as compilers write it.
-fn entry(btf_type: u32) -> DataSecEntry {
-    DataSecEntry {
-        btf_type,
-        offset: 0,
-        size: 0,
-    }
-}
-
-/// The variables of externs, and their entries.
+/// The variables of externs, and their entries as compilers write them.
 fn add_variables(
     alloc: Global,
     types: &mut Btf,
@@ -130,8 +104,11 @@ fn add_variables(
 ) -> Result<Vec<DataSecEntry>, BtfError> {
     let mut entries = Vec::new(alloc);
     for (name, btf_type, _) in externs {
-        let variable = add_variable(types, name, *btf_type, EXTERN)?;
-        entries.push(entry(variable))?;
+        entries.push(DataSecEntry {
+            btf_type: add_variable(types, name, *btf_type, EXTERN)?,
+            offset: 0,
+            size: 0,
+        })?;
     }
     Ok(entries)
 }

@@ -1,6 +1,9 @@
-//! The definitions of maps.
+//! The definitions of maps, and how maps are pinned.
 
-use crate::maps::pinning::PinningType;
+ghost use Rattle.std.specs.Prelude.{◌≡◌};
+ghost use Rattle.ebpf_parts.specs.Maps.{pinning_type};
+
+use thiserror::Error;
 
 /// The fixed struct by which a section `maps` declares a map (libbpf's `struct bpf_map_def`, with the
 /// id and the pinning that loaders before it knew).
@@ -43,4 +46,42 @@ pub struct BtfMapDef {
     pub btf_key_type_id: u32,
     /// The id of the value's type.
     pub btf_value_type_id: u32,
+}
+
+/// How a map is pinned: what the kernel's file system keeps of it once its object is gone.
+#[derive(Clone, Copy, Debug, Default, PartialEq, Eq)]
+pub enum PinningType {
+    /// Not at all.
+    #[default]
+    None,
+    /// By its name.
+    ByName,
+}
+
+/// A number that says no pinning.
+#[derive(Debug, Drop, Error)]
+pub enum PinningError {
+    /// The number is neither 0 nor 1.
+    #[error("pinning {pinning_type} is neither 0, none, nor 1, by name")]
+    Unsupported {
+        /// The number.
+        pinning_type: u32,
+    },
+}
+
+impl TryFrom<u32> for PinningType {
+    type Error = PinningError;
+
+    ghost try_from_gives = { λ number result. result ≡ pinning_type number };
+
+    /// The pinning of a number: 0 none, 1 by name. `Unsupported` past 1.
+    fn try_from(value: u32) -> Result<PinningType, PinningError> {
+        match value {
+            0 => Ok(PinningType::None),
+            1 => Ok(PinningType::ByName),
+            _ => Err(PinningError::Unsupported {
+                pinning_type: value,
+            }),
+        }
+    }
 }

@@ -1,4 +1,4 @@
-//! Maps of both kinds.
+//! Maps: by a fixed struct, by type information, and as the kernel reports them.
 
 ghost use Rattle.std.specs.Prelude.{◌≡◌, Ok};
 ghost use Rattle.std.specs.Borrow.{Lends, sem, u8 as byte};
@@ -7,12 +7,102 @@ ghost use Rattle.std.specs.contracts.alloc.Global.{the_row as global_row};
 ghost use Rattle.ebpf_parts.specs.contracts.maps.either.Map.{the_row};
 ghost use Rattle.ebpf_parts.specs.Maps as maps;
 
-use crate::maps::btf::BtfMap;
-use crate::maps::definition::bpf_map_def;
-use crate::maps::legacy::LegacyMap;
-use crate::maps::pinning::PinningType;
-use crate::section_kind::EbpfSectionKind;
+use crate::maps::definition::{BtfMapDef, PinningType, bpf_map_def};
+use crate::section::EbpfSectionKind;
+use ebpf_base::Items;
 use std::alloc::{AllocError, Allocator, Global};
+
+/// A map that a fixed struct or a data section declares.
+#[derive(Debug, Drop)]
+pub struct LegacyMap {
+    /// The map definition.
+    pub def: bpf_map_def,
+    /// The definition of the inner maps, of a map of maps.
+    pub inner_def: Option<bpf_map_def>,
+    /// The index of the section that declares it, 0 where none does.
+    pub section_index: usize,
+    /// What that section is for.
+    pub section_kind: EbpfSectionKind,
+    /// The index of the symbol that names it. A data section is named by none.
+    pub symbol_index: Option<usize>,
+    /// Its initial data.
+    pub bytes: Items<u8>,
+}
+
+impl LegacyMap {
+    /// A map that no section declares, without data and without an inner map.
+    pub(crate) fn undeclared(alloc: Global, def: bpf_map_def) -> LegacyMap
+        ensures { result ≡ maps.undeclared_legacy_map def }
+    {
+        LegacyMap {
+            def,
+            inner_def: None,
+            section_index: 0,
+            section_kind: EbpfSectionKind::Undefined,
+            symbol_index: None,
+            bytes: Items::new(alloc),
+        }
+    }
+}
+
+impl Clone for LegacyMap {
+    ghost is_clone = { λ old copy. copy ≡ old };
+
+    fn clone(&self) -> Result<LegacyMap, AllocError> {
+        Ok(LegacyMap {
+            def: self.def,
+            inner_def: self.inner_def,
+            section_index: self.section_index,
+            section_kind: self.section_kind,
+            symbol_index: self.symbol_index,
+            bytes: self.bytes.copied()?,
+        })
+    }
+}
+
+/// A BTF-defined map.
+#[derive(Debug, Drop)]
+pub struct BtfMap {
+    /// The map definition.
+    pub def: BtfMapDef,
+    /// The definition of the inner maps, of a map of maps.
+    pub inner_def: Option<BtfMapDef>,
+    /// The index of the section that declares it, 0 where none does.
+    pub section_index: usize,
+    /// The index of the symbol that names it, 0 where none does.
+    pub symbol_index: usize,
+    /// Its initial data.
+    pub bytes: Items<u8>,
+}
+
+impl BtfMap {
+    /// A map that no section declares, without data and without an inner map.
+    pub(crate) fn undeclared(alloc: Global, def: BtfMapDef) -> BtfMap
+        ensures { result ≡ maps.undeclared_btf_map def }
+    {
+        BtfMap {
+            def,
+            inner_def: None,
+            section_index: 0,
+            symbol_index: 0,
+            bytes: Items::new(alloc),
+        }
+    }
+}
+
+impl Clone for BtfMap {
+    ghost is_clone = { λ old copy. copy ≡ old };
+
+    fn clone(&self) -> Result<BtfMap, AllocError> {
+        Ok(BtfMap {
+            def: self.def,
+            inner_def: self.inner_def,
+            section_index: self.section_index,
+            symbol_index: self.symbol_index,
+            bytes: self.bytes.copied()?,
+        })
+    }
+}
 
 /// A map.
 #[derive(Debug, Drop)]
@@ -225,4 +315,58 @@ impl Map {
             }
         }
     }
+}
+
+/// What the kernel reports of a map that it holds (of its `struct bpf_map_info`).
+#[derive(Clone, Copy, Debug, Default, PartialEq, Eq)]
+pub struct bpf_map_info {
+    /// The number of the map's type.
+    pub type_: u32,
+    /// The number of the map.
+    pub id: u32,
+    /// The size of a key in bytes.
+    pub key_size: u32,
+    /// The size of a value in bytes.
+    pub value_size: u32,
+    /// The number of entries that the map holds at most.
+    pub max_entries: u32,
+    /// The flags of the map's creation.
+    pub map_flags: u32,
+    /// What the map's type asks further.
+    pub map_extra: u64,
+    /// The id of the key's type, 0 where there is none.
+    pub btf_key_type_id: u32,
+    /// The id of the value's type, 0 where there is none.
+    pub btf_value_type_id: u32,
+}
+
+/// The map that the kernel reports, without data and inner map: one with type information where its value
+/// has a type, else one by a fixed struct. Takes no memory.
+pub fn parse_map_info(alloc: Global, info: bpf_map_info, pinned: PinningType) -> Map
+    ensures { result ≡ maps.map_from_info info pinned }
+{
+    if info.btf_value_type_id == 0 {
+        let def = bpf_map_def {
+            map_type: info.type_,
+            key_size: info.key_size,
+            value_size: info.value_size,
+            max_entries: info.max_entries,
+            map_flags: info.map_flags,
+            id: info.id,
+            pinning: pinned,
+        };
+        return Map::Legacy(LegacyMap::undeclared(alloc, def));
+    }
+    let def = BtfMapDef {
+        map_type: info.type_,
+        key_size: info.key_size,
+        value_size: info.value_size,
+        max_entries: info.max_entries,
+        map_flags: info.map_flags,
+        map_extra: info.map_extra,
+        pinning: pinned,
+        btf_key_type_id: info.btf_key_type_id,
+        btf_value_type_id: info.btf_value_type_id,
+    };
+    Map::Btf(BtfMap::undeclared(alloc, def))
 }

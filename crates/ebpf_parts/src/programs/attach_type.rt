@@ -1,7 +1,7 @@
 //! The ways of attaching a program, by their numbers.
 
 ghost use Rattle.std.specs.Prelude.{◌≡◌};
-ghost use Rattle.ebpf_parts.specs.ProgramTypes.{attach_type_number};
+ghost use Rattle.ebpf_parts.specs.ProgramTypes.{attach_type_number, cgroup_skb_attach_type, cgroup_sock_attach_type, cgroup_sock_addr_attach_type, cgroup_sockopt_attach_type, sk_reuseport_attach_type, sk_skb_attach_type, xdp_attach_type};
 
 /// Ways of attaching a program, with the kernel's names and numbers (of its `enum bpf_attach_type`). Those
 /// are here that a program's kind chooses between.
@@ -43,5 +43,186 @@ impl bpf_attach_type {
         ensures { result ≡ attach_type_number self }
     {
         self as u32
+    }
+}
+
+/// Where a program for packets of a control group is attached.
+#[derive(Clone, Copy, Debug, PartialEq, Eq)]
+pub enum CgroupSkbAttachType {
+    /// `BPF_CGROUP_INET_INGRESS`.
+    Ingress,
+    /// `BPF_CGROUP_INET_EGRESS`.
+    Egress,
+}
+
+impl From<CgroupSkbAttachType> for bpf_attach_type {
+    ghost from_gives = { λ attached number. number ≡ cgroup_skb_attach_type attached };
+
+    fn from(attached: CgroupSkbAttachType) -> bpf_attach_type {
+        match attached {
+            CgroupSkbAttachType::Ingress => bpf_attach_type::BPF_CGROUP_INET_INGRESS,
+            CgroupSkbAttachType::Egress => bpf_attach_type::BPF_CGROUP_INET_EGRESS,
+        }
+    }
+}
+
+/// Which event of a control group's sockets a program is attached to.
+#[derive(Clone, Copy, Debug, Default, PartialEq, Eq)]
+pub enum CgroupSockAttachType {
+    /// `BPF_CGROUP_INET4_POST_BIND`.
+    PostBind4,
+    /// `BPF_CGROUP_INET6_POST_BIND`.
+    PostBind6,
+    /// `BPF_CGROUP_INET_SOCK_CREATE`.
+    #[default]
+    SockCreate,
+    /// `BPF_CGROUP_INET_SOCK_RELEASE`.
+    SockRelease,
+}
+
+impl From<CgroupSockAttachType> for bpf_attach_type {
+    ghost from_gives = { λ attached number. number ≡ cgroup_sock_attach_type attached };
+
+    fn from(attached: CgroupSockAttachType) -> bpf_attach_type {
+        match attached {
+            CgroupSockAttachType::PostBind4 => bpf_attach_type::BPF_CGROUP_INET4_POST_BIND,
+            CgroupSockAttachType::PostBind6 => bpf_attach_type::BPF_CGROUP_INET6_POST_BIND,
+            CgroupSockAttachType::SockCreate => bpf_attach_type::BPF_CGROUP_INET_SOCK_CREATE,
+            CgroupSockAttachType::SockRelease => bpf_attach_type::BPF_CGROUP_INET_SOCK_RELEASE,
+        }
+    }
+}
+
+/// Which call with a socket address a program of a control group is attached to.
+#[derive(Clone, Copy, Debug, PartialEq, Eq)]
+pub enum CgroupSockAddrAttachType {
+    /// `BPF_CGROUP_INET4_BIND`.
+    Bind4,
+    /// `BPF_CGROUP_INET6_BIND`.
+    Bind6,
+    /// `BPF_CGROUP_INET4_CONNECT`.
+    Connect4,
+    /// `BPF_CGROUP_INET6_CONNECT`.
+    Connect6,
+    /// `BPF_CGROUP_INET4_GETPEERNAME`.
+    GetPeerName4,
+    /// `BPF_CGROUP_INET6_GETPEERNAME`.
+    GetPeerName6,
+    /// `BPF_CGROUP_INET4_GETSOCKNAME`.
+    GetSockName4,
+    /// `BPF_CGROUP_INET6_GETSOCKNAME`.
+    GetSockName6,
+    /// `BPF_CGROUP_UDP4_SENDMSG`.
+    UDPSendMsg4,
+    /// `BPF_CGROUP_UDP6_SENDMSG`.
+    UDPSendMsg6,
+    /// `BPF_CGROUP_UDP4_RECVMSG`.
+    UDPRecvMsg4,
+    /// `BPF_CGROUP_UDP6_RECVMSG`.
+    UDPRecvMsg6,
+}
+
+impl From<CgroupSockAddrAttachType> for bpf_attach_type {
+    ghost from_gives = { λ attached number. number ≡ cgroup_sock_addr_attach_type attached };
+
+    fn from(attached: CgroupSockAddrAttachType) -> bpf_attach_type {
+        match attached {
+            CgroupSockAddrAttachType::Bind4 => bpf_attach_type::BPF_CGROUP_INET4_BIND,
+            CgroupSockAddrAttachType::Bind6 => bpf_attach_type::BPF_CGROUP_INET6_BIND,
+            CgroupSockAddrAttachType::Connect4 => bpf_attach_type::BPF_CGROUP_INET4_CONNECT,
+            CgroupSockAddrAttachType::Connect6 => bpf_attach_type::BPF_CGROUP_INET6_CONNECT,
+            CgroupSockAddrAttachType::GetPeerName4 => bpf_attach_type::BPF_CGROUP_INET4_GETPEERNAME,
+            CgroupSockAddrAttachType::GetPeerName6 => bpf_attach_type::BPF_CGROUP_INET6_GETPEERNAME,
+            CgroupSockAddrAttachType::GetSockName4 => bpf_attach_type::BPF_CGROUP_INET4_GETSOCKNAME,
+            CgroupSockAddrAttachType::GetSockName6 => bpf_attach_type::BPF_CGROUP_INET6_GETSOCKNAME,
+            CgroupSockAddrAttachType::UDPSendMsg4 => bpf_attach_type::BPF_CGROUP_UDP4_SENDMSG,
+            CgroupSockAddrAttachType::UDPSendMsg6 => bpf_attach_type::BPF_CGROUP_UDP6_SENDMSG,
+            CgroupSockAddrAttachType::UDPRecvMsg4 => bpf_attach_type::BPF_CGROUP_UDP4_RECVMSG,
+            CgroupSockAddrAttachType::UDPRecvMsg6 => bpf_attach_type::BPF_CGROUP_UDP6_RECVMSG,
+        }
+    }
+}
+
+/// Which call on a socket's options a program of a control group is attached to.
+#[derive(Clone, Copy, Debug, PartialEq, Eq)]
+pub enum CgroupSockoptAttachType {
+    /// `BPF_CGROUP_GETSOCKOPT`.
+    Get,
+    /// `BPF_CGROUP_SETSOCKOPT`.
+    Set,
+}
+
+impl From<CgroupSockoptAttachType> for bpf_attach_type {
+    ghost from_gives = { λ attached number. number ≡ cgroup_sockopt_attach_type attached };
+
+    fn from(attached: CgroupSockoptAttachType) -> bpf_attach_type {
+        match attached {
+            CgroupSockoptAttachType::Get => bpf_attach_type::BPF_CGROUP_GETSOCKOPT,
+            CgroupSockoptAttachType::Set => bpf_attach_type::BPF_CGROUP_SETSOCKOPT,
+        }
+    }
+}
+
+/// Whether a program that chooses a socket of a group also migrates requests.
+#[derive(Clone, Copy, Debug, PartialEq, Eq)]
+pub enum SkReuseportAttachType {
+    /// `BPF_SK_REUSEPORT_SELECT`.
+    Select,
+    /// `BPF_SK_REUSEPORT_SELECT_OR_MIGRATE`.
+    SelectOrMigrate,
+}
+
+impl From<SkReuseportAttachType> for bpf_attach_type {
+    ghost from_gives = { λ attached number. number ≡ sk_reuseport_attach_type attached };
+
+    fn from(attached: SkReuseportAttachType) -> bpf_attach_type {
+        match attached {
+            SkReuseportAttachType::Select => bpf_attach_type::BPF_SK_REUSEPORT_SELECT,
+            SkReuseportAttachType::SelectOrMigrate =>
+                bpf_attach_type::BPF_SK_REUSEPORT_SELECT_OR_MIGRATE,
+        }
+    }
+}
+
+/// Which part of a socket's stream a program is attached to.
+#[derive(Clone, Copy, Debug, PartialEq, Eq)]
+pub enum SkSkbKind {
+    /// `BPF_SK_SKB_STREAM_PARSER`.
+    StreamParser,
+    /// `BPF_SK_SKB_STREAM_VERDICT`.
+    StreamVerdict,
+}
+
+impl From<SkSkbKind> for bpf_attach_type {
+    ghost from_gives = { λ attached number. number ≡ sk_skb_attach_type attached };
+
+    fn from(attached: SkSkbKind) -> bpf_attach_type {
+        match attached {
+            SkSkbKind::StreamParser => bpf_attach_type::BPF_SK_SKB_STREAM_PARSER,
+            SkSkbKind::StreamVerdict => bpf_attach_type::BPF_SK_SKB_STREAM_VERDICT,
+        }
+    }
+}
+
+/// Where an XDP program is attached.
+#[derive(Clone, Copy, Debug, PartialEq, Eq)]
+pub enum XdpAttachType {
+    /// `BPF_XDP`.
+    Interface,
+    /// `BPF_XDP_CPUMAP`.
+    CpuMap,
+    /// `BPF_XDP_DEVMAP`.
+    DevMap,
+}
+
+impl From<XdpAttachType> for bpf_attach_type {
+    ghost from_gives = { λ attached number. number ≡ xdp_attach_type attached };
+
+    fn from(attached: XdpAttachType) -> bpf_attach_type {
+        match attached {
+            XdpAttachType::Interface => bpf_attach_type::BPF_XDP,
+            XdpAttachType::CpuMap => bpf_attach_type::BPF_XDP_CPUMAP,
+            XdpAttachType::DevMap => bpf_attach_type::BPF_XDP_DEVMAP,
+        }
     }
 }

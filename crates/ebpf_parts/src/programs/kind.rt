@@ -5,7 +5,6 @@ ghost use Rattle.std.specs.List.{position};
 ghost use Rattle.std.specs.Option.{option_copied};
 ghost use Rattle.ebpf_parts.specs.ProgramTypes.{name_fits, has_target, is_marked, kind_in, longer, longest_fit, row_name, program_kind, unmarked};
 
-use crate::programs::named_kinds::NAMED_KINDS;
 use crate::programs::program_type::bpf_prog_type;
 
 /// How a program is loaded.
@@ -129,3 +128,173 @@ pub fn program_kind(name: &str) -> Option<ProgramKind>
 {
     kind_in(&NAMED_KINDS, name.as_bytes())
 }
+
+/// The name alone.
+const EXACT: bool = false;
+/// The name alone, or followed by a slash and a target.
+const LONGER: bool = true;
+
+/// The flags of a name.
+#[derive(Clone, Copy)]
+struct KindFlags {
+    is_sleepable: bool,
+    has_frags: bool,
+    wants_target_type: bool,
+}
+
+const PLAIN: KindFlags = KindFlags {
+    is_sleepable: false,
+    has_frags: false,
+    wants_target_type: false,
+};
+
+const SLEEPABLE: KindFlags = KindFlags {
+    is_sleepable: true,
+    has_frags: false,
+    wants_target_type: false,
+};
+
+const FRAGS: KindFlags = KindFlags {
+    is_sleepable: false,
+    has_frags: true,
+    wants_target_type: false,
+};
+
+const TARGETED: KindFlags = KindFlags {
+    is_sleepable: false,
+    has_frags: false,
+    wants_target_type: true,
+};
+
+const SLEEPABLE_TARGETED: KindFlags = KindFlags {
+    is_sleepable: true,
+    has_frags: false,
+    wants_target_type: true,
+};
+
+/// Rows: the name, how it may stand, the type of its programs, the kernel's number of the way of attaching them, and
+/// its flags.
+macro_rules! rows {
+    ($($name:literal => $takes_target:expr, $program_type:ident, $attach_type:expr, $flags:expr;)*) => {
+        [
+            $(NamedKind {
+                padded_name: *$name,
+                takes_target: $takes_target,
+                kind: ProgramKind {
+                    program_type: bpf_prog_type::$program_type,
+                    attach_type: $attach_type,
+                    is_sleepable: $flags.is_sleepable,
+                    has_frags: $flags.has_frags,
+                    wants_target_type: $flags.wants_target_type,
+                    is_optional: false,
+                },
+            }),*
+        ]
+    };
+}
+
+/// The names, with what a loader does with programs of their sections (libbpf's Program Types and ELF Sections; the
+/// numbers of the kernel's `enum bpf_attach_type`).
+pub const NAMED_KINDS: [NamedKind; 101] = rows! {
+    b"socket                  " => EXACT, BPF_PROG_TYPE_SOCKET_FILTER, None, PLAIN;
+    b"sk_reuseport/migrate    " => EXACT, BPF_PROG_TYPE_SK_REUSEPORT, Some(40), PLAIN;
+    b"sk_reuseport            " => EXACT, BPF_PROG_TYPE_SK_REUSEPORT, Some(39), PLAIN;
+    b"kprobe                  " => LONGER, BPF_PROG_TYPE_KPROBE, None, PLAIN;
+    b"uprobe                  " => LONGER, BPF_PROG_TYPE_KPROBE, None, PLAIN;
+    b"uprobe.s                " => LONGER, BPF_PROG_TYPE_KPROBE, None, SLEEPABLE;
+    b"kretprobe               " => LONGER, BPF_PROG_TYPE_KPROBE, None, PLAIN;
+    b"uretprobe               " => LONGER, BPF_PROG_TYPE_KPROBE, None, PLAIN;
+    b"uretprobe.s             " => LONGER, BPF_PROG_TYPE_KPROBE, None, SLEEPABLE;
+    b"kprobe.multi            " => LONGER, BPF_PROG_TYPE_KPROBE, Some(42), PLAIN;
+    b"kretprobe.multi         " => LONGER, BPF_PROG_TYPE_KPROBE, Some(42), PLAIN;
+    b"kprobe.session          " => LONGER, BPF_PROG_TYPE_KPROBE, Some(56), PLAIN;
+    b"uprobe.multi            " => LONGER, BPF_PROG_TYPE_KPROBE, Some(48), PLAIN;
+    b"uretprobe.multi         " => LONGER, BPF_PROG_TYPE_KPROBE, Some(48), PLAIN;
+    b"uprobe.multi.s          " => LONGER, BPF_PROG_TYPE_KPROBE, Some(48), SLEEPABLE;
+    b"uretprobe.multi.s       " => LONGER, BPF_PROG_TYPE_KPROBE, Some(48), SLEEPABLE;
+    b"ksyscall                " => LONGER, BPF_PROG_TYPE_KPROBE, None, PLAIN;
+    b"kretsyscall             " => LONGER, BPF_PROG_TYPE_KPROBE, None, PLAIN;
+    b"usdt                    " => LONGER, BPF_PROG_TYPE_KPROBE, None, PLAIN;
+    b"usdt.s                  " => LONGER, BPF_PROG_TYPE_KPROBE, None, SLEEPABLE;
+    b"tc/ingress              " => EXACT, BPF_PROG_TYPE_SCHED_CLS, Some(46), PLAIN;
+    b"tc/egress               " => EXACT, BPF_PROG_TYPE_SCHED_CLS, Some(47), PLAIN;
+    b"tcx/ingress             " => EXACT, BPF_PROG_TYPE_SCHED_CLS, Some(46), PLAIN;
+    b"tcx/egress              " => EXACT, BPF_PROG_TYPE_SCHED_CLS, Some(47), PLAIN;
+    b"tc                      " => EXACT, BPF_PROG_TYPE_SCHED_CLS, None, PLAIN;
+    b"classifier              " => EXACT, BPF_PROG_TYPE_SCHED_CLS, None, PLAIN;
+    b"action                  " => EXACT, BPF_PROG_TYPE_SCHED_ACT, None, PLAIN;
+    b"netkit/primary          " => EXACT, BPF_PROG_TYPE_SCHED_CLS, Some(54), PLAIN;
+    b"netkit/peer             " => EXACT, BPF_PROG_TYPE_SCHED_CLS, Some(55), PLAIN;
+    b"tracepoint              " => LONGER, BPF_PROG_TYPE_TRACEPOINT, None, PLAIN;
+    b"tp                      " => LONGER, BPF_PROG_TYPE_TRACEPOINT, None, PLAIN;
+    b"raw_tracepoint          " => LONGER, BPF_PROG_TYPE_RAW_TRACEPOINT, None, PLAIN;
+    b"raw_tp                  " => LONGER, BPF_PROG_TYPE_RAW_TRACEPOINT, None, PLAIN;
+    b"raw_tracepoint.w        " => LONGER, BPF_PROG_TYPE_RAW_TRACEPOINT_WRITABLE, None, PLAIN;
+    b"raw_tp.w                " => LONGER, BPF_PROG_TYPE_RAW_TRACEPOINT_WRITABLE, None, PLAIN;
+    b"tp_btf                  " => LONGER, BPF_PROG_TYPE_TRACING, Some(23), TARGETED;
+    b"fentry                  " => LONGER, BPF_PROG_TYPE_TRACING, Some(24), TARGETED;
+    b"fmod_ret                " => LONGER, BPF_PROG_TYPE_TRACING, Some(26), TARGETED;
+    b"fexit                   " => LONGER, BPF_PROG_TYPE_TRACING, Some(25), TARGETED;
+    b"fentry.s                " => LONGER, BPF_PROG_TYPE_TRACING, Some(24), SLEEPABLE_TARGETED;
+    b"fmod_ret.s              " => LONGER, BPF_PROG_TYPE_TRACING, Some(26), SLEEPABLE_TARGETED;
+    b"fexit.s                 " => LONGER, BPF_PROG_TYPE_TRACING, Some(25), SLEEPABLE_TARGETED;
+    b"freplace                " => LONGER, BPF_PROG_TYPE_EXT, None, TARGETED;
+    b"lsm                     " => LONGER, BPF_PROG_TYPE_LSM, Some(27), TARGETED;
+    b"lsm.s                   " => LONGER, BPF_PROG_TYPE_LSM, Some(27), SLEEPABLE_TARGETED;
+    b"lsm_cgroup              " => LONGER, BPF_PROG_TYPE_LSM, Some(43), TARGETED;
+    b"iter                    " => LONGER, BPF_PROG_TYPE_TRACING, Some(28), TARGETED;
+    b"iter.s                  " => LONGER, BPF_PROG_TYPE_TRACING, Some(28), SLEEPABLE_TARGETED;
+    b"syscall                 " => EXACT, BPF_PROG_TYPE_SYSCALL, None, SLEEPABLE;
+    b"xdp.frags/devmap        " => EXACT, BPF_PROG_TYPE_XDP, Some(33), FRAGS;
+    b"xdp/devmap              " => EXACT, BPF_PROG_TYPE_XDP, Some(33), PLAIN;
+    b"xdp.frags/cpumap        " => EXACT, BPF_PROG_TYPE_XDP, Some(35), FRAGS;
+    b"xdp/cpumap              " => EXACT, BPF_PROG_TYPE_XDP, Some(35), PLAIN;
+    b"xdp.frags               " => EXACT, BPF_PROG_TYPE_XDP, Some(37), FRAGS;
+    b"xdp                     " => EXACT, BPF_PROG_TYPE_XDP, Some(37), PLAIN;
+    b"perf_event              " => EXACT, BPF_PROG_TYPE_PERF_EVENT, None, PLAIN;
+    b"lwt_in                  " => EXACT, BPF_PROG_TYPE_LWT_IN, None, PLAIN;
+    b"lwt_out                 " => EXACT, BPF_PROG_TYPE_LWT_OUT, None, PLAIN;
+    b"lwt_xmit                " => EXACT, BPF_PROG_TYPE_LWT_XMIT, None, PLAIN;
+    b"lwt_seg6local           " => EXACT, BPF_PROG_TYPE_LWT_SEG6LOCAL, None, PLAIN;
+    b"sockops                 " => EXACT, BPF_PROG_TYPE_SOCK_OPS, Some(3), PLAIN;
+    b"sk_skb/stream_parser    " => EXACT, BPF_PROG_TYPE_SK_SKB, Some(4), PLAIN;
+    b"sk_skb/stream_verdict   " => EXACT, BPF_PROG_TYPE_SK_SKB, Some(5), PLAIN;
+    b"sk_skb/verdict          " => EXACT, BPF_PROG_TYPE_SK_SKB, Some(38), PLAIN;
+    b"sk_skb                  " => EXACT, BPF_PROG_TYPE_SK_SKB, None, PLAIN;
+    b"sk_msg                  " => EXACT, BPF_PROG_TYPE_SK_MSG, Some(7), PLAIN;
+    b"lirc_mode2              " => EXACT, BPF_PROG_TYPE_LIRC_MODE2, Some(16), PLAIN;
+    b"flow_dissector          " => EXACT, BPF_PROG_TYPE_FLOW_DISSECTOR, Some(17), PLAIN;
+    b"cgroup_skb/ingress      " => EXACT, BPF_PROG_TYPE_CGROUP_SKB, Some(0), PLAIN;
+    b"cgroup_skb/egress       " => EXACT, BPF_PROG_TYPE_CGROUP_SKB, Some(1), PLAIN;
+    b"cgroup/skb              " => EXACT, BPF_PROG_TYPE_CGROUP_SKB, None, PLAIN;
+    b"cgroup/sock_create      " => EXACT, BPF_PROG_TYPE_CGROUP_SOCK, Some(2), PLAIN;
+    b"cgroup/sock_release     " => EXACT, BPF_PROG_TYPE_CGROUP_SOCK, Some(34), PLAIN;
+    b"cgroup/sock             " => EXACT, BPF_PROG_TYPE_CGROUP_SOCK, Some(2), PLAIN;
+    b"cgroup/post_bind4       " => EXACT, BPF_PROG_TYPE_CGROUP_SOCK, Some(12), PLAIN;
+    b"cgroup/post_bind6       " => EXACT, BPF_PROG_TYPE_CGROUP_SOCK, Some(13), PLAIN;
+    b"cgroup/bind4            " => EXACT, BPF_PROG_TYPE_CGROUP_SOCK_ADDR, Some(8), PLAIN;
+    b"cgroup/bind6            " => EXACT, BPF_PROG_TYPE_CGROUP_SOCK_ADDR, Some(9), PLAIN;
+    b"cgroup/connect4         " => EXACT, BPF_PROG_TYPE_CGROUP_SOCK_ADDR, Some(10), PLAIN;
+    b"cgroup/connect6         " => EXACT, BPF_PROG_TYPE_CGROUP_SOCK_ADDR, Some(11), PLAIN;
+    b"cgroup/connect_unix     " => EXACT, BPF_PROG_TYPE_CGROUP_SOCK_ADDR, Some(49), PLAIN;
+    b"cgroup/sendmsg4         " => EXACT, BPF_PROG_TYPE_CGROUP_SOCK_ADDR, Some(14), PLAIN;
+    b"cgroup/sendmsg6         " => EXACT, BPF_PROG_TYPE_CGROUP_SOCK_ADDR, Some(15), PLAIN;
+    b"cgroup/sendmsg_unix     " => EXACT, BPF_PROG_TYPE_CGROUP_SOCK_ADDR, Some(50), PLAIN;
+    b"cgroup/recvmsg4         " => EXACT, BPF_PROG_TYPE_CGROUP_SOCK_ADDR, Some(19), PLAIN;
+    b"cgroup/recvmsg6         " => EXACT, BPF_PROG_TYPE_CGROUP_SOCK_ADDR, Some(20), PLAIN;
+    b"cgroup/recvmsg_unix     " => EXACT, BPF_PROG_TYPE_CGROUP_SOCK_ADDR, Some(51), PLAIN;
+    b"cgroup/getpeername4     " => EXACT, BPF_PROG_TYPE_CGROUP_SOCK_ADDR, Some(29), PLAIN;
+    b"cgroup/getpeername6     " => EXACT, BPF_PROG_TYPE_CGROUP_SOCK_ADDR, Some(30), PLAIN;
+    b"cgroup/getpeername_unix " => EXACT, BPF_PROG_TYPE_CGROUP_SOCK_ADDR, Some(52), PLAIN;
+    b"cgroup/getsockname4     " => EXACT, BPF_PROG_TYPE_CGROUP_SOCK_ADDR, Some(31), PLAIN;
+    b"cgroup/getsockname6     " => EXACT, BPF_PROG_TYPE_CGROUP_SOCK_ADDR, Some(32), PLAIN;
+    b"cgroup/getsockname_unix " => EXACT, BPF_PROG_TYPE_CGROUP_SOCK_ADDR, Some(53), PLAIN;
+    b"cgroup/sysctl           " => EXACT, BPF_PROG_TYPE_CGROUP_SYSCTL, Some(18), PLAIN;
+    b"cgroup/getsockopt       " => EXACT, BPF_PROG_TYPE_CGROUP_SOCKOPT, Some(21), PLAIN;
+    b"cgroup/setsockopt       " => EXACT, BPF_PROG_TYPE_CGROUP_SOCKOPT, Some(22), PLAIN;
+    b"cgroup/dev              " => EXACT, BPF_PROG_TYPE_CGROUP_DEVICE, Some(6), PLAIN;
+    b"struct_ops              " => LONGER, BPF_PROG_TYPE_STRUCT_OPS, None, PLAIN;
+    b"struct_ops.s            " => LONGER, BPF_PROG_TYPE_STRUCT_OPS, None, SLEEPABLE;
+    b"sk_lookup               " => EXACT, BPF_PROG_TYPE_SK_LOOKUP, Some(36), PLAIN;
+    b"netfilter               " => EXACT, BPF_PROG_TYPE_NETFILTER, Some(45), PLAIN;
+};

@@ -1,6 +1,6 @@
 use Rattle.std.proofs.Common.{◌≡◌, ◌++◌}
 use Rattle.std.specs.FinMap.{entries}
-use Rattle.ebpf_base.specs.Keys.{by_bytes}
+use Rattle.ebpf_base.specs.Maps.{by_bytes}
 use Rattle.ebpf_answers.proofs.entries.entries_of.Given as goal
 
 -- with those that are left, all are there

@@ -1,6 +1,6 @@
 use Rattle.std.proofs.Common.{ap, sym, ◌∙◌}
 use Rattle.std.specs.FinMap.{get}
-use Rattle.ebpf_answers.proofs.Texts.{named_by_text, named_by_none}
+use Rattle.ebpf_answers.proofs.Fills.{named_by_text, named_by_none}
 use Rattle.ebpf_answers.proofs.entries.value_by_bytes.Goals as goal
 
 pub returns-in-Ok : goal.returns-in-Ok

@@ -1,7 +1,7 @@
 use Rattle.std.proofs.Common.{ap, ◌∙◌, map, subst}
 use Rattle.std.specs.Prelude.{pos}
 use Rattle.std.specs.Option.{option_copied}
-use Rattle.ebpf_commands.proofs.Numbered.{all_default_passes}
+use Rattle.ebpf_commands.proofs.Appending.{all_default_passes}
 use Rattle.ebpf_commands.specs.Linked.{numbered_descriptors}
 use Rattle.ebpf_inspect.specs.Inspected.{IsInspected}
 use Rattle.ebpf_object.specs.Stages.{chosen, descriptor_of}

@@ -2,8 +2,7 @@ use Rattle.std.proofs.Common.{subst}
 use Rattle.std.specs.Option.{option_copied}
 use Rattle.std.specs.Prelude.{⊤, MatchBool, option_map}
 use Rattle.ebpf_commands.proofs.Listing.{lacking}
-use Rattle.ebpf_commands.specs.Failures.{is_outside}
-use Rattle.ebpf_commands.specs.Done.{LacksNamedReport}
+use Rattle.ebpf_commands.specs.Done.{is_outside, LacksNamedReport}
 use Rattle.ebpf_commands.proofs.inspect.print_reports.Goals as goal
 
 pub returns-clause-refused : goal.returns-clause-refused

@@ -1,7 +1,7 @@
 use Rattle.std.proofs.Common.{ℕ, List, Option, drop}
 use Rattle.std.specs.Io.KnownBytes.{Appends}
 use Rattle.std.specs.List.{flat_map}
-use Rattle.ebpf_commands.specs.Listed.{report_text}
+use Rattle.ebpf_commands.specs.Printed.{report_text}
 use Rattle.ebpf_commands.proofs.inspect.write_all.Given as goal
 
 -- with the lines that are left, all are there

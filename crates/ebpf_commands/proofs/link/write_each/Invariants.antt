@@ -1,7 +1,7 @@
 use Rattle.std.proofs.Common.{ℕ, List, Option, drop}
 use Rattle.std.specs.Io.KnownBytes.{Appends}
 use Rattle.std.specs.List.{flat_map}
-use Rattle.ebpf_base.specs.Keys.{lent_bytes}
+use Rattle.ebpf_base.specs.Maps.{lent_bytes}
 use Rattle.ebpf_commands.specs.Printed.{program_lines}
 use Rattle.ebpf_commands.proofs.link.write_each.Given as goal
 

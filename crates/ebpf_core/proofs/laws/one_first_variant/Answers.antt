@@ -1,4 +1,4 @@
-use Rattle.ebpf_core.proofs.FirstVariants.{first_is, one_first}
+use Rattle.ebpf_core.proofs.MatchSteps.{first_is, one_first}
 use Rattle.ebpf_core.proofs.laws.one_first_variant.Goals as goal
 
 pub returns-clause-so : goal.returns-clause-so

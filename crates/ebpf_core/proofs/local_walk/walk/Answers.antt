@@ -1,5 +1,5 @@
 use Rattle.std.proofs.Common.{arith}
-use Rattle.ebpf_core.proofs.WalkSteps.{part_next, part_refused}
+use Rattle.ebpf_core.proofs.LocalSides.{part_next, part_refused}
 use Rattle.ebpf_core.proofs.local_walk.walk.Goals as goal
 
 pub returns-in_err-next : goal.returns-in_err-next

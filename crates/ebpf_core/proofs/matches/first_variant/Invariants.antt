@@ -1,7 +1,7 @@
 use Rattle.std.proofs.Common.{◌≡◌, drop, []}
 use Rattle.std.specs.Prelude.{unwrap_or}
 use Rattle.ebpf_btf.specs.Variants.{variants_of}
-use Rattle.ebpf_core.specs.Matches.{first_variant}
+use Rattle.ebpf_core.specs.Outcomes.{first_variant}
 use Rattle.ebpf_core.proofs.matches.first_variant.Given as goal
 
 abbrev pub invariant-loop-index : goal.invariant-loop-index

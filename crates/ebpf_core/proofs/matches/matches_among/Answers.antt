@@ -1,6 +1,6 @@
 use Rattle.std.proofs.Common.{◌+◌, drop, sym, ap, ◌∙◌, arith}
-use Rattle.ebpf_core.specs.Matches.{matches}
-use Rattle.ebpf_core.proofs.Lists.{onto}
+use Rattle.ebpf_core.specs.Outcomes.{matches}
+use Rattle.ebpf_core.proofs.LocalSides.{onto}
 use Rattle.ebpf_core.proofs.MatchSteps.{match_kept, match_passed, match_refused}
 use Rattle.ebpf_core.proofs.matches.matches_among.Goals as goal
 

@@ -1,6 +1,6 @@
 use Rattle.std.proofs.Common.{◌≡◌, drop}
-use Rattle.ebpf_core.proofs.Lists.{onto}
-use Rattle.ebpf_core.specs.Matches.{matches}
+use Rattle.ebpf_core.proofs.LocalSides.{onto}
+use Rattle.ebpf_core.specs.Outcomes.{matches}
 use Rattle.ebpf_core.proofs.matches.matches_among.Given as goal
 
 abbrev pub invariant-loop-candidate : goal.invariant-loop-candidate

@@ -1,5 +1,5 @@
 use Rattle.std.proofs.Common.{◌≡◌, drop}
-use Rattle.ebpf_core.proofs.Lists.{onto}
+use Rattle.ebpf_core.proofs.LocalSides.{onto}
 use Rattle.ebpf_core.specs.Outcomes.{differing_names}
 use Rattle.ebpf_core.proofs.outcome.differing_names.Given as goal
 

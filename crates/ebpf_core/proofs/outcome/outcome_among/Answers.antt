@@ -1,4 +1,4 @@
-use Rattle.ebpf_core.specs.Refused.{AmongIsRefused}
+use Rattle.ebpf_core.specs.Laws.{AmongIsRefused}
 use Rattle.ebpf_core.proofs.Refused.{among_first, refused_so}
 use Rattle.ebpf_core.proofs.outcome.outcome_among.Goals as goal
 

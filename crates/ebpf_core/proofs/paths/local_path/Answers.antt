@@ -1,4 +1,4 @@
-use Rattle.ebpf_core.specs.LocalSides.{LocalSideIs}
+use Rattle.ebpf_core.specs.LocalPaths.{LocalSideIs}
 use Rattle.ebpf_core.proofs.LocalSides.{side_is}
 use Rattle.ebpf_core.proofs.Refusals.{without_texts_so}
 use Rattle.ebpf_core.proofs.paths.local_path.Goals as goal

@@ -1,7 +1,7 @@
 use Rattle.std.proofs.Common.{true, false}
 use Rattle.std.proofs.lemmas.List.{get_or-replicate}
 use Rattle.ebpf_btf.specs.Types.{kind_number}
-use Rattle.ebpf_core_candidates.proofs.NameMarks.{number_below}
+use Rattle.ebpf_core_candidates.proofs.Names.{number_below}
 use Rattle.ebpf_core_candidates.proofs.kinds.every_kind.Goals as goal
 
 pub returns-clause-all : goal.returns-clause-all

@@ -1,7 +1,7 @@
 use Rattle.std.proofs.Common.{◌≡◌, drop, length}
 use Rattle.std.specs.Prelude.{◌||◌}
 use Rattle.ebpf_btf.specs.declared.kind.BtfKind.{BtfKind}
-use Rattle.ebpf_core_candidates.specs.IndexedTypes.{has_kind, is_among_kinds}
+use Rattle.ebpf_core_candidates.specs.Candidates.{has_kind, is_among_kinds}
 use Rattle.ebpf_core_candidates.proofs.kinds.kinds_of.Given as goal
 
 abbrev pub invariant-loop-kind : goal.invariant-loop-kind

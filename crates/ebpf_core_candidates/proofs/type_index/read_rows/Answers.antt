@@ -2,14 +2,12 @@ use Rattle.std.proofs.Common.{◌≡◌, ℕ, ◌<◌, ◌+◌, ◌∷◌, [], l
 use Rattle.std.specs.Prelude.{option_map, slice_get}
 use Rattle.ebpf_core_candidates.specs.declared.type_row.TypeRow.{TypeRow}
 use Rattle.ebpf_btf.specs.Types.{kind_of, name_off}
-use Rattle.ebpf_core_candidates.specs.PrivateContracts.{readable_at}
-use Rattle.ebpf_core_candidates.specs.IndexedTypes.{has_kind, is_hash_marked, name_hash}
-use Rattle.ebpf_core_candidates.specs.TypeRows.{marked_row, named_row, readable_name}
+use Rattle.ebpf_core_candidates.specs.TypeRows.{readable_at, marked_row, named_row, readable_name}
+use Rattle.ebpf_core_candidates.specs.Candidates.{has_kind, is_hash_marked, name_hash}
 use Rattle.ebpf_core_candidates.proofs.CandidateRows.{in_marks, named, out_of_marks, rows_more, rows_pass, rows_skip}
-use Rattle.ebpf_core_candidates.proofs.Heads.{headed, is_there, drop_found}
-use Rattle.ebpf_core_candidates.proofs.NameMarks.{other_kind}
-use Rattle.ebpf_core_candidates.proofs.UnreadNames.{unread_more, unread_pass, unread_past, unreadable_none}
-use Rattle.ebpf_core_candidates.proofs.WithoutNames.{has_name, is_none, anonymous_more, anonymous_pass, anonymous_skip, no_bytes, some_bytes}
+use Rattle.ebpf_btf.proofs.InOrder.{drop_some}
+use Rattle.ebpf_core_candidates.proofs.Names.{headed, is_there, other_kind}
+use Rattle.ebpf_core_candidates.proofs.Unnamed.{unread_more, unread_pass, unread_past, unreadable_none, has_name, is_none, anonymous_more, anonymous_pass, anonymous_skip, no_bytes, some_bytes}
 use Rattle.ebpf_core_candidates.proofs.type_index.read_rows.Goals as goal
 
 abbrev a_row : ℕ → ℕ → TypeRow
@@ -28,7 +26,7 @@ loop-id-preserved-then-not-has_kind c =
     let kind : option_map kind_of (slice_get info.types i) ≡ Some c.in-Some.head.kind = rw (← c.btf-in-loop-id.ensures) (sym (rw c.in-Some.is at c.head.ensures.kind)) in
     let name : option_map name_off (slice_get info.types i) ≡ Some c.in-Some.head.name_offset = rw (← c.btf-in-loop-id.ensures) (sym (rw c.in-Some.is at c.head.ensures.name)) in
     let head = headed (slice_get info.types i) c.in-Some.head.kind c.in-Some.head.name_offset kind name in
-    let here : drop i info.types ≡ head.ty ∷ drop (i + 1) info.types = drop_found info.types i head.ty head.is in
+    let here : drop i info.types ≡ head.ty ∷ drop (i + 1) info.types = drop_some info.types head.ty i head.is in
     let out : has_kind c.args.kinds.now (kind_of head.ty) ≡ false = ap (has_kind c.args.kinds.now) head.of_kind ∙ sym c.if-not-has_kind.ensures in
     record {
       rows = rw (rows_pass c.args.kinds.now c.args.marks.now info info.types i head.ty here out) c.loop-id.invariant.rows;
@@ -44,7 +42,7 @@ loop-id-preserved-in_default-name c =
     let kind : option_map kind_of (slice_get info.types i) ≡ Some c.in-Some.head.kind = rw (← c.btf-in-loop-id.ensures) (sym (rw c.in-Some.is at c.head.ensures.kind)) in
     let name : option_map name_off (slice_get info.types i) ≡ Some c.in-Some.head.name_offset = rw (← c.btf-in-loop-id.ensures) (sym (rw c.in-Some.is at c.head.ensures.name)) in
     let head = headed (slice_get info.types i) c.in-Some.head.kind c.in-Some.head.name_offset kind name in
-    let here : drop i info.types ≡ head.ty ∷ drop (i + 1) info.types = drop_found info.types i head.ty head.is in
+    let here : drop i info.types ≡ head.ty ∷ drop (i + 1) info.types = drop_some info.types head.ty i head.is in
     let in_it : has_kind c.args.kinds.now (kind_of head.ty) ≡ true = ap (has_kind c.args.kinds.now) head.of_kind ∙ sym c.if-not-has_kind.ensures in
     let none : readable_name info head.ty ≡ None = ap (readable_at info.strings) head.named ∙ sym c.in_default-name.ensures in
     record {
@@ -61,7 +59,7 @@ loop-id-preserved-then-is_empty c =
     let kind : option_map kind_of (slice_get info.types i) ≡ Some c.in-Some.head.kind = rw (← c.btf-in-loop-id.ensures) (sym (rw c.in-Some.is at c.head.ensures.kind)) in
     let name : option_map name_off (slice_get info.types i) ≡ Some c.in-Some.head.name_offset = rw (← c.btf-in-loop-id.ensures) (sym (rw c.in-Some.is at c.head.ensures.name)) in
     let head = headed (slice_get info.types i) c.in-Some.head.kind c.in-Some.head.name_offset kind name in
-    let here : drop i info.types ≡ head.ty ∷ drop (i + 1) info.types = drop_found info.types i head.ty head.is in
+    let here : drop i info.types ≡ head.ty ∷ drop (i + 1) info.types = drop_some info.types head.ty i head.is in
     let in_it : has_kind c.args.kinds.now (kind_of head.ty) ≡ true = ap (has_kind c.args.kinds.now) head.of_kind ∙ sym c.if-not-has_kind.ensures in
     let empty : c.in-Some-name.name.now ≡ [] = no_bytes c.in-Some-name.name.now c.if-is_empty.ensures in
     let none : readable_name info head.ty ≡ Some [] = ap (readable_at info.strings) head.named ∙ sym c.in-Some-name.ensures ∙ ap Some empty in
@@ -80,7 +78,7 @@ loop-id-preserved-then-not-is_hash_marked c =
     let kind : option_map kind_of (slice_get info.types i) ≡ Some c.in-Some.head.kind = rw (← c.btf-in-loop-id.ensures) (sym (rw c.in-Some.is at c.head.ensures.kind)) in
     let name : option_map name_off (slice_get info.types i) ≡ Some c.in-Some.head.name_offset = rw (← c.btf-in-loop-id.ensures) (sym (rw c.in-Some.is at c.head.ensures.name)) in
     let head = headed (slice_get info.types i) c.in-Some.head.kind c.in-Some.head.name_offset kind name in
-    let here : drop i info.types ≡ head.ty ∷ drop (i + 1) info.types = drop_found info.types i head.ty head.is in
+    let here : drop i info.types ≡ head.ty ∷ drop (i + 1) info.types = drop_some info.types head.ty i head.is in
     let in_it : has_kind c.args.kinds.now (kind_of head.ty) ≡ true = ap (has_kind c.args.kinds.now) head.of_kind ∙ sym c.if-not-has_kind.ensures in
     let some : (c.in-Some-name.name.now ≡ []) → ⊥ = some_bytes c.in-Some-name.name.now c.if-is_empty.ensures in
     let text : readable_name info head.ty ≡ Some c.in-Some-name.name.now = ap (readable_at info.strings) head.named ∙ sym c.in-Some-name.ensures in
@@ -102,7 +100,7 @@ loop-id-preserved c =
     let kind : option_map kind_of (slice_get info.types i) ≡ Some c.in-Some.head.kind = rw (← c.btf-in-loop-id.ensures) (sym (rw c.in-Some.is at c.head.ensures.kind)) in
     let name : option_map name_off (slice_get info.types i) ≡ Some c.in-Some.head.name_offset = rw (← c.btf-in-loop-id.ensures) (sym (rw c.in-Some.is at c.head.ensures.name)) in
     let head = headed (slice_get info.types i) c.in-Some.head.kind c.in-Some.head.name_offset kind name in
-    let here : drop i info.types ≡ head.ty ∷ drop (i + 1) info.types = drop_found info.types i head.ty head.is in
+    let here : drop i info.types ≡ head.ty ∷ drop (i + 1) info.types = drop_some info.types head.ty i head.is in
     let in_it : has_kind c.args.kinds.now (kind_of head.ty) ≡ true = ap (has_kind c.args.kinds.now) head.of_kind ∙ sym c.if-not-has_kind.ensures in
     let some : (c.in-Some-name.name.now ≡ []) → ⊥ = some_bytes c.in-Some-name.name.now c.if-is_empty.ensures in
     let text : readable_name info head.ty ≡ Some c.in-Some-name.name.now = ap (readable_at info.strings) head.named ∙ sym c.in-Some-name.ensures in

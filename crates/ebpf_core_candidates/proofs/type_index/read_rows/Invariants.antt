@@ -2,11 +2,10 @@ use Rattle.std.proofs.Common.{◌≡◌, ◌++◌, drop, length, None, [], true}
 use Rattle.std.specs.Prelude.{slice_index_or}
 use Rattle.ebpf_base.specs.Faults.{or_else}
 use Rattle.ebpf_btf.specs.declared.kind.BtfKind.{BtfKind}
-use Rattle.ebpf_core_candidates.specs.Candidates.{candidates}
-use Rattle.ebpf_core_candidates.specs.IndexedTypes.{has_kind}
+use Rattle.ebpf_core_candidates.specs.Candidates.{candidates, has_kind}
 use Rattle.ebpf_core_candidates.specs.TypeRows.{rows, type_rows_from, unreadable_from}
 use Rattle.ebpf_btf.specs.Types.{kind_number}
-use Rattle.ebpf_core_candidates.proofs.WithoutNames.{anonymous_from}
+use Rattle.ebpf_core_candidates.proofs.Unnamed.{anonymous_from}
 use Rattle.ebpf_core_candidates.proofs.type_index.read_rows.Given as goal
 
 abbrev pub invariant-loop-id : goal.invariant-loop-id

@@ -3,9 +3,8 @@ use Rattle.std.specs.List.Sorted.{IsSortedBy, IsStableBy}
 use Rattle.std.specs.Ordering.{is_lt, nat_cmp}
 use Rattle.std.proofs.lemmas.List.Sorted.{answers_always}
 use Rattle.ebpf_core_candidates.specs.declared.type_row.TypeRow.{TypeRow}
-use Rattle.ebpf_core_candidates.specs.TypeRows.{is_before, type_key_at, type_key_cmp, row_key}
-use Rattle.ebpf_core_candidates.specs.PrivateContracts.{row_key_total}
-use Rattle.ebpf_core_candidates.proofs.RowRange.{from_closure, stable_finer, stable_twice, ties_first}
+use Rattle.ebpf_core_candidates.specs.TypeRows.{is_before, type_key_at, type_key_cmp, row_key, row_key_total}
+use Rattle.ebpf_core_candidates.proofs.CandidateRows.{from_closure, stable_finer, stable_twice, ties_first}
 use Rattle.ebpf_core_candidates.proofs.type_index.sort_rows.Goals as goal
 
 pub returns-clause-sorted : goal.returns-clause-sorted

@@ -1,7 +1,7 @@
 use Rattle.std.proofs.Common.{◌≤◌, length, sym, ◌∙◌, arith}
 use Rattle.std.specs.FinMap.{get-empty}
 use Rattle.std.specs.Ordering.{nat_cmp}
-use Rattle.ebpf_core_candidates.proofs.OddTexts.{odd_more, odd_over, odd_skip, odd_start}
+use Rattle.ebpf_core_candidates.proofs.Names.{odd_more, odd_over, odd_skip, odd_start}
 use Rattle.ebpf_core_candidates.proofs.type_names.gather_odd_names.Goals as goal
 
 pub loop-id-init : goal.loop-id-init

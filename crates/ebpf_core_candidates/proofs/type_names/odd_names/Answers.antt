@@ -2,7 +2,7 @@ use Rattle.std.proofs.Common.{sym, ◌∙◌, ◌<◌}
 use Rattle.std.specs.Prelude.{All}
 use Rattle.std.specs.Ordering.{nat_cmp}
 use Rattle.std.specs.FinMap.{get-empty}
-use Rattle.ebpf_core_candidates.proofs.OddTexts.{odd_ascii}
+use Rattle.ebpf_core_candidates.proofs.Names.{odd_ascii}
 use Rattle.ebpf_core_candidates.proofs.type_names.odd_names.Goals as goal
 
 pub returns-then-is_ascii : goal.returns-then-is_ascii

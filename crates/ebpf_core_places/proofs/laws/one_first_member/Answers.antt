@@ -1,4 +1,4 @@
-use Rattle.ebpf_core_places.proofs.PathLaws.{one_first_member}
+use Rattle.ebpf_core_places.proofs.Paths.{one_first_member}
 use Rattle.ebpf_core_places.proofs.laws.one_first_member.Goals as goal
 
 pub returns : goal.returns

@@ -1,5 +1,5 @@
 use Rattle.std.proofs.Common.{sym}
-use Rattle.ebpf_core_places.proofs.PathLaws.{one_place, path_leads}
+use Rattle.ebpf_core_places.proofs.Paths.{one_place, path_leads}
 use Rattle.ebpf_core_places.proofs.laws.one_place.Goals as goal
 
 pub returns-clause-leads : goal.returns-clause-leads

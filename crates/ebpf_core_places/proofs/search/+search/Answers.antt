@@ -1,11 +1,10 @@
 use Rattle.std.proofs.Common.{◌-◌, ◌+◌, Ok, Err, refl, sym, ap, ◌∙◌, arith}
-use Rattle.ebpf_core_places.specs.declared.role.Role.TheVariants.{Other, Misfit, Fitting}
+use Rattle.ebpf_core_places.specs.declared.search.Role.TheVariants.{Other, Misfit, Fitting}
 use Rattle.ebpf_core_places.specs.declared.search.Answer.TheVariants.{Absent, Found}
 use Rattle.ebpf_core_places.specs.Members.{member_search}
-use Rattle.ebpf_core_places.specs.Memory.{is_place_memory}
+use Rattle.ebpf_core_places.specs.Places.{is_place_memory}
 use Rattle.ebpf_core_candidates.proofs.Refusals.{handed_on, refused}
-use Rattle.ebpf_core_places.proofs.MemberSteps.{all_left, arm, entered, full, none_in, past}
-use Rattle.ebpf_core_places.proofs.TypeMembers.{shallow, its_members, known_members, known_role, no_members, no_type}
+use Rattle.ebpf_core_places.proofs.Members.{all_left, arm, entered, full, none_in, past, shallow, its_members, known_members, known_role, no_members, no_type}
 use Rattle.ebpf_core_places.proofs.search.+search.Goals as goal
 
 pub returns-in_default-clause-gives : goal.returns-in_default-clause-gives

@@ -1,8 +1,6 @@
 use Rattle.std.proofs.Common.{◌≡◌, ◌-◌}
-use Rattle.ebpf_core_places.specs.Members.{member_search, members_in}
-use Rattle.ebpf_core_places.specs.MemberViews.{view}
-use Rattle.ebpf_core_places.specs.Searches.{run_search}
-use Rattle.ebpf_core_places.proofs.MemberSteps.{left_from}
+use Rattle.ebpf_core_places.specs.Members.{member_search, members_in, view, run_search}
+use Rattle.ebpf_core_places.proofs.Members.{left_from}
 use Rattle.ebpf_core_places.proofs.search.+search.Given as goal
 
 abbrev pub decreases-search : goal.decreases-search

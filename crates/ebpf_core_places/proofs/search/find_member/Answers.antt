@@ -1,6 +1,5 @@
 use Rattle.ebpf_core_places.specs.Places.{IsFirstMember}
-use Rattle.ebpf_core_places.proofs.PathLaws.{aside}
-use Rattle.ebpf_core_places.proofs.PathLaws.{first_member}
+use Rattle.ebpf_core_places.proofs.Paths.{aside, first_member}
 use Rattle.ebpf_core_places.proofs.search.find_member.Goals as goal
 
 pub returns-clause-first : goal.returns-clause-first

@@ -1,8 +1,8 @@
 use Rattle.std.proofs.Common.{◌≡◌, ◌∷◌, Ok, Err, sym, ◌∙◌, subst}
 use Rattle.ebpf_base.specs.Faults.{Gives}
-use Rattle.ebpf_core_places.specs.Memory.{is_place_memory}
+use Rattle.ebpf_core_places.specs.Places.{is_place_memory}
 use Rattle.ebpf_core_candidates.proofs.Refusals.{exact, handed_on}
-use Rattle.ebpf_core_places.proofs.PathSteps.{place_begun, place_empty, place_named}
+use Rattle.ebpf_core_places.proofs.Paths.{place_begun, place_empty, place_named}
 use Rattle.ebpf_core_places.proofs.walk.place.Goals as goal
 
 pub returns-in_default : goal.returns-in_default

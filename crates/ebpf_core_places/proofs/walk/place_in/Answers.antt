@@ -1,6 +1,5 @@
-use Rattle.ebpf_core_places.specs.Paths.{PathLeads}
-use Rattle.ebpf_core_places.proofs.PathLaws.{aside}
-use Rattle.ebpf_core_places.proofs.PathLaws.{path_leads}
+use Rattle.ebpf_core_places.specs.Places.{PathLeads}
+use Rattle.ebpf_core_places.proofs.Paths.{aside, path_leads}
 use Rattle.ebpf_core_places.proofs.walk.place_in.Goals as goal
 
 pub returns-clause-leads : goal.returns-clause-leads

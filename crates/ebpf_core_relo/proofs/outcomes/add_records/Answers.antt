@@ -2,8 +2,8 @@ use Rattle.std.proofs.Common.{ap, ◌∙◌}
 use Rattle.ebpf_core.specs.Searches.{Sides}
 use Rattle.ebpf_core_relo.specs.Records.{relocation_inputs}
 use Rattle.ebpf_core_relo.specs.PrivateContracts.{found_number}
-use Rattle.ebpf_core.proofs.Lists.{rest_at}
-use Rattle.ebpf_core_relo.proofs.OutcomeRows.{record_more, slots_more}
+use Rattle.std.proofs.lemmas.List.{drop_more}
+use Rattle.ebpf_core_relo.proofs.FirstRefusal.{record_more, slots_more}
 use Rattle.ebpf_core_relo.proofs.outcomes.add_records.Goals as goal
 
 pub loop-relocation-preserved : goal.loop-relocation-preserved
@@ -14,12 +14,12 @@ loop-relocation-preserved c =
       search = c.in_ok-add_record.ensures.search ∙ before.invariant.search;
       records =
           record_more (inputs c.args.search.now) (inputs before.search) (ap inputs before.invariant.search) c.args.section.name (found_number c.args.section.found) c.requires
-          c.args.relocations.now before.relocation-index _ (rest_at c.args.relocations.now before.relocation-index _ c.loop-relocation-test.true)
+          c.args.relocations.now before.relocation-index _ (drop_more c.args.relocations.now before.relocation-index _ c.loop-relocation-test.true)
           before.outcomes.written c.add_record.new.outcomes.written c.in_ok-add_record.ensures.written _ _ c.in_ok-add_record.ensures.records
           ∙ before.invariant.records;
       written =
           slots_more (inputs c.args.search.now) (inputs before.search) (ap inputs before.invariant.search) c.args.section.name (found_number c.args.section.found) c.requires
-          c.args.relocations.now before.relocation-index _ (rest_at c.args.relocations.now before.relocation-index _ c.loop-relocation-test.true)
+          c.args.relocations.now before.relocation-index _ (drop_more c.args.relocations.now before.relocation-index _ c.loop-relocation-test.true)
           before.outcomes.written c.add_record.new.outcomes.written c.in_ok-add_record.ensures.written
           ∙ before.invariant.written;
     }

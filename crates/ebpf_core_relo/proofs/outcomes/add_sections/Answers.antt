@@ -1,8 +1,8 @@
 use Rattle.std.proofs.Common.{ap, ◌∙◌}
-use Rattle.ebpf_base.proofs.Walks.{rest_more}
+use Rattle.ebpf_base.proofs.Lists.{rest_more}
 use Rattle.ebpf_core.specs.Searches.{Sides}
 use Rattle.ebpf_core_relo.specs.Records.{relocation_inputs}
-use Rattle.ebpf_core_relo.proofs.OutcomeRows.{section_more, section_slots_more}
+use Rattle.ebpf_core_relo.proofs.FirstRefusal.{section_more, section_slots_more}
 use Rattle.ebpf_core_relo.proofs.outcomes.add_sections.Goals as goal
 
 pub loop-part-preserved : goal.loop-part-preserved

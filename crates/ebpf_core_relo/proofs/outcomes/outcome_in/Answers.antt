@@ -2,7 +2,7 @@ use Rattle.std.proofs.Common.{ap, sym, ◌∙◌}
 use Rattle.ebpf_core_relo.specs.RecordOutcomes.{outcome_in}
 use Rattle.ebpf_core_relo.specs.Records.{relocation_inputs}
 use Rattle.ebpf_core_relo.specs.PrivateContracts.{found_number}
-use Rattle.ebpf_core_relo.proofs.OutcomeRows.{same_row}
+use Rattle.ebpf_core_relo.proofs.FirstRefusal.{same_row}
 use Rattle.ebpf_core_relo.proofs.outcomes.outcome_in.Goals as goal
 
 pub returns-in_ok-result-in-Number-clause-outcome : goal.returns-in_ok-result-in-Number-clause-outcome

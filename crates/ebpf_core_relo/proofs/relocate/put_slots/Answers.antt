@@ -2,9 +2,9 @@ use Rattle.std.proofs.Common.{◌≡◌, ◌∷◌, ◌∙◌, ap, rules, subst,
 use Rattle.std.specs.FinMap.{get, find}
 use Rattle.std.specs.List.Sorted.{IsStrictlySortedBy}
 use Rattle.std.specs.Map.{keys_of}
-use Rattle.ebpf_base.specs.Keys.{key_cmp}
+use Rattle.ebpf_base.specs.Maps.{key_cmp}
 use Rattle.ebpf_core_relo.specs.Records.{with_slots}
-use Rattle.ebpf_core_relo.proofs.PutSlots.{all_found, one_more}
+use Rattle.ebpf_core_relo.proofs.OutcomeSlots.{all_found, one_more}
 use Rattle.ebpf_core_relo.proofs.relocate.put_slots.Goals as goal
 
 pub loop-key-init : goal.loop-key-init

@@ -1,6 +1,5 @@
 use Rattle.ebpf_core_relo.proofs.Refused.{are_refused, refused_so}
-use Rattle.ebpf_core_relo.specs.Records.{relocation_inputs_between}
-use Rattle.ebpf_core_relo.specs.Refused.{RecordsAreRefused}
+use Rattle.ebpf_core_relo.specs.Records.{relocation_inputs_between, RecordsAreRefused}
 use Rattle.ebpf_core_relo.proofs.relocate.relocate_slots.Goals as goal
 
 pub returns-clause-refused : goal.returns-clause-refused

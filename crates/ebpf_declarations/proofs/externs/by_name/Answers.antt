@@ -2,8 +2,8 @@ use Rattle.std.proofs.Common.{rules, ◌≡◌, ◌∙◌, ◌+◌, None, Some, 
 use Rattle.std.specs.Prelude.{slice_get}
 use Rattle.std.specs.FinMap.{insert}
 use Rattle.std.specs.List.{zip}
-use Rattle.ebpf_base.specs.Keyed.{put_all}
-use Rattle.ebpf_declarations.proofs.Kept.{pair_left, no_name_left, no_value_left}
+use Rattle.ebpf_base.specs.Maps.{put_all}
+use Rattle.ebpf_declarations.proofs.NumberedNames.{pair_left, no_name_left, no_value_left}
 use Rattle.ebpf_declarations.proofs.externs.by_name.Goals as goal
 
 pub returns-in_default-clause-externs : goal.returns-in_default-clause-externs

@@ -1,7 +1,7 @@
 use Rattle.std.proofs.Common.{◌≡◌, drop}
 use Rattle.std.specs.FinMap.{empty}
 use Rattle.std.specs.List.{zip}
-use Rattle.ebpf_base.specs.Keyed.{put_all}
+use Rattle.ebpf_base.specs.Maps.{put_all}
 use Rattle.ebpf_declarations.proofs.externs.by_name.Given as goal
 
 -- what is left to put from here is what was to put from the start

@@ -2,10 +2,10 @@ use Rattle.std.proofs.Common.{◌≡◌, [], IfOk, refl, sym, ap, subst, take_al
 use Rattle.std.specs.FinMap.{get, empty}
 use Rattle.std.specs.List.{AllZip, flat_map}
 use Rattle.ebpf_base.specs.Faults.{fault_of}
-use Rattle.ebpf_declarations.proofs.Kept.{none_kept, item_kept, all_more, rest_clear, kept_put}
-use Rattle.ebpf_declarations.specs.Attempts.{given}
+use Rattle.ebpf_declarations.proofs.NumberedNames.{none_kept, item_kept, all_more, rest_clear, kept_put}
+use Rattle.ebpf_declarations.specs.DataSections.{given}
 use Rattle.ebpf_declarations.specs.Externs.{IsWeak, extern_of}
-use Rattle.ebpf_declarations.specs.NumberedNames.{AreKept}
+use Rattle.ebpf_declarations.specs.SectionMaps.{AreKept}
 use Rattle.ebpf_declarations.proofs.externs.entries_externs.Goals as goal
 
 pub loop-entry-init : goal.loop-entry-init

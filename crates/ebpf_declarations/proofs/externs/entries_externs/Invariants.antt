@@ -1,9 +1,9 @@
 use Rattle.std.proofs.Common.{◌≡◌, take, drop}
 use Rattle.std.specs.FinMap.{get}
 use Rattle.std.specs.List.{AllZip, flat_map}
-use Rattle.ebpf_declarations.specs.Attempts.{given}
+use Rattle.ebpf_declarations.specs.DataSections.{given}
 use Rattle.ebpf_declarations.specs.Externs.{IsWeak, extern_of, extern_entries_fault}
-use Rattle.ebpf_declarations.specs.NumberedNames.{AreNumbered, AreKept}
+use Rattle.ebpf_declarations.specs.SectionMaps.{AreNumbered, AreKept}
 use Rattle.ebpf_declarations.proofs.externs.entries_externs.Given as goal
 
 -- the externs of the entries so far are kept, which have no fault

@@ -1,6 +1,6 @@
 use Rattle.std.proofs.Common.{◌≡◌, ◌∙◌, Some, sym, ap}
 use Rattle.std.specs.FinMap.{get}
-use Rattle.ebpf_declarations.proofs.Kept.{there}
+use Rattle.ebpf_declarations.proofs.NumberedNames.{there}
 use Rattle.ebpf_declarations.specs.Externs.{IsWeak}
 use Rattle.ebpf_declarations.proofs.externs.extern_of.Goals as goal
 

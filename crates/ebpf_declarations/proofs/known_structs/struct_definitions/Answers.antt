@@ -1,5 +1,5 @@
 use Rattle.ebpf_declarations.specs.Maps.{struct_definitions}
-use Rattle.ebpf_declarations.proofs.KnownStructs.{one_more, definitions_same}
+use Rattle.ebpf_declarations.proofs.BothReadings.{one_more, definitions_same}
 use Rattle.ebpf_declarations.proofs.known_structs.struct_definitions.Goals as goal
 
 pub returns-clause-known : goal.returns-clause-known

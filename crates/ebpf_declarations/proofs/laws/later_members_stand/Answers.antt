@@ -1,4 +1,4 @@
-use Rattle.ebpf_declarations.proofs.LaterMembers.{later_members, later_inner_members}
+use Rattle.ebpf_declarations.proofs.MemberValues.{later_members, later_inner_members}
 use Rattle.ebpf_declarations.proofs.laws.later_members_stand.Goals as goal
 
 pub returns-clause-maps : goal.returns-clause-maps

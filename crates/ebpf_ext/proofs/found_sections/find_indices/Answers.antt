@@ -2,7 +2,7 @@ use Rattle.std.proofs.Common.{◌≡◌, ◌+◌, Some, drop, refl, subst}
 use Rattle.std.specs.Prelude.{slice_get}
 use Rattle.std.proofs.lemmas.Option.{slice_get_read}
 use Rattle.ebpf_ext.proofs.LastIndices.{AreLeft, all_left, none_left, one_less}
-use Rattle.ebpf_base.proofs.Walks.{rest_more, rest_none}
+use Rattle.ebpf_base.proofs.Lists.{rest_more, rest_none}
 use Rattle.ebpf_ext.proofs.found_sections.find_indices.Goals as goal
 
 pub loop-index-init : goal.loop-index-init

@@ -1,8 +1,7 @@
 use Rattle.std.proofs.Common.{◌≡◌, ◌+◌, ◌∙◌, true, false, drop, sym, ap, Some}
 use Rattle.std.specs.Prelude.{if◌then◌else◌}
 use Rattle.std.specs.Option.{option_copied}
-use Rattle.ebpf_base.specs.Keyed.{last_at}
-use Rattle.ebpf_base.specs.Keys.{text_cmp}
+use Rattle.ebpf_base.specs.Maps.{last_at, text_cmp}
 use Rattle.ebpf_btf.specs.Strings.{is_text, text_at}
 use Rattle.ebpf_ext.specs.SectionNames.{sections_with_names}
 use Rattle.ebpf_ext.proofs.SectionNames.{from_all, last_done, last_more}

@@ -1,8 +1,7 @@
 use Rattle.std.proofs.Common.{◌≡◌, drop}
 use Rattle.std.specs.FinMap.{get}
 use Rattle.std.specs.Option.{option_copied}
-use Rattle.ebpf_base.specs.Keyed.{last_at}
-use Rattle.ebpf_base.specs.Keys.{text_cmp}
+use Rattle.ebpf_base.specs.Maps.{last_at, text_cmp}
 use Rattle.ebpf_ext.specs.SectionNames.{by_offsets, sections_with_names}
 use Rattle.ebpf_ext.proofs.found_sections.last_named.Given as goal
 

@@ -1,12 +1,12 @@
 use Rattle.std.proofs.Common.{◌≤◌, ◌++◌, [], rules, length, sym, subst}
 use Rattle.std.proofs.lemmas.List.{append-nil}
 use Rattle.std.specs.List.{flat_map}
-use Rattle.ebpf_base.specs.Keys.{lent_bytes}
+use Rattle.ebpf_base.specs.Maps.{lent_bytes}
 use Rattle.ebpf_inspect.proofs.Gathered.{one_step, one_refused}
 use Rattle.ebpf_inspect.specs.Named.{AreMaps}
 use Rattle.ebpf_object.proofs.Staging.{passed_on}
 use Rattle.ebpf_object.specs.PrivateContracts.{program_with}
-use Rattle.ebpf_base.proofs.Walks.{rest_none}
+use Rattle.ebpf_base.proofs.Lists.{rest_none}
 use Rattle.ebpf_inspect.proofs.maps.maps_named.Goals as goal
 
 pub returns-in_err-add_map-clause-fault : goal.returns-in_err-add_map-clause-fault

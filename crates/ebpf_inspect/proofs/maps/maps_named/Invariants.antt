@@ -1,6 +1,6 @@
 use Rattle.std.proofs.Common.{◌++◌, List, drop}
 use Rattle.std.specs.List.{flat_map}
-use Rattle.ebpf_base.specs.Keys.{lent_bytes}
+use Rattle.ebpf_base.specs.Maps.{lent_bytes}
 use Rattle.ebpf_inspect.specs.Named.{AreMaps, OneRefused}
 use Rattle.ebpf_inspect.specs.declared.maps.NamedMap.{NamedMap}
 use Rattle.ebpf_object.specs.PrivateContracts.{program_with}

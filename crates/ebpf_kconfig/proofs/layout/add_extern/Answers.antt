@@ -1,8 +1,7 @@
 use Rattle.std.proofs.Common.{◌≡◌, ap, ◌∙◌, subst, sym, rules, Some}
 use Rattle.std.specs.FinMap.{insert, get}
 use Rattle.std.specs.Option.{OnSome, option_copied_mut}
-use Rattle.ebpf_kconfig.specs.KconfigLayout.{layout_key}
-use Rattle.ebpf_kconfig.specs.KconfigMaps.{with_extern_in}
+use Rattle.ebpf_kconfig.specs.KconfigMaps.{layout_key, with_extern_in}
 use Rattle.ebpf_kconfig.proofs.layout.add_extern.Goals as goal
 
 pub returns-in_ok-insert-in-Some : goal.returns-in_ok-insert-in-Some

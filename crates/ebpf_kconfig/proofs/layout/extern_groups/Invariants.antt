@@ -1,7 +1,7 @@
 use Rattle.std.proofs.Common.{◌≡◌}
 use Rattle.std.specs.Prelude.{fold}
 use Rattle.std.specs.Vec.Iter.{into_iter_items}
-use Rattle.ebpf_kconfig.specs.KconfigLayout.{extern_groups, with_extern}
+use Rattle.ebpf_kconfig.specs.KconfigMaps.{extern_groups, with_extern}
 use Rattle.ebpf_kconfig.proofs.layout.extern_groups.Given as goal
 
 -- the groups with the externs that are left are those of all

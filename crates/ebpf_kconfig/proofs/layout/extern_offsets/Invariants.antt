@@ -1,9 +1,8 @@
 use Rattle.std.proofs.Common.{◌≡◌, ◌<◌, ◌^◌, drop}
 use Rattle.std.specs.Prelude.{None}
 use Rattle.std.specs.FinMap.{empty}
-use Rattle.ebpf_base.specs.Keyed.{put_all}
-use Rattle.ebpf_kconfig.specs.KconfigLayout.{extern_offsets, size_fault_from}
-use Rattle.ebpf_kconfig.specs.KconfigMaps.{lent_externs}
+use Rattle.ebpf_base.specs.Maps.{put_all}
+use Rattle.ebpf_kconfig.specs.KconfigMaps.{extern_offsets, size_fault_from, lent_externs}
 use Rattle.ebpf_kconfig.proofs.layout.extern_offsets.Given as goal
 
 -- the offsets so far, and those of the externs that are left, are those of all

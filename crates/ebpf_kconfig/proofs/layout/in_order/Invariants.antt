@@ -1,8 +1,7 @@
 use Rattle.std.proofs.Common.{◌≡◌, ◌++◌}
 use Rattle.std.specs.FinMap.{entries}
 use Rattle.std.specs.List.{flat_map}
-use Rattle.ebpf_kconfig.specs.KconfigLayout.{group_externs}
-use Rattle.ebpf_kconfig.specs.KconfigMaps.{lent_externs}
+use Rattle.ebpf_kconfig.specs.KconfigMaps.{group_externs, lent_externs}
 use Rattle.ebpf_kconfig.proofs.layout.in_order.Given as goal
 
 -- with the externs of the groups that are left, all are there

@@ -1,6 +1,5 @@
 use Rattle.std.proofs.Common.{◌≡◌, ◌<◌, ◌^◌, drop}
-use Rattle.ebpf_kconfig.specs.KconfigLayout.{layout_end, size_fault_from}
-use Rattle.ebpf_kconfig.specs.KconfigMaps.{lent_externs}
+use Rattle.ebpf_kconfig.specs.KconfigMaps.{layout_end, size_fault_from, lent_externs}
 use Rattle.ebpf_kconfig.proofs.layout.layout_end.Given as goal
 
 -- those that are left end where all end, and have the fault that all have

@@ -1,7 +1,7 @@
 use Rattle.std.proofs.Common.{◌≡◌}
 use Rattle.std.specs.List.{find}
 use Rattle.ebpf_elf.specs.Sections.{section_name, sections}
-use Rattle.ebpf_kernel_types.specs.KernelSymbols.{is_btf_name}
+use Rattle.ebpf_kernel_types.specs.TypeSources.{is_btf_name}
 use Rattle.ebpf_kernel_types.proofs.sections.section_named.Given as goal
 
 -- none of the sections so far has the name

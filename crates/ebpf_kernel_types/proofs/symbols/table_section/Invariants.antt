@@ -1,7 +1,7 @@
 use Rattle.std.proofs.Common.{◌≡◌}
 use Rattle.std.specs.List.{find}
 use Rattle.ebpf_elf.specs.Sections.{sections}
-use Rattle.ebpf_kernel_types.specs.KernelSymbols.{is_symbol_table}
+use Rattle.ebpf_kernel_types.specs.TypeSources.{is_symbol_table}
 use Rattle.ebpf_kernel_types.proofs.symbols.table_section.Given as goal
 
 -- none of the sections so far is one

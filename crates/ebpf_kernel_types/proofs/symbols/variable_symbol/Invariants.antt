@@ -1,6 +1,6 @@
 use Rattle.std.proofs.Common.{◌≡◌}
 use Rattle.std.specs.List.{find}
-use Rattle.ebpf_kernel_types.specs.KernelSymbols.{is_variable_symbol, variable_symbol}
+use Rattle.ebpf_kernel_types.specs.TypeSources.{is_variable_symbol, variable_symbol}
 use Rattle.ebpf_kernel_types.proofs.symbols.variable_symbol.Given as goal
 
 -- none of the symbols so far is it

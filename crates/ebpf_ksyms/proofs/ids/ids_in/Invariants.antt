@@ -1,6 +1,6 @@
 use Rattle.std.proofs.Common.{◌≡◌, ℕ, List, drop}
 use Rattle.std.specs.Prelude.{option_map}
-use Rattle.ebpf_base.specs.Keys.{lent_bytes}
+use Rattle.ebpf_base.specs.Maps.{lent_bytes}
 use Rattle.ebpf_ksyms.specs.PrivateContracts.{finished, ids_in, only_at, value_named}
 use Rattle.ebpf_ksyms.proofs.ids.ids_in.Given as goal
 

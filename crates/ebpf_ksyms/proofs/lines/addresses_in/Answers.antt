@@ -1,7 +1,7 @@
 use Rattle.std.proofs.Common.{sym, subst, ◌∙◌}
 use Rattle.std.specs.Iterator.{Yields}
-use Rattle.ebpf_base.specs.Keys.{lent_bytes}
-use Rattle.ebpf_ksyms.specs.Faults.{is_ksyms_memory}
+use Rattle.ebpf_base.specs.Maps.{lent_bytes}
+use Rattle.ebpf_ksyms.specs.Addresses.{is_ksyms_memory}
 use Rattle.ebpf_ksyms.specs.PrivateContracts.{value_named}
 use Rattle.ebpf_ksyms.proofs.Reading.{first_known, lines_fault-none, match_then, no_lines, read-more, refused-here, some_names, tells-more, yields-push}
 use Rattle.ebpf_ksyms.proofs.lines.addresses_in.Goals as goal

@@ -1,5 +1,5 @@
 use Rattle.std.proofs.Common.{◌≡◌, ℕ, List, None, map}
-use Rattle.ebpf_base.specs.Keys.{lent_bytes}
+use Rattle.ebpf_base.specs.Maps.{lent_bytes}
 use Rattle.ebpf_ksyms.specs.Addresses.{address_of, line_of_item, lines_fault, is_one_of}
 use Rattle.ebpf_ksyms.specs.PrivateContracts.{only_at, value_named}
 use Rattle.ebpf_ksyms.proofs.lines.addresses_in.Given as goal

@@ -3,10 +3,10 @@ use Rattle.std.specs.FinMap.{entries}
 use Rattle.std.specs.Option.{option_copied}
 use Rattle.std.proofs.lemmas.Result.{err_from_is_err_and}
 use Rattle.ebpf_base.specs.Faults.{first_some}
-use Rattle.ebpf_base.specs.Keys.{lent_bytes}
+use Rattle.ebpf_base.specs.Maps.{lent_bytes}
 use Rattle.ebpf_ksyms.specs.PrivateContracts.{externs_from, value_named, AreRead, StopsAt, known_at, typeless_as, typeless_refused, typed_as, typed_refused}
 use Rattle.ebpf_ksyms.specs.Externs.{IsResolutionFault, IsResolved, kernel_ids_of, renewed, wanted_names}
-use Rattle.ebpf_ksyms.specs.Faults.{is_ksyms_memory}
+use Rattle.ebpf_ksyms.specs.Addresses.{is_ksyms_memory}
 use Rattle.ebpf_ksyms.proofs.Reading.{match_then}
 use Rattle.ebpf_ksyms.proofs.Resolving.{at_line, at_name, at_type, is_resolved, stays}
 use Rattle.ebpf_ksyms.proofs.resolve.resolve_lines.Goals as goal

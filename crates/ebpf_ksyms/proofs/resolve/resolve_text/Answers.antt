@@ -1,7 +1,7 @@
 use Rattle.std.proofs.Common.{subst}
 use Rattle.std.specs.Prelude.{IfErr, IfOk, MatchBool, ⊤}
 use Rattle.std.specs.Option.{option_copied}
-use Rattle.ebpf_ksyms.specs.Faults.{is_ksyms_memory}
+use Rattle.ebpf_ksyms.specs.Addresses.{is_ksyms_memory}
 use Rattle.ebpf_ksyms.specs.Sources.{IsRefusedBy, IsResolvedBy}
 use Rattle.ebpf_ksyms.proofs.FromText.{all_refused, all_resolved}
 use Rattle.ebpf_ksyms.proofs.resolve.resolve_text.Goals as goal

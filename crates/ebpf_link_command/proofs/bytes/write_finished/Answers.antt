@@ -1,4 +1,4 @@
-use Rattle.std.proofs.Common.{ap, map, subst}
+use Rattle.std.proofs.Common.{ap, subst}
 use Rattle.ebpf_commands.specs.Linked.{default_passes}
 use Rattle.ebpf_ksyms.specs.Sources.{Text}
 use Rattle.ebpf_object.specs.Headline.{Headline}

@@ -1,4 +1,4 @@
-use Rattle.ebpf_list.proofs.MadeLayouts.{of_map, of_refusal}
+use Rattle.ebpf_list.proofs.Listed.{of_map, of_refusal}
 use Rattle.ebpf_object.proofs.Staging.{of_prepared}
 use Rattle.ebpf_reloc.specs.SlotTargets.{read}
 use Rattle.ebpf_list.proofs.layout.layout_of.Goals as goal

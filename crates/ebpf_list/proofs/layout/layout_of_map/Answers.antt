@@ -1,6 +1,6 @@
 use Rattle.std.proofs.Common.{subst, sym}
 use Rattle.std.specs.Prelude.{MatchOption}
-use Rattle.ebpf_list.specs.Layouts.{IsOfCopies, IsOfOne}
+use Rattle.ebpf_list.specs.Listings.{IsOfCopies, IsOfOne}
 use Rattle.ebpf_list.proofs.layout.layout_of_map.Goals as goal
 
 pub returns-in_ok-linked-in-Some : goal.returns-in_ok-linked-in-Some

@@ -1,5 +1,5 @@
 use Rattle.std.proofs.Common.{ap, ◌∙◌, subst, sym}
-use Rattle.ebpf_list.specs.Layouts.{AreLayouts}
+use Rattle.ebpf_list.specs.Listings.{AreLayouts}
 use Rattle.ebpf_object.proofs.Staging.{of_prepared}
 use Rattle.ebpf_object.specs.Headline.{linkable}
 use Rattle.ebpf_object.specs.LinkedPrograms.{linkable_of}

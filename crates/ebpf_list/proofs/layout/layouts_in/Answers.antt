@@ -1,6 +1,6 @@
 use Rattle.std.proofs.Common.{◌+◌, ◌≤◌, length, rules, subst, sym}
-use Rattle.ebpf_list.proofs.ReachedKeys.{Completes, none_left, one_more}
-use Rattle.ebpf_list.specs.Layouts.{IsLayout}
+use Rattle.ebpf_list.proofs.Using.{Completes, none_left, one_more}
+use Rattle.ebpf_list.specs.Listings.{IsLayout}
 use Rattle.ebpf_list.proofs.layout.layouts_in.Goals as goal
 
 pub loop-program-preserved : goal.loop-program-preserved

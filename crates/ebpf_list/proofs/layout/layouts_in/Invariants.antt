@@ -1,5 +1,5 @@
-use Rattle.ebpf_list.proofs.ReachedKeys.{Completes}
-use Rattle.ebpf_list.specs.Layouts.{IsLayout}
+use Rattle.ebpf_list.proofs.Using.{Completes}
+use Rattle.ebpf_list.specs.Listings.{IsLayout}
 use Rattle.ebpf_list.proofs.layout.layouts_in.Given as goal
 
 -- with the layouts of the programs that are left, all are there

@@ -1,7 +1,7 @@
 use Rattle.std.proofs.Common.{◌≡◌, ◌≤◌, ◌+◌, ◌-◌, ◌^◌, [], drop, length, map, ap, arith, rules, Some}
 use Rattle.std.proofs.lemmas.Grind.{common_steps}
 use Rattle.std.specs.Prelude.{min}
-use Rattle.ebpf_base.proofs.Walks.{rest_none}
+use Rattle.ebpf_base.proofs.Lists.{rest_none}
 use Rattle.ebpf_linker.specs.LinkMap.{copied_slot_count}
 use Rattle.ebpf_reloc.specs.Laws.{copy_of}
 use Rattle.ebpf_list.proofs.layout.linked.Goals as goal

@@ -1,5 +1,5 @@
-use Rattle.ebpf_list.proofs.ReachedKeys.{Completes}
-use Rattle.ebpf_list.specs.Layouts.{IsOfOne}
+use Rattle.ebpf_list.proofs.Using.{Completes}
+use Rattle.ebpf_list.specs.Listings.{IsOfOne}
 use Rattle.ebpf_list.proofs.layout.unlinked_layouts.Given as goal
 
 -- with the layouts of the programs that are left, all are there

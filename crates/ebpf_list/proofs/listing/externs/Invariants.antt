@@ -1,6 +1,6 @@
 use Rattle.std.proofs.Common.{◌≡◌, ◌++◌, map}
-use Rattle.ebpf_base.specs.Keys.{by_bytes}
-use Rattle.ebpf_list.specs.ExternRows.{extern_row, extern_rows}
+use Rattle.ebpf_base.specs.Maps.{by_bytes}
+use Rattle.ebpf_list.specs.Listings.{extern_row, extern_rows}
 use Rattle.ebpf_list.proofs.listing.externs.Given as goal
 
 -- with the rows of the externs that are left, all are there

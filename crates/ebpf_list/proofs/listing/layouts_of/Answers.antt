@@ -1,8 +1,7 @@
 use Rattle.std.proofs.Common.{subst}
 use Rattle.std.specs.Prelude.{MatchBool}
 use Rattle.std.specs.List.{AllZip}
-use Rattle.ebpf_list.specs.Layouts.{AreLayouts, IsOfOne}
-use Rattle.ebpf_list.specs.ExternRows.{WritesExterns}
+use Rattle.ebpf_list.specs.Listings.{AreLayouts, IsOfOne, WritesExterns}
 use Rattle.ebpf_object.proofs.Staging.{of_prepared}
 use Rattle.ebpf_list.proofs.listing.layouts_of.Goals as goal
 

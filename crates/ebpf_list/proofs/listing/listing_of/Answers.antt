@@ -1,8 +1,6 @@
 use Rattle.std.proofs.Common.{ap, refl, subst, ◌∙◌}
 use Rattle.ebpf_list.proofs.Listed.{listed}
-use Rattle.ebpf_list.specs.Listings.{IsListing}
-use Rattle.ebpf_list.specs.Reached.{unreached_keys}
-use Rattle.ebpf_list.specs.Users.{AreUsers, calls, uses_map}
+use Rattle.ebpf_list.specs.Listings.{IsListing, unreached_keys, AreUsers, calls, uses_map}
 use Rattle.ebpf_list.proofs.listing.listing_of.Goals as goal
 
 pub returns : goal.returns

@@ -1,10 +1,9 @@
-use Rattle.std.proofs.Common.{subst, ◌∙◌}
+use Rattle.std.proofs.Common.{subst, ◌∙◌, map}
 use Rattle.std.specs.List.Sorted.{IsPermutation}
 use Rattle.std.specs.Map.{keys_of}
 use Rattle.std.proofs.lemmas.List.Sorted.{IsPermutation-map}
-use Rattle.std.proofs.Common.{map}
-use Rattle.ebpf_base.specs.Keys.{lent_bytes, text_cmp, text_total}
-use Rattle.ebpf_base.proofs.Sorted.{sorted_keys, sorted_map}
+use Rattle.ebpf_base.specs.Maps.{lent_bytes, text_cmp, text_total}
+use Rattle.ebpf_base.proofs.Maps.{sorted_keys, sorted_map}
 use Rattle.ebpf_base.proofs.TextMaps.{text_exact}
 use Rattle.ebpf_object.specs.Patches.{global_of}
 use Rattle.ebpf_object.proofs.Values.{keys_given, distinct_given}

@@ -1,7 +1,7 @@
 use Rattle.std.proofs.Common.{map, subst}
 use Rattle.std.specs.Prelude.{◌≡◌, Some, IfErr}
 use Rattle.std.specs.FinMap.{FinMap}
-use Rattle.ebpf_base.specs.Keys.{text_cmp}
+use Rattle.ebpf_base.specs.Maps.{text_cmp}
 use Rattle.ebpf_object.specs.Prepared.{RefusesPreparing}
 use Rattle.ebpf_object.specs.Stages.{Wrapped, own_maps, descriptor_of}
 use Rattle.ebpf_object.specs.Names.{has_function_in}

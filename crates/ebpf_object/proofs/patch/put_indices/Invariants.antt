@@ -1,7 +1,7 @@
 use Rattle.std.proofs.Common.{◌≡◌, drop}
 use Rattle.std.specs.FinMap.{get}
 use Rattle.std.specs.List.{flat_map}
-use Rattle.ebpf_base.specs.Keyed.{put_all}
+use Rattle.ebpf_base.specs.Maps.{put_all}
 use Rattle.ebpf_object.specs.Patches.{named_at}
 use Rattle.ebpf_object.proofs.patch.put_indices.Given as goal
 

@@ -2,7 +2,7 @@ use Rattle.std.proofs.Common.{◌≡◌, ◌++◌, drop, map}
 use Rattle.std.specs.FinMap.{get}
 use Rattle.std.specs.List.{flat_map}
 use Rattle.ebpf_base.specs.Faults.{first_some}
-use Rattle.ebpf_base.specs.Keys.{lent_bytes}
+use Rattle.ebpf_base.specs.Maps.{lent_bytes}
 use Rattle.ebpf_object.specs.Patches.{patches_at, patch_fault_at, globals_of}
 use Rattle.ebpf_object.specs.PrivateContracts.{value_of}
 use Rattle.ebpf_object.proofs.patch_data.add_all.Given as goal

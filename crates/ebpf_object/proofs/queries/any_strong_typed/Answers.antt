@@ -1,5 +1,5 @@
 use Rattle.std.proofs.Common.{not, ◌&&◌, sym, ap, ◌∙◌}
-use Rattle.ebpf_model.specs.declared.extern_desc.ExternDesc.{ExternDesc}
+use Rattle.ebpf_model.specs.declared.symbol.ExternDesc.{ExternDesc}
 use Rattle.ebpf_object.specs.TypedExterns.{has_extern}
 use Rattle.ebpf_object.proofs.Values.{any_text}
 use Rattle.ebpf_object.proofs.queries.any_strong_typed.Goals as goal

@@ -1,7 +1,7 @@
 use Rattle.std.proofs.Common.{◌≡◌, ap, ◌∙◌}
 use Rattle.std.specs.List.{flat_map}
 use Rattle.std.proofs.lemmas.Result.{IfOk-weaker}
-use Rattle.ebpf_base.specs.Keys.{lent_bytes}
+use Rattle.ebpf_base.specs.Maps.{lent_bytes}
 use Rattle.ebpf_object.specs.LinkedPrograms.{programs_in_order}
 use Rattle.ebpf_object.specs.PrivateContracts.{program_with}
 use Rattle.ebpf_object.proofs.ProgramNames.{all_names}

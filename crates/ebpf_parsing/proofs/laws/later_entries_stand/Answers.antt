@@ -1,4 +1,4 @@
-use Rattle.ebpf_base.proofs.Keyed.{later_text_stands, later_number_stands, later_key_stands}
+use Rattle.ebpf_base.proofs.Mapped.{later_text_stands, later_number_stands, later_key_stands}
 use Rattle.ebpf_parsing.proofs.laws.later_entries_stand.Goals as goal
 
 pub returns-clause-programs : goal.returns-clause-programs

@@ -1,6 +1,6 @@
 use Rattle.std.proofs.Common.{◌≡◌, drop}
 use Rattle.ebpf_base.specs.Faults.{first_some}
-use Rattle.ebpf_base.specs.Keyed.{put_all}
+use Rattle.ebpf_base.specs.Maps.{put_all}
 use Rattle.ebpf_parsing.specs.Maps.{legacy_maps, legacy_fault}
 use Rattle.ebpf_parsing.proofs.maps.put_each.Given as goal
 

@@ -1,7 +1,7 @@
 use Rattle.std.proofs.Common.{◌≡◌, ◌∷◌, rules, sym, ap, subst, ◌∙◌, None, false, map, filter}
 use Rattle.std.specs.Prelude.{◌==◌, Some, Err, MatchBool, ⊤}
 use Rattle.ebpf_base.specs.Faults.{Refuses, first_some, or_else}
-use Rattle.ebpf_base.specs.Keys.{text_total}
+use Rattle.ebpf_base.specs.Maps.{text_total}
 use Rattle.ebpf_elf.specs.Relocations.{relocation_sections, relocated_section}
 use Rattle.ebpf_elf.specs.Sections.{sections}
 use Rattle.ebpf_parts.specs.Memory.{is_parse_memory}

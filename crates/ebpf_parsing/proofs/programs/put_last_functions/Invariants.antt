@@ -1,5 +1,5 @@
 use Rattle.std.proofs.Common.{◌≡◌, drop, map}
-use Rattle.ebpf_base.specs.Keyed.{put_all}
+use Rattle.ebpf_base.specs.Maps.{put_all}
 use Rattle.ebpf_parsing.specs.Programs.{with_key, program_functions, programs_fault}
 use Rattle.ebpf_parsing.proofs.Lasts.{ProgramLasts}
 use Rattle.ebpf_parsing.proofs.programs.put_last_functions.Given as goal

@@ -1,5 +1,5 @@
 use Rattle.std.proofs.Common.{◌≡◌, drop, Some}
-use Rattle.ebpf_base.specs.Keyed.{put_all}
+use Rattle.ebpf_base.specs.Maps.{put_all}
 use Rattle.ebpf_parsing.specs.Programs.{programs_of}
 use Rattle.ebpf_parsing.proofs.programs.put_programs.Given as goal
 

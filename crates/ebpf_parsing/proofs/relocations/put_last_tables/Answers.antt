@@ -2,8 +2,8 @@ use Rattle.std.proofs.Common.{◌≡◌, ◌∙◌, false, ap, arith, rules, map
 use Rattle.std.specs.FinMap.{empty, get}
 use Rattle.std.specs.List.{flat_map}
 use Rattle.std.specs.Prelude.{slice_index_or}
-use Rattle.ebpf_base.proofs.Keyed.{put_all-append}
-use Rattle.ebpf_base.specs.Keyed.{put_all}
+use Rattle.ebpf_base.proofs.Mapped.{put_all-append}
+use Rattle.ebpf_base.specs.Maps.{put_all}
 use Rattle.ebpf_elf.specs.Relocations.{table_entries}
 use Rattle.ebpf_parsing.specs.Relocations.{file_of_tables, entry_range_of, entry_range_total, table_row, offset_of}
 use Rattle.ebpf_parsing.specs.Sections.{is_index}

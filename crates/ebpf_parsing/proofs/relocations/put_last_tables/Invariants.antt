@@ -1,7 +1,7 @@
 use Rattle.std.proofs.Common.{◌≡◌, drop, map}
 use Rattle.std.specs.FinMap.{empty}
 use Rattle.std.specs.List.{flat_map}
-use Rattle.ebpf_base.specs.Keyed.{put_all}
+use Rattle.ebpf_base.specs.Maps.{put_all}
 use Rattle.ebpf_elf.specs.Relocations.{table_entries}
 use Rattle.ebpf_parsing.specs.Relocations.{AreOf, file_of_tables, relocations_by_offset, offset_of}
 use Rattle.ebpf_parsing.proofs.RelocationTables.{TableLasts}

@@ -1,8 +1,7 @@
 use Rattle.std.proofs.Common.{◌≡◌, map}
 use Rattle.std.specs.Iterator.Adapters.{zip_first, zip_second}
 use Rattle.std.specs.Slice.Iter.{iter_rest}
-use Rattle.ebpf_base.specs.Keyed.{put_all}
-use Rattle.ebpf_base.specs.Keys.{lent_bytes}
+use Rattle.ebpf_base.specs.Maps.{put_all, lent_bytes}
 use Rattle.ebpf_parsing.specs.Symbols.{symbol_of, file_symbols, symbol_entry, symbol_table, names_of}
 use Rattle.ebpf_parsing.proofs.symbols.object_symbols.Given as goal
 

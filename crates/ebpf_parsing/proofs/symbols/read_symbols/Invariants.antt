@@ -1,6 +1,6 @@
 use Rattle.std.proofs.Common.{◌≡◌, ◌++◌, ℕ, map}
 use Rattle.ebpf_base.specs.Faults.{first_some}
-use Rattle.ebpf_base.specs.Keys.{lent_bytes}
+use Rattle.ebpf_base.specs.Maps.{lent_bytes}
 use Rattle.ebpf_parsing.specs.Sections.{group_at}
 use Rattle.ebpf_parsing.specs.Symbols.{symbol_of, symbol_fault, symbols_fault, file_symbols, names_of, section_symbols}
 use Rattle.ebpf_parsing.proofs.symbols.read_symbols.Given as goal

@@ -1,5 +1,5 @@
 use Rattle.std.proofs.Common.{◌≡◌, drop, map}
-use Rattle.ebpf_base.specs.Keyed.{put_all}
+use Rattle.ebpf_base.specs.Maps.{put_all}
 use Rattle.ebpf_parsing.specs.Symbols.{name_and_index, symbol_indices_by_name}
 use Rattle.ebpf_parsing.proofs.symbols.symbol_indices_by_name.Given as goal
 

@@ -3,7 +3,7 @@ use Rattle.std.proofs.lemmas.Iterator.Adapters.{YieldsList-from_vec, fact_from_c
 use Rattle.std.specs.BTreeMap.{IsFromIterResult}
 use Rattle.std.specs.Prelude.{IfOk}
 use Rattle.ebpf_base.proofs.Maps.{key_exact}
-use Rattle.ebpf_base.specs.Keys.{key_cmp, key_total}
+use Rattle.ebpf_base.specs.Maps.{key_cmp, key_total}
 use Rattle.ebpf_parsing.proofs.Entries.{built}
 use Rattle.ebpf_parsing.proofs.text.table_of.Goals as goal
 

@@ -1,7 +1,7 @@
 use Rattle.std.proofs.Common.{◌≡◌, false}
 use Rattle.std.specs.FinMap.{entries}
 use Rattle.ebpf_base.specs.Faults.{first_some}
-use Rattle.ebpf_base.specs.Mapped.{mapped_entries}
+use Rattle.ebpf_base.specs.Maps.{mapped_entries}
 use Rattle.ebpf_model.specs.Walks.{IsWithinFunction}
 use Rattle.ebpf_passes.specs.Relocated.{function_fault, first_fault, relocated}
 use Rattle.ebpf_passes.specs.Passes.{rule_edit_of, rule_symbols}

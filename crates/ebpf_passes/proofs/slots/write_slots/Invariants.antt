@@ -1,6 +1,6 @@
 use Rattle.std.proofs.Common.{◌≡◌}
 use Rattle.std.specs.FinMap.{entries}
-use Rattle.ebpf_base.specs.EntriesFrom.{entries_from}
+use Rattle.ebpf_base.specs.Maps.{entries_from}
 use Rattle.ebpf_passes.specs.Passes.{rule_edit_of}
 use Rattle.ebpf_passes.specs.Relocated.{slots_after_relocations}
 use Rattle.ebpf_passes.proofs.slots.write_slots.Given as goal

@@ -1,4 +1,4 @@
-use Rattle.ebpf_base.specs.Keys.{key_total}
+use Rattle.ebpf_base.specs.Maps.{key_total}
 use Rattle.ebpf_base.proofs.Maps.{key_exact}
 use Rattle.ebpf_base.proofs.Mapped.{put_all-map_values}
 use Rattle.ebpf_report.specs.HelperCalls.{helper_set}

@@ -1,6 +1,5 @@
 use Rattle.std.proofs.Common.{◌≡◌}
-use Rattle.ebpf_base.specs.Keyed.{put_all}
-use Rattle.ebpf_base.specs.Mapped.{map_values, mapped_entries}
+use Rattle.ebpf_base.specs.Maps.{put_all, map_values, mapped_entries}
 use Rattle.ebpf_report.specs.HelperCalls.{helper_set}
 use Rattle.ebpf_report.proofs.helper_calls.helpers_by_function.Given as goal
 

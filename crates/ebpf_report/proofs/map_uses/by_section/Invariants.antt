@@ -1,6 +1,5 @@
 use Rattle.std.proofs.Common.{◌≡◌, map}
-use Rattle.ebpf_base.specs.Keyed.{put_all}
-use Rattle.ebpf_base.specs.Keys.{by_bytes}
+use Rattle.ebpf_base.specs.Maps.{put_all, by_bytes}
 use Rattle.ebpf_parts.specs.Maps.{section_index_of}
 use Rattle.ebpf_report.specs.FunctionMaps.{names_by_section}
 use Rattle.ebpf_report.specs.PrivateContracts.{lent_names}

@@ -1,7 +1,6 @@
 use Rattle.std.proofs.Common.{◌≡◌}
 use Rattle.std.specs.List.{flat_map}
-use Rattle.ebpf_base.specs.Keyed.{put_all}
-use Rattle.ebpf_base.specs.Keys.{by_bytes}
+use Rattle.ebpf_base.specs.Maps.{put_all, by_bytes}
 use Rattle.ebpf_parts.specs.Maps.{symbol_index_of}
 use Rattle.ebpf_report.specs.FunctionMaps.{at_symbol, names_by_symbol}
 use Rattle.ebpf_report.specs.PrivateContracts.{lent_names}

@@ -1,6 +1,6 @@
 use Rattle.std.proofs.Common.{◌≡◌}
 use Rattle.std.specs.FinMap.{empty, entries}
-use Rattle.ebpf_base.specs.EntriesFrom.{entries_from}
+use Rattle.ebpf_base.specs.Maps.{entries_from}
 use Rattle.ebpf_report.specs.HelperCalls.{put_firsts}
 use Rattle.ebpf_report.specs.FunctionMaps.{end_of, referred}
 use Rattle.ebpf_report.specs.PrivateContracts.{names_in, up_to}

@@ -2,7 +2,7 @@ use Rattle.std.proofs.Common.{◌≡◌, [], ◌++◌, sym, ap, ◌∙◌}
 use Rattle.std.specs.FinMap.{entries}
 use Rattle.std.specs.List.{flat_map}
 use Rattle.std.specs.Option.{option_to_list}
-use Rattle.ebpf_base.specs.Keys.{by_bytes}
+use Rattle.ebpf_base.specs.Maps.{by_bytes}
 use Rattle.ebpf_base.proofs.TextMaps.{entries-text}
 use Rattle.ebpf_report.specs.FunctionMaps.{map_use}
 use Rattle.ebpf_report.proofs.map_uses.uses_at.Goals as goal

@@ -1,7 +1,7 @@
 use Rattle.std.proofs.Common.{◌≡◌}
 use Rattle.std.specs.FinMap.{empty, entries}
 use Rattle.std.specs.List.{flat_map}
-use Rattle.ebpf_base.specs.Keyed.{put_all}
+use Rattle.ebpf_base.specs.Maps.{put_all}
 use Rattle.ebpf_report.specs.FunctionMaps.{if_used, maps_used}
 use Rattle.ebpf_report.specs.PrivateContracts.{names_in}
 use Rattle.ebpf_report.proofs.map_uses.uses_by_function.Given as goal

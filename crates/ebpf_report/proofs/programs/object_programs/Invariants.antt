@@ -1,5 +1,5 @@
 use Rattle.std.proofs.Common.{◌≡◌, ◌++◌, map}
-use Rattle.ebpf_base.specs.Keys.{by_bytes}
+use Rattle.ebpf_base.specs.Maps.{by_bytes}
 use Rattle.ebpf_report.specs.ObjectPrograms.{program_row, program_rows}
 use Rattle.ebpf_report.proofs.programs.object_programs.Given as goal
 

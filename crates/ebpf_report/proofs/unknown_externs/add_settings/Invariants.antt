@@ -1,5 +1,5 @@
 use Rattle.std.proofs.Common.{◌≡◌, drop}
-use Rattle.ebpf_base.specs.Keyed.{put_all}
+use Rattle.ebpf_base.specs.Maps.{put_all}
 use Rattle.ebpf_report.specs.ObjectPrograms.{settings_named}
 use Rattle.ebpf_report.proofs.unknown_externs.add_settings.Given as goal
 

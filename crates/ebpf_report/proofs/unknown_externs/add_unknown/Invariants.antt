@@ -1,7 +1,6 @@
 use Rattle.std.proofs.Common.{◌≡◌}
 use Rattle.std.specs.FinMap.{entries}
-use Rattle.ebpf_base.specs.Keys.{by_bytes}
-use Rattle.ebpf_base.specs.Mapped.{mapped_entries}
+use Rattle.ebpf_base.specs.Maps.{by_bytes, mapped_entries}
 use Rattle.ebpf_report.specs.HelperCalls.{put_firsts}
 use Rattle.ebpf_report.specs.ObjectPrograms.{unknown}
 use Rattle.ebpf_report.proofs.unknown_externs.add_unknown.Given as goal

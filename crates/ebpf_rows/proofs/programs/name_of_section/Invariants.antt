@@ -1,6 +1,6 @@
 use Rattle.std.proofs.Common.{◌≡◌}
 use Rattle.std.specs.FinMap.{entries}
-use Rattle.ebpf_base.specs.Keys.{by_bytes}
+use Rattle.ebpf_base.specs.Maps.{by_bytes}
 use Rattle.ebpf_rows.specs.ProgramRows.{name_of_section_number}
 use Rattle.ebpf_rows.proofs.programs.name_of_section.Given as goal
 

@@ -1,6 +1,6 @@
 use Rattle.std.proofs.Common.{◌≡◌, drop}
 use Rattle.std.specs.List.{filter_map}
-use Rattle.ebpf_base.specs.Keyed.{put_all}
+use Rattle.ebpf_base.specs.Maps.{put_all}
 use Rattle.ebpf_rows.specs.Kconfig.{given_by_row, given_values}
 use Rattle.ebpf_rows.proofs.reads.given_values.Given as goal
 

@@ -1,7 +1,7 @@
 use Rattle.std.proofs.Common.{◌≡◌, ◌==◌}
 use Rattle.std.specs.FinMap.{entries}
 use Rattle.std.specs.List.{find}
-use Rattle.ebpf_base.specs.Keys.{by_bytes}
+use Rattle.ebpf_base.specs.Maps.{by_bytes}
 use Rattle.ebpf_parts.specs.Maps.{section_index_of}
 use Rattle.ebpf_rows.proofs.variables.first_of_section.Given as goal
 

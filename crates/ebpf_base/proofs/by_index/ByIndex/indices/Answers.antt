@@ -3,8 +3,7 @@ use Rattle.std.specs.Cmp.{nat_cmp_total}
 use Rattle.std.specs.FinMap.{entries, nat_cmp-IsAntisymmetric}
 use Rattle.std.specs.List.Sorted.{IsPermutation}
 use Rattle.std.specs.Map.{keys_of}
-use Rattle.ebpf_base.proofs.Maps.{distinct_numbers}
-use Rattle.ebpf_base.proofs.Sorted.{sorted_keys}
+use Rattle.ebpf_base.proofs.Maps.{distinct_numbers, sorted_keys}
 use Rattle.ebpf_base.proofs.by_index.ByIndex.indices.Goals as goal
 
 pub returns : goal.returns

@@ -1,5 +1,5 @@
 use Rattle.std.specs.Cmp.{nat_cmp_total}
-use Rattle.ebpf_base.proofs.Copies.{copied_maps}
+use Rattle.ebpf_base.proofs.SameMaps.{copied_maps}
 use Rattle.ebpf_base.proofs.by_index.ByIndexClone.clone.Goals as goal
 
 pub returns : goal.returns

@@ -1,6 +1,6 @@
 use Rattle.std.proofs.Common.{◌∙◌}
-use Rattle.ebpf_base.specs.Copies.{maps_eq}
-use Rattle.ebpf_base.proofs.Agreement.{hashed_numbers}
+use Rattle.ebpf_base.specs.Maps.{maps_eq}
+use Rattle.ebpf_base.proofs.SameMaps.{hashed_numbers}
 use Rattle.ebpf_base.proofs.by_index.ByIndexPartialEq.eq.Goals as goal
 
 pub returns : goal.returns

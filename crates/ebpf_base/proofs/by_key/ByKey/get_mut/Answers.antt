@@ -1,6 +1,6 @@
 use Rattle.std.proofs.Common.{refl, sym, ap, ◌∙◌}
 use Rattle.std.specs.FinMap.{get, insert, from_entries}
-use Rattle.ebpf_base.specs.Keys.{key_total}
+use Rattle.ebpf_base.specs.Maps.{key_total}
 use Rattle.ebpf_base.proofs.Maps.{key_exact, get-view, one_set, where_some}
 use Rattle.ebpf_base.proofs.by_key.ByKey.get_mut.Goals as goal
 

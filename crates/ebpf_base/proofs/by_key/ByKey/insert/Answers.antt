@@ -1,6 +1,6 @@
 use Rattle.std.proofs.Common.{sym, ◌∙◌, ap}
 use Rattle.std.specs.FinMap.{get, insert}
-use Rattle.ebpf_base.specs.Keys.{key_total}
+use Rattle.ebpf_base.specs.Maps.{key_total}
 use Rattle.ebpf_base.proofs.Maps.{key_exact, get-view, one_set}
 use Rattle.ebpf_base.proofs.by_key.ByKey.insert.Goals as goal
 

@@ -1,6 +1,6 @@
 use Rattle.std.proofs.Common.{◌≡◌, sym, ap, ◌∙◌, refl, Some, None, Ok, rules}
 use Rattle.std.specs.FinMap.{get, insert, from_entries}
-use Rattle.ebpf_base.specs.Keys.{key_total}
+use Rattle.ebpf_base.specs.Maps.{key_total}
 use Rattle.ebpf_base.proofs.Maps.{key_exact, get-view, one_set}
 use Rattle.ebpf_base.proofs.by_key.ByKey.replace.Goals as goal
 

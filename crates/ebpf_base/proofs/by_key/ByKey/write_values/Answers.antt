@@ -1,8 +1,7 @@
 use Rattle.std.proofs.Common.{rules, ap, ◌∙◌}
 use Rattle.std.proofs.lemmas.Map.Made.{map_same_pairs}
 use Rattle.std.specs.FinMap.{from_entries}
-use Rattle.ebpf_base.specs.Keys.{key_total}
-use Rattle.ebpf_base.specs.Mapped.{map_values}
+use Rattle.ebpf_base.specs.Maps.{key_total, map_values}
 use Rattle.ebpf_base.proofs.Maps.{key_exact}
 use Rattle.ebpf_base.proofs.Mapped.{map_values-view}
 use Rattle.ebpf_base.proofs.by_key.ByKey.write_values.Goals as goal

@@ -1,5 +1,5 @@
-use Rattle.ebpf_base.specs.Keys.{key_total}
-use Rattle.ebpf_base.proofs.Copies.{copied_maps, copied_pairs}
+use Rattle.ebpf_base.specs.Maps.{key_total}
+use Rattle.ebpf_base.proofs.SameMaps.{copied_maps, copied_pairs}
 use Rattle.ebpf_base.proofs.by_key.ByKeyClone.clone.Goals as goal
 
 pub returns : goal.returns

@@ -1,7 +1,6 @@
 use Rattle.std.proofs.Common.{sym, ◌∙◌}
-use Rattle.ebpf_base.specs.Keys.{key_total}
-use Rattle.ebpf_base.specs.Copies.{maps_eq}
-use Rattle.ebpf_base.proofs.Pointwise.{same_maps, other_maps, not_same, key_agrees}
+use Rattle.ebpf_base.specs.Maps.{key_total, maps_eq}
+use Rattle.ebpf_base.proofs.SameMaps.{same_maps, other_maps, not_same, key_agrees}
 use Rattle.ebpf_base.proofs.by_key.ByKeyPartialEq.eq.Goals as goal
 
 pub returns-then-len : goal.returns-then-len

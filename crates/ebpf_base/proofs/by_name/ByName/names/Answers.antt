@@ -2,7 +2,7 @@ use Rattle.std.proofs.Common.{◌≡◌, [], ◌++◌, map, sym, ap, ◌∙◌}
 use Rattle.std.specs.FinMap.{entries}
 use Rattle.std.specs.Map.{keys_of}
 use Rattle.std.specs.String.{string_bytes}
-use Rattle.ebpf_base.specs.Keys.{lent_bytes}
+use Rattle.ebpf_base.specs.Maps.{lent_bytes}
 use Rattle.ebpf_base.proofs.TextMaps.{keys-by_bytes, entries-text}
 use Rattle.ebpf_base.proofs.by_name.ByName.names.Goals as goal
 

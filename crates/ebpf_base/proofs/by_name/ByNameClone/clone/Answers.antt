@@ -1,5 +1,5 @@
-use Rattle.ebpf_base.specs.Keys.{text_total}
-use Rattle.ebpf_base.proofs.Copies.{copied_maps, copied_texts}
+use Rattle.ebpf_base.specs.Maps.{text_total}
+use Rattle.ebpf_base.proofs.SameMaps.{copied_maps, copied_texts}
 use Rattle.ebpf_base.proofs.by_name.ByNameClone.clone.Goals as goal
 
 pub returns : goal.returns

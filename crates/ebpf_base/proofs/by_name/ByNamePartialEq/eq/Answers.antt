@@ -1,7 +1,6 @@
 use Rattle.std.proofs.Common.{sym, ◌∙◌}
-use Rattle.ebpf_base.specs.Copies.{maps_eq}
-use Rattle.ebpf_base.specs.Keys.{text_total}
-use Rattle.ebpf_base.proofs.Pointwise.{other_maps, not_same}
+use Rattle.ebpf_base.specs.Maps.{maps_eq, text_total}
+use Rattle.ebpf_base.proofs.SameMaps.{other_maps, not_same}
 use Rattle.ebpf_base.proofs.TextMaps.{same_texts, rising_bytes, length-by_bytes}
 use Rattle.ebpf_base.proofs.by_name.ByNamePartialEq.eq.Goals as goal
 

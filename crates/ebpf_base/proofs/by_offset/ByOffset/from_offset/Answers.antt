@@ -1,7 +1,7 @@
 use Rattle.std.proofs.Common.{◌∙◌, ap}
 use Rattle.std.specs.FinMap.{entries}
-use Rattle.ebpf_base.specs.EntriesFrom.{entries_from}
-use Rattle.ebpf_base.proofs.EntriesFrom.{from-view}
+use Rattle.ebpf_base.specs.Maps.{entries_from}
+use Rattle.ebpf_base.proofs.Maps.{from-view}
 use Rattle.ebpf_base.proofs.by_offset.ByOffset.from_offset.Goals as goal
 
 pub returns-clause-part : goal.returns-clause-part

@@ -1,7 +1,7 @@
 use Rattle.std.proofs.Common.{sym, ◌∙◌}
 use Rattle.std.specs.Cmp.{nat_cmp_total}
-use Rattle.ebpf_base.specs.Copies.{maps_eq}
-use Rattle.ebpf_base.proofs.Pointwise.{same_maps, other_maps, not_same, number_agrees}
+use Rattle.ebpf_base.specs.Maps.{maps_eq}
+use Rattle.ebpf_base.proofs.SameMaps.{same_maps, other_maps, not_same, number_agrees}
 use Rattle.ebpf_base.proofs.by_offset.ByOffsetPartialEq.eq.Goals as goal
 
 pub returns-then-len : goal.returns-then-len

@@ -1,6 +1,6 @@
 use Rattle.std.proofs.Common.{◌≡◌, Ok, ap, sym, ◌∙◌}
 use Rattle.ebpf_core.specs.Searches.{outcome_of, Sides}
-use Rattle.ebpf_core.proofs.Questions.{one_more, outcomes_rest_on_questions}
+use Rattle.ebpf_core.proofs.Searching.{one_more, outcomes_rest_on_questions}
 use Rattle.ebpf_core.proofs.search.CoreSearch.cache.Goals as goal
 
 pub invariant_of-self-2 : goal.invariant_of-self-2

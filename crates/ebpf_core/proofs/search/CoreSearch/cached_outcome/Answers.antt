@@ -1,8 +1,7 @@
 use Rattle.std.proofs.Common.{◌≡◌, Some, sym, ap, ◌∙◌}
 use Rattle.std.specs.BTreeMap.{get}
 use Rattle.std.specs.Option.{option_copied}
-use Rattle.ebpf_core.specs.Questions.{question_cmp}
-use Rattle.ebpf_core.specs.Searches.{outcome_of, Sides}
+use Rattle.ebpf_core.specs.Searches.{question_cmp, outcome_of, Sides}
 use Rattle.ebpf_core.proofs.search.CoreSearch.cached_outcome.Goals as goal
 
 pub returns-in-Some-clause-outcome : goal.returns-in-Some-clause-outcome

@@ -1,5 +1,5 @@
 use Rattle.std.proofs.Common.{◌≡◌, length, ap, arith}
-use Rattle.ebpf_core.proofs.Questions.{none_cached}
+use Rattle.ebpf_core.proofs.Searching.{none_cached}
 use Rattle.ebpf_core.proofs.search.CoreSearch.new.Goals as goal
 
 pub invariant_of-result : goal.invariant_of-result

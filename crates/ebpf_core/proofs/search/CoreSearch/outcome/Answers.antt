@@ -1,4 +1,4 @@
-use Rattle.ebpf_core.specs.Refused.{OutcomeIsRefused}
+use Rattle.ebpf_core.specs.Laws.{OutcomeIsRefused}
 use Rattle.ebpf_core.proofs.Refused.{outcome_first, refused_so}
 use Rattle.ebpf_core.proofs.search.CoreSearch.outcome.Goals as goal
 

@@ -1,4 +1,4 @@
-use Rattle.ebpf_core_candidates.proofs.NameMarks.{has_names}
+use Rattle.ebpf_core_candidates.proofs.Names.{has_names}
 use Rattle.ebpf_core_candidates.proofs.type_index.TypeIndex.of_names.Goals as goal
 
 pub returns-clause-names : goal.returns-clause-names

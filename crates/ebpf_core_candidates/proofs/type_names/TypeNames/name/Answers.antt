@@ -3,10 +3,8 @@ use Rattle.std.specs.Prelude.{option_map, slice_get}
 use Rattle.std.specs.FinMap.{empty, get, get-empty}
 use Rattle.std.specs.Ordering.{nat_cmp}
 use Rattle.ebpf_btf.specs.Types.{name_off}
-use Rattle.ebpf_core_candidates.specs.OddNames.{odd_at}
-use Rattle.ebpf_core_candidates.specs.PrivateContracts.{odd_text_at}
-use Rattle.ebpf_core_candidates.proofs.Heads.{odd_headed}
-use Rattle.ebpf_core_candidates.proofs.OddTexts.{readable_plain}
+use Rattle.ebpf_core_candidates.specs.TypeRows.{odd_at, odd_text_at}
+use Rattle.ebpf_core_candidates.proofs.Names.{odd_headed, readable_plain}
 use Rattle.ebpf_core_candidates.proofs.type_names.TypeNames.name.Goals as goal
 
 pub returns-then-is_empty : goal.returns-then-is_empty

@@ -1,8 +1,7 @@
 use Rattle.std.proofs.Common.{◌≡◌, Some, sym, ap, ◌∙◌}
 use Rattle.std.specs.BTreeMap.{get}
 use Rattle.std.specs.Option.{option_copied}
-use Rattle.ebpf_core.specs.Questions.{question_cmp}
-use Rattle.ebpf_core.specs.Searches.{Sides}
+use Rattle.ebpf_core.specs.Searches.{question_cmp, Sides}
 use Rattle.ebpf_core_relo.specs.Absences.{absence_of}
 use Rattle.ebpf_core_relo.proofs.record_search.RecordSearch.absence.Goals as goal
 

@@ -1,5 +1,5 @@
 use Rattle.std.proofs.Common.{◌≡◌, ap, sym, ◌∙◌}
-use Rattle.ebpf_core.proofs.Questions.{one_more}
+use Rattle.ebpf_core.proofs.Searching.{one_more}
 use Rattle.ebpf_core.specs.Searches.{Sides}
 use Rattle.ebpf_core_relo.specs.Absences.{absence_of}
 use Rattle.ebpf_core_relo.proofs.MatchAbsences.{same_absence}

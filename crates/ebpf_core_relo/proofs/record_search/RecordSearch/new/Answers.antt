@@ -1,4 +1,4 @@
-use Rattle.ebpf_core.proofs.Questions.{none_cached}
+use Rattle.ebpf_core.proofs.Searching.{none_cached}
 use Rattle.ebpf_core_relo.proofs.record_search.RecordSearch.new.Goals as goal
 
 pub invariant_of-result : goal.invariant_of-result

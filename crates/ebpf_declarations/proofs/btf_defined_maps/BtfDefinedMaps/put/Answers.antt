@@ -3,11 +3,10 @@ use Rattle.std.specs.Bool.{MatchBool}
 use Rattle.std.specs.FinMap.{get}
 use Rattle.std.specs.Prelude.{⊤}
 use Rattle.ebpf_base.specs.Faults.{Refuses}
-use Rattle.ebpf_base.specs.Keyed.{put_all}
-use Rattle.ebpf_declarations.specs.DistinctMaps.{AreMapsOf}
-use Rattle.ebpf_declarations.specs.TypesInReading.{TypesInReading}
-use Rattle.ebpf_declarations.specs.Maps.{btf_maps, btf_maps_fault}
-use Rattle.ebpf_declarations.proofs.Distinct.{same_maps, same_fault}
+use Rattle.ebpf_base.specs.Maps.{put_all}
+use Rattle.ebpf_declarations.specs.SectionMaps.{AreMapsOf}
+use Rattle.ebpf_declarations.specs.Maps.{TypesInReading, btf_maps, btf_maps_fault}
+use Rattle.ebpf_declarations.proofs.SectionMaps.{same_maps, same_fault}
 use Rattle.ebpf_declarations.proofs.btf_defined_maps.BtfDefinedMaps.put.Goals as goal
 use Rattle.ebpf_parts.specs.Memory.{is_parse_memory}
 use Rattle.ebpf_parts.specs.declared.error.ParseError.{ParseError}

@@ -3,15 +3,15 @@ use Rattle.std.specs.Bool.{MatchBool}
 use Rattle.std.specs.Prelude.{⊤, slice_get}
 use Rattle.std.specs.FinMap.{get}
 use Rattle.std.specs.List.{zip}
-use Rattle.ebpf_base.proofs.Keyed.{put_all-append}
+use Rattle.ebpf_base.proofs.Mapped.{put_all-append}
 use Rattle.ebpf_base.specs.Faults.{Refuses, first_some, or_else}
-use Rattle.ebpf_base.specs.Keyed.{put_all}
-use Rattle.ebpf_declarations.proofs.Kept.{pair_left, no_value_left}
-use Rattle.ebpf_declarations.proofs.NamedSections.{refused_first}
-use Rattle.ebpf_declarations.specs.Attempts.{given}
-use Rattle.ebpf_declarations.specs.DistinctMaps.{missing, defined_maps, distinct_fault}
+use Rattle.ebpf_base.specs.Maps.{put_all}
+use Rattle.ebpf_declarations.proofs.NumberedNames.{pair_left, no_value_left}
+use Rattle.ebpf_declarations.proofs.SectionMaps.{refused_first}
+use Rattle.ebpf_declarations.specs.DataSections.{given}
+use Rattle.ebpf_declarations.specs.SectionMaps.{missing, defined_maps, distinct_fault}
 use Rattle.ebpf_declarations.specs.Maps.{map_with_symbol}
-use Rattle.ebpf_declarations.specs.declared.definitions.MapDefinitions.{MapDefinitions}
+use Rattle.ebpf_declarations.specs.declared.members.MapDefinitions.{MapDefinitions}
 use Rattle.ebpf_declarations.proofs.distinct_maps.DistinctMaps.put.Goals as goal
 use Rattle.ebpf_parts.specs.Memory.{is_parse_memory}
 use Rattle.ebpf_parts.specs.declared.error.ParseError.{ParseError}

@@ -2,8 +2,8 @@ use Rattle.std.proofs.Common.{◌≡◌, drop}
 use Rattle.std.specs.FinMap.{get}
 use Rattle.std.specs.List.{zip}
 use Rattle.ebpf_base.specs.Faults.{first_some}
-use Rattle.ebpf_base.specs.Keyed.{put_all}
-use Rattle.ebpf_declarations.specs.DistinctMaps.{missing, defined_maps, distinct_maps, distinct_fault}
+use Rattle.ebpf_base.specs.Maps.{put_all}
+use Rattle.ebpf_declarations.specs.SectionMaps.{missing, defined_maps, distinct_maps, distinct_fault}
 use Rattle.ebpf_declarations.proofs.distinct_maps.DistinctMaps.put.Given as goal
 
 -- what is left to do from here is what was to do from the start

@@ -3,7 +3,7 @@ use Rattle.std.specs.BTreeMap.{BTreeMap, Updates}
 use Rattle.std.specs.Cow.{cow_str_bytes}
 use Rattle.std.specs.Ordering.{nat_cmp}
 use Rattle.ebpf_declarations.proofs.NumberedNames.{known_number, one_offset}
-use Rattle.ebpf_declarations.specs.NumberedNames.{HasNumber}
+use Rattle.ebpf_declarations.specs.SectionMaps.{HasNumber}
 use Rattle.ebpf_declarations.proofs.numbered_names.NumberedNames.number_at.Goals as goal
 
 pub returns-in-Some-clause-number : goal.returns-in-Some-clause-number

@@ -1,7 +1,7 @@
-use Rattle.std.proofs.Common.{rules, ◌≡◌, ◌∷◌, ◌++◌, [], Some, None, length, sym, subst}
+use Rattle.std.proofs.Common.{rules, ◌≡◌, ◌∷◌, ◌++◌, [], None, length, sym, subst}
 use Rattle.std.specs.FinMap.{get, insert}
 use Rattle.ebpf_declarations.proofs.NumberedNames.{known_number, new_number, one_distinct}
-use Rattle.ebpf_declarations.specs.NumberedNames.{AreDistinct, HasNumber}
+use Rattle.ebpf_declarations.specs.SectionMaps.{AreDistinct, HasNumber}
 use Rattle.ebpf_declarations.proofs.numbered_names.NumberedNames.number_of.Goals as goal
 
 pub returns-in-Some-clause-number : goal.returns-in-Some-clause-number

@@ -1,6 +1,6 @@
 use Rattle.std.proofs.Common.{◌∙◌}
 use Rattle.ebpf_ksyms.specs.PrivateContracts.{value_named}
-use Rattle.ebpf_ksyms.proofs.Listed.{named-step, named-end}
+use Rattle.ebpf_ksyms.proofs.Resolving.{named-step, named-end}
 use Rattle.ebpf_ksyms.proofs.named.Named.new.Goals as goal
 
 pub loop-name-preserved : goal.loop-name-preserved

@@ -1,7 +1,7 @@
 use Rattle.std.proofs.Common.{◌≡◌, ℕ, List, Some, drop}
 use Rattle.std.specs.Prelude.{if◌then◌else◌}
 use Rattle.std.specs.BTreeMap.{get_by}
-use Rattle.ebpf_base.specs.Keys.{lent_bytes, text_cmp}
+use Rattle.ebpf_base.specs.Maps.{lent_bytes, text_cmp}
 use Rattle.ebpf_ksyms.specs.Addresses.{is_one_of}
 use Rattle.ebpf_ksyms.specs.PrivateContracts.{only_at}
 use Rattle.ebpf_ksyms.proofs.named.Named.new.Given as goal

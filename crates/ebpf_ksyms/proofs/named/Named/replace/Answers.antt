@@ -2,9 +2,9 @@ use Rattle.std.proofs.Common.{◌≡◌, Some, None, IsSome, ap, subst, sym, ◌
 use Rattle.std.specs.BTreeMap.{get_by}
 use Rattle.std.specs.Str.{bytes_eq}
 use Rattle.std.proofs.lemmas.Map.Text.{btree_map_updates_str}
-use Rattle.ebpf_base.specs.Keys.{text_cmp}
+use Rattle.ebpf_base.specs.Maps.{text_cmp}
 use Rattle.ebpf_ksyms.specs.PrivateContracts.{value_named}
-use Rattle.ebpf_ksyms.proofs.Listed.{put_there, not_there, same_bytes}
+use Rattle.ebpf_ksyms.proofs.Resolving.{put_there, not_there, same_bytes}
 use Rattle.ebpf_ksyms.proofs.named.Named.replace.Goals as goal
 
 pub returns-in-Some : goal.returns-in-Some

@@ -1,7 +1,7 @@
 use Rattle.std.proofs.Common.{subst, ap, ◌∙◌}
 use Rattle.std.specs.FinMap.{get}
 use Rattle.ebpf_base.specs.Faults.{Refuses, first_some}
-use Rattle.ebpf_base.specs.Keys.{lent_bytes}
+use Rattle.ebpf_base.specs.Maps.{lent_bytes}
 use Rattle.ebpf_object.specs.Patches.{patch_fault_at, globals_of}
 use Rattle.ebpf_parts.specs.Memory.{is_parse_memory}
 use Rattle.ebpf_object.proofs.object.Object.patches.Goals as goal

@@ -1,6 +1,6 @@
 use Rattle.std.proofs.Common.{◌≡◌, map}
 use Rattle.std.specs.List.{flat_map}
-use Rattle.ebpf_base.specs.Keyed.{put_all}
+use Rattle.ebpf_base.specs.Maps.{put_all}
 use Rattle.ebpf_parts.specs.Sections.{section_of}
 use Rattle.ebpf_parsing.specs.Sections.{data_row, last_data, object_sections}
 use Rattle.ebpf_parsing.proofs.Added.{others}

@@ -1,8 +1,8 @@
 use Rattle.std.proofs.Common.{List, ℕ, subst, sym, ap, ◌∙◌, IfOk, IfErr, MatchBool}
 use Rattle.std.specs.Prelude.{⊤}
 use Rattle.std.specs.List.Sorted.{IsStrictlySortedBy}
-use Rattle.ebpf_base.proofs.Sorted.{entries_rise}
-use Rattle.ebpf_base.specs.Keys.{key_cmp}
+use Rattle.ebpf_base.proofs.Maps.{entries_rise}
+use Rattle.ebpf_base.specs.Maps.{key_cmp}
 use Rattle.ebpf_reloc.proofs.SoFar.{no_program}
 use Rattle.ebpf_reloc.proofs.Keys.{number_names}
 use Rattle.ebpf_reloc.specs.Linking.{IsProgramFault}

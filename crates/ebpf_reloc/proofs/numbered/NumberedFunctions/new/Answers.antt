@@ -1,7 +1,7 @@
 use Rattle.std.proofs.Common.{List, ℕ, subst, sym, ◌∙◌}
 use Rattle.std.specs.List.Sorted.{IsStrictlySortedBy}
-use Rattle.ebpf_base.proofs.Sorted.{entries_rise}
-use Rattle.ebpf_base.specs.Keys.{key_cmp}
+use Rattle.ebpf_base.proofs.Maps.{entries_rise}
+use Rattle.ebpf_base.specs.Maps.{key_cmp}
 use Rattle.ebpf_reloc.proofs.numbered.NumberedFunctions.new.Goals as goal
 
 pub all_calls-requires : goal.all_calls-requires

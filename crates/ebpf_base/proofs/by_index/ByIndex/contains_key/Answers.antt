@@ -1,8 +1,0 @@
-use Rattle.std.proofs.Common.{sym, ◌∙◌, ap}
-use Rattle.std.specs.FinMap.{get}
-use Rattle.std.specs.Option.{is_some}
-use Rattle.ebpf_base.proofs.Maps.{get-number}
-use Rattle.ebpf_base.proofs.by_index.ByIndex.contains_key.Goals as goal
-
-pub returns : goal.returns
-returns g c = c.contains_key.ensures ∙ ap is_some (sym (get-number _ c.args.index) ∙ ap (λ m. get m c.args.index) c.self.view_is)

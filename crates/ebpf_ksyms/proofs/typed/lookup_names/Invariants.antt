@@ -1,8 +1,0 @@
-use Rattle.std.proofs.Common.{◌≡◌, ◌++◌, drop}
-use Rattle.ebpf_base.specs.Keys.{lent_bytes}
-use Rattle.ebpf_ksyms.specs.PrivateContracts.{lookup_names}
-use Rattle.ebpf_ksyms.proofs.typed.lookup_names.Given as goal
-
--- with those of the externs that are left, all are there
-abbrev pub invariant-loop-entry : goal.invariant-loop-entry
-invariant-loop-entry l = lent_bytes l.names.items ++ lookup_names l.local (drop l.entry-index l.all) ≡ lookup_names l.local l.all
