@@ -1,4 +1,2 @@
-pub mod Answering
-pub mod Gathered
 pub mod LinkingAfter
 pub mod Reports

@@ -1,12 +1,14 @@
 -- An object that is prepared without linking its programs, and then linked.
 use Rattle.std.proofs.Common.{◌≡◌, ◌∙◌, ℕ, true, false, List, None, sym, subst}
 use Rattle.ebpf_inspect.specs.Inspected.{with_linking, AreReports, AreReportsOf, IsInspected}
+use Rattle.ebpf_inspect.specs.Named.{WithLinked}
 use Rattle.ebpf_inspect.specs.declared.report.ProgramReport.{ProgramReport}
 use Rattle.ebpf_ksyms.specs.Sources.{Source}
 use Rattle.ebpf_object.proofs.Headline.{finished}
+use Rattle.ebpf_object.proofs.Staging.{other_fault, refused_as}
 use Rattle.ebpf_object.specs.LinkedPrograms.{programs_in_order}
 use Rattle.ebpf_object.specs.Objects.{object_as, parse_fault_as}
-use Rattle.ebpf_object.specs.Prepared.{IsStageFault, IsParsed, IsPrepared, Stages}
+use Rattle.ebpf_object.specs.Prepared.{IsStageFault, IsParsed, IsPrepared, Stages, RefusesPreparing, NamesNothing, is_prepare_memory}
 use Rattle.ebpf_object.specs.Stages.{Wrapped, LinksPrograms, LinkingFault, Chosen}
 use Rattle.ebpf_object.specs.declared.object.Object.{Object}
 use Rattle.ebpf_object.specs.declared.prepare_error.PrepareError.{PrepareError}
@@ -27,10 +29,13 @@ module _ (s : Chosen) (lines : Source) where
   same_fault o (Calls e) f = absurd f.fault
   same_fault o OutOfMemory f = elim f [ ]
 
+  pub refused_before : (o : Object) (e : PrepareError) → RefusesPreparing (IsStageFault alone lines o) e → RefusesPreparing (IsStageFault (with_linking s) lines o) e
+  refused_before o e refused = other_fault (is_prepare_memory e) (NamesNothing e) (IsStageFault alone lines o e) (IsStageFault (with_linking s) lines o e) (same_fault o e) refused
+
   module _ (o d : Object) (stages : Stages alone lines o d) where
-    -- a fault of linking
-    pub unlinked : (e : PrepareError) → Wrapped Calls (LinkingFault true d) e → IsStageFault (with_linking s) lines o e
-    unlinked e f = subst (λ (x : PrepareError). IsStageFault (with_linking s) lines o x) (sym f.1) (record { before = d; stages = stages; fault = f.2 })
+    -- a refusal of linking
+    pub unlinked : (e : PrepareError) → RefusesPreparing (Wrapped Calls (LinkingFault true d)) e → RefusesPreparing (IsStageFault (with_linking s) lines o) e
+    unlinked e refused = refused_as Calls (LinkingFault true d) (IsStageFault (with_linking s) lines o) (λ own fault. record { before = d; stages = stages; fault = fault }) e refused
 
     abbrev is_linked : (linked : Object) → LinksPrograms true d linked → Stages (with_linking s) lines o linked
     is_linked linked links = record {
@@ -47,8 +52,8 @@ module _ (s : Chosen) (lines : Source) where
       calls = links;
     }
 
-    pub reported : (linked : Object) (links : LinksPrograms true d linked) (rs : List ProgramReport) → AreReports d linked (programs_in_order d.programs) rs → AreReportsOf s lines o rs
-    reported linked links rs each =
+    pub reported : (rs : List ProgramReport) → WithLinked d rs → AreReportsOf s lines o rs
+    reported rs (linked, links, each) =
         record {
           linked = linked;
           stages = is_linked linked links;

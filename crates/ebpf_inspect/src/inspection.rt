@@ -1,22 +1,20 @@
 //! The programs of a file, linked, with what they are made of.
 
-ghost use Rattle.std.specs.Prelude.{◌≡◌, ℕ, List, false, true, map, IfOk, IfErr, OnOk};
-ghost use Rattle.ebpf_inspect.specs.Inspected.{with_linking, AreReports, AreReportsOf, IsInspected};
-ghost use Rattle.ebpf_inspect.specs.Named.{report_of, function_slots_at};
-ghost use Rattle.ebpf_object.specs.LinkedPrograms.{programs_in_order};
+ghost use Rattle.std.specs.Prelude.{◌≡◌, ℕ, List, false, true, IfOk, IfErr};
+ghost use Rattle.ebpf_inspect.specs.Inspected.{with_linking, AreReportsOf, IsInspected};
+ghost use Rattle.ebpf_inspect.specs.Named.{WithLinked};
 ghost use Rattle.ebpf_object.specs.Prepared.{IsParsed, IsStageFault, IsFirstPrepareFault, RefusesPreparing};
-ghost use Rattle.ebpf_object.specs.Stages.{Wrapped, LinksPrograms, LinkingFault, chosen};
+ghost use Rattle.ebpf_object.specs.Stages.{Wrapped, LinkingFault, chosen};
 ghost use Rattle.ebpf_object.specs.declared.prepare_error.PrepareError.TheVariants.{Calls};
 ghost use Rattle.ebpf_parts.specs.declared.reading.Reading.{Reading};
 ghost use Rattle.ebpf_parts.specs.declared.reading.Reading.TheVariants.{Stated};
 
-use crate::maps::{NamedMap, link_maps};
-use crate::report::ProgramReport;
+use crate::report::{ProgramReport, reports_of};
 use ebpf_base::Items;
 use ebpf_object::Object;
-use ebpf_object::insn::bpf_insn;
 use ebpf_object::prepare::{PrepareError, Steps, SymbolSource, prepare_object};
-use std::alloc::{AllocError, Global};
+use ebpf_object::relocation::programs_in_order;
+use std::alloc::Global;
 
 /// The chosen passes, but for the linking of programs.
 fn without_calls<'a>(steps: &Steps<'a>) -> Steps<'a>
@@ -30,59 +28,18 @@ fn without_calls<'a>(steps: &Steps<'a>) -> Steps<'a>
     }
 }
 
-/// A copy of the slots of the function at a key.
-fn function_slots_at(
-    alloc: Global,
-    object: &Object,
-    key: (usize, u64),
-) -> Result<Items<bpf_insn>, AllocError>
-    ensures { IfOk result (λ slots. slots ≡ function_slots_at object.now key) }
-{
-    match object.functions.get(key) {
-        Some(function) => function.instructions.clone(),
-        None => Ok(Items::new(alloc)),
-    }
-}
-
-/// The reports of programs, by their maps.
-fn reports_of(
-    alloc: Global,
-    object: &Object,
-    maps: Vec<NamedMap>,
-) -> Result<Items<ProgramReport>, AllocError>
-    ensures { IfOk result (λ reports. reports ≡ map (report_of object.now) maps.items) }
-{
-    let mut reports = Vec::with_capacity(alloc, maps.len())?;
-    for named in maps {
-        let slots = function_slots_at(alloc, object, named.key)?;
-        reports.push(ProgramReport {
-            name: named.name,
-            slots,
-            copies: named.map.copies,
-            references: named.map.references,
-        })?;
-    }
-    Ok(Items::from_vec(reports))
-}
-
-/// Links the programs of a prepared object, and reports what each is made of.
-#[tactic(auto, using(ebpf_object::proofs::Staging::wrapped))]
-fn report(alloc: Global, object: &mut Object) -> Result<Items<ProgramReport>, PrepareError>
-    ensures is_linked { OnOk result (LinksPrograms true object.old object.new) }
-    ensures reports { IfOk result (AreReports object.old object.new (programs_in_order object.old.programs)) }
-    ensures fault { IfErr result (RefusesPreparing (Wrapped Calls (LinkingFault true object.old))) }
+/// The reports of an object's programs, each linked from the functions as they are.
+fn report(alloc: Global, object: &Object) -> Result<Items<ProgramReport>, PrepareError>
+    ensures reports { IfOk result (WithLinked object.now) }
+    ensures fault { IfErr result (RefusesPreparing (Wrapped Calls (LinkingFault true object.now))) }
 {
     let text_sections = object.text_sections(alloc)?;
-    let maps = link_maps(alloc, object, &text_sections);
-    match object.relocate_calls(&text_sections) {
-        Ok(()) => {}
+    let programs = programs_in_order(alloc, &object.programs)?;
+    let of = match object.program_maps(&text_sections) {
+        Ok(of) => of,
         Err(error) => return Err(PrepareError::Calls(error)),
-    }
-    let maps = match maps {
-        Ok(maps) => maps,
-        Err(error) => return Err(error),
     };
-    Ok(reports_of(alloc, object, maps)?)
+    reports_of(alloc, &of.functions, &programs)
 }
 
 /// Prepares an object with the chosen passes, links its programs, and reports what each is made of.
@@ -95,11 +52,11 @@ fn inspect_all<K: SymbolSource>(
     ensures reports { IfOk result (AreReportsOf (chosen steps.now) (K.source kallsyms) object) }
     ensures fault { IfErr result (RefusesPreparing (IsStageFault (with_linking (chosen steps.now)) (K.source kallsyms) object)) }
 {
-    let mut prepared = match prepare_object(alloc, object, &without_calls(steps), kallsyms) {
+    let prepared = match prepare_object(alloc, object, &without_calls(steps), kallsyms) {
         Ok(prepared) => prepared,
         Err(error) => return Err(error),
     };
-    report(alloc, &mut prepared)
+    report(alloc, &prepared)
 }
 
 /// The programs of an object after the chosen passes, as `inspect` gives them of a file. After a refusal the object is

@@ -2,7 +2,6 @@
 #![tactic(auto)]
 
 mod inspection;
-mod maps;
 mod report;
 
 pub use inspection::{inspect, inspect_object};

@@ -54,7 +54,7 @@ fn programs_named<'a>(
 }
 
 /// The programs with the keys of their functions, in byte order of names.
-fn programs_in_order<'a>(
+pub fn programs_in_order<'a>(
     alloc: Global,
     programs: &'a ByName<Program>,
 ) -> Result<Vec<ProgramKey<'a>>, AllocError>

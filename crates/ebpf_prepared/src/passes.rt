@@ -1,15 +1,15 @@
 //! The passes over an object.
 
 use crate::kernel::Kernel;
-use ebpf_base::Items;
+use ebpf_base::{ByKey, Items};
 use ebpf_btf::Btf;
+use ebpf_model::Function;
 use ebpf_object::Object;
 use ebpf_object::prepare::{PrepareError, Steps, SymbolText, prepare_copy};
-use ebpf_object::relocation::{LinkMap, ProgramMaps};
+use ebpf_object::relocation::{LinkMap, LinkedFunction, ProgramKey, programs_in_order};
 use ebpf_report::map_uses::own_descriptors;
 use ebpf_report::programs::ObjectProgram;
 use std::alloc::{AllocError, Global};
-use std::collections::HashSet;
 
 /// What becomes of the slots that refer to maps.
 #[derive(Clone, Copy, PartialEq, Eq)]
@@ -78,48 +78,72 @@ fn write_all(
     }
 }
 
-/// What a program is made of once it is linked.
-fn link_map_of(maps: &ProgramMaps<'_>, name: &str) -> Result<LinkMap, PrepareError> {
-    match maps.of(name) {
-        Ok(Some(map)) => Ok(map),
-        Ok(None) => Err(PrepareError::OutOfMemory),
-        Err(error) => Err(PrepareError::Calls(error)),
-    }
+/// Linked functions by their keys, and what programs are made of.
+#[derive(Drop)]
+struct LinkedPrograms {
+    functions: ByKey<Function>,
+    maps: Items<LinkMap>,
 }
 
-/// What each of these programs is made of once it is linked.
-fn link_maps(
+/// Adds a linked program, and what it is made of where it is the next of the chosen ones.
+fn add_linked(
+    linked: &mut LinkedPrograms,
+    program: &ProgramKey<'_>,
+    chosen: &[ObjectProgram],
+    made: LinkedFunction,
+) -> Result<(), AllocError> {
+    let key = (program.section_index, program.address);
+    linked.functions.insert(key, made.function)?;
+    if chosen
+        .get(linked.maps.len())
+        .is_some_and(|next| next.name.is(program.name))
+    {
+        linked.maps.push(made.map)?;
+    }
+    Ok(())
+}
+
+/// All programs of an object, linked from its functions as they are, with what each of the chosen ones is made of. These
+/// are in byte order of their names.
+fn linked_programs(
     alloc: Global,
     object: &Object,
-    sections: &HashSet<usize>,
-    programs: &[ObjectProgram],
-) -> Result<Items<LinkMap>, PrepareError> {
-    let Ok(maps) = object.program_maps(sections) else {
-        return Err(PrepareError::OutOfMemory);
+    chosen: &[ObjectProgram],
+) -> Result<LinkedPrograms, PrepareError> {
+    let sections = object.text_sections(alloc)?;
+    let of = match object.program_maps(&sections) {
+        Ok(of) => of,
+        Err(error) => return Err(PrepareError::Calls(error)),
     };
-    let mut all = Items::new(alloc);
-    for program in programs {
-        let map = link_map_of(&maps, program.name.as_str())?;
-        match all.push(map) {
-            Ok(()) => {}
-            Err(_) => return Err(PrepareError::OutOfMemory),
+    let mut linked = LinkedPrograms {
+        functions: ByKey::new(alloc),
+        maps: Items::new(alloc),
+    };
+    for program in programs_in_order(alloc, &object.programs)? {
+        match of.functions.linked_with_map(alloc, &program) {
+            Ok(made) => add_linked(&mut linked, &program, chosen, made)?,
+            Err(error) => return Err(PrepareError::Calls(error)),
         }
     }
-    Ok(all)
+    Ok(linked)
 }
 
-/// Links the programs of an object; what each of these is made of.
+/// Puts functions in the places of those at their keys.
+fn take_places(functions: &mut ByKey<Function>, linked: ByKey<Function>) {
+    for (key, function) in linked.into_map() {
+        drop(functions.replace(key, function));
+    }
+}
+
+/// Links the programs of an object; what each of the chosen ones is made of.
 fn link_all(
     alloc: Global,
     object: &mut Object,
-    programs: &[ObjectProgram],
+    chosen: &[ObjectProgram],
 ) -> Result<Items<LinkMap>, PrepareError> {
-    let sections = object.text_sections(alloc)?;
-    let maps = link_maps(alloc, object, &sections, programs);
-    match object.relocate_calls(&sections) {
-        Ok(()) => maps,
-        Err(error) => Err(PrepareError::Calls(error)),
-    }
+    let linked = linked_programs(alloc, object, chosen)?;
+    take_places(&mut object.functions, linked.functions);
+    Ok(linked.maps)
 }
 
 /// An object after all passes, with what its programs are made of.

@@ -84,7 +84,7 @@ fn named_copies(
 
 impl<'a> NumberedFunctions<'a> {
     /// What a layout's program is made of.
-    fn mapped(&self, alloc: Global, layout: &Layout) -> Result<LinkMap, AllocError>
+    pub(crate) fn mapped(&self, alloc: Global, layout: &Layout) -> Result<LinkMap, AllocError>
         requires start { layout.now.start < length (function_keys (read self.now.parts).functions) }
         requires laid_out { IsLaidOut self.now.bodies.items self.now.calls.items layout.now }
         ensures { IfOk result (λ m. IsLinkMapAt (read self.now.parts) (key_in (function_keys (read self.now.parts).functions) layout.now.start) m) }

@@ -3,11 +3,12 @@
 ghost use Rattle.std.specs.Prelude.{◌≡◌, ◌<◌, length, true, IfOk, OnOk, IfErr, Some, ⊤, MatchBool, slice_get};
 ghost use Rattle.std.specs.FinMap as map;
 ghost use Rattle.ebpf_linker.specs.Copies.{IsLaidOut};
-ghost use Rattle.ebpf_reloc.specs.Linking.{ProgramValue, key_of, with_linked, IsLinked, IsProgramRefusal, AreLinked, IsFirstRefusal};
+ghost use Rattle.ebpf_reloc.specs.Linking.{ProgramValue, key_of, with_linked, IsLinked, IsLinkMapAt, IsProgramRefusal, AreLinked, IsFirstRefusal};
 ghost use Rattle.ebpf_model.specs.Memory.{is_memory_at, NamesNoneForMemory};
 ghost use Rattle.ebpf_reloc.specs.Numbers.{function_keys, function_list, key_in};
 ghost use Rattle.ebpf_reloc.specs.SlotTargets.{read};
 
+use crate::link_map::LinkMap;
 use crate::linkable::Linkable;
 use crate::numbered::NumberedFunctions;
 use ebpf_base::ByKey;
@@ -41,6 +42,15 @@ impl ProgramKey<'_> {
     {
         (self.section_index, self.address)
     }
+}
+
+/// A program's function, linked, and what it is made of.
+#[derive(Debug, Drop)]
+pub struct LinkedFunction {
+    /// The function.
+    pub function: Function,
+    /// The copies of functions that it is made of, and the references between these.
+    pub map: LinkMap,
 }
 
 /// A function with the slots and the records of a linked program.
@@ -90,6 +100,23 @@ impl<'a> NumberedFunctions<'a> {
         let linked = link(alloc, &self.tables, bodies, calls, layout)?;
         with_linked(self.function(layout.start), linked)
     }
+
+    /// The function of a layout's program, linked, and what it is made of.
+    fn linked_and_mapped(
+        &self,
+        alloc: Global,
+        layout: &Layout,
+    ) -> Result<LinkedFunction, AllocError>
+        requires start { layout.now.start < length (function_keys (read self.now.parts).functions) }
+        requires laid_out { IsLaidOut self.now.bodies.items self.now.calls.items layout.now }
+        ensures linked { IfOk result (λ l. IsLinked (read self.now.parts) (key_in (function_keys (read self.now.parts).functions) layout.now.start) l.function) }
+        ensures mapped { IfOk result (λ l. IsLinkMapAt (read self.now.parts) (key_in (function_keys (read self.now.parts).functions) layout.now.start) l.map) }
+    {
+        Ok(LinkedFunction {
+            function: self.linked(alloc, layout)?,
+            map: self.mapped(alloc, layout)?,
+        })
+    }
 }
 
 impl NumberedFunctions<'_> {
@@ -109,6 +136,32 @@ impl NumberedFunctions<'_> {
         };
         match self.linked(alloc, &layout) {
             Ok(function) => Ok(function),
+            Err(_) => Err(EbpfRelocationError::memory(alloc)),
+        }
+    }
+
+    /// A program's function, linked as `relocate_calls` links it, and what it is made of, from one search. The functions
+    /// keep their numbers for further programs.
+    ///
+    /// # Errors
+    ///
+    /// Those of `relocate_calls` for this program alone.
+    pub fn linked_with_map(
+        &self,
+        alloc: Global,
+        program: &ProgramKey<'_>,
+    ) -> Result<LinkedFunction, EbpfRelocationError>
+        ensures linked { IfOk result (λ l. IsLinked (read self.now.parts) (key_of program.now) l.function) }
+        ensures mapped { IfOk result (λ l. IsLinkMapAt (read self.now.parts) (key_of program.now) l.map) }
+        ensures fault { IfErr result (λ e. MatchBool (is_memory_at e) ⊤ (IsProgramRefusal (read self.now.parts) program.now e)) }
+        ensures memory { IfErr result NamesNoneForMemory }
+    {
+        let layout = match self.layout(alloc, program) {
+            Ok(layout) => layout,
+            Err(error) => return Err(error),
+        };
+        match self.linked_and_mapped(alloc, &layout) {
+            Ok(linked) => Ok(linked),
             Err(_) => Err(EbpfRelocationError::memory(alloc)),
         }
     }

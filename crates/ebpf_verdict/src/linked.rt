@@ -6,10 +6,9 @@ use ebpf_core_relo::put_slots;
 use ebpf_model::{EbpfRelocationError, ExternDesc, Function, RelocationError};
 use ebpf_object::Object;
 use ebpf_object::prepare::{PrepareError, relocate_own_maps};
-use ebpf_object::relocation::ProgramMaps;
+use ebpf_object::relocation::{CodeCopy, LinkedFunction, ProgramKey, ProgramMaps};
 use ebpf_parts::insn::bpf_insn;
 use ebpf_reach::reached_slots;
-use ebpf_reloc::{CodeCopy, Linkable, ProgramKey, relocate_calls};
 use ebpf_report::map_uses::own_descriptors;
 use ebpf_report::programs::ObjectProgram;
 use std::alloc::{AllocError, Global};
@@ -134,125 +133,40 @@ fn key_of(program: &ObjectProgram) -> ProgramKey<'_> {
     }
 }
 
-/// What the linker needs of each program.
-fn keys_of(alloc: Global, programs: &[ObjectProgram]) -> Result<Vec<ProgramKey<'_>>, AllocError> {
-    let mut keys = Vec::with_capacity(alloc, programs.len())?;
-    for program in programs {
-        keys.push(key_of(program))?;
-    }
-    Ok(keys)
-}
-
-/// Links programs of an object.
-///
-/// # Errors
-///
-/// The outer one where memory is refused, the inner that of the first program that can't be linked.
-fn link(
-    alloc: Global,
-    object: &Object,
-    sections: &HashSet<usize>,
-    keys: &[ProgramKey<'_>],
-) -> Result<Result<ByKey<Function>, EbpfRelocationError>, AllocError> {
-    let parts = Linkable {
-        functions: &object.functions,
-        symbols: &object.symbol_table,
-        relocations: &object.relocations,
-        text_sections: sections,
-    };
-    match relocate_calls(alloc, keys, &parts) {
-        Ok(linked) => Ok(Ok(linked)),
-        Err(error) if is_memory(&error) => Err(AllocError),
-        Err(error) => Ok(Err(error)),
-    }
-}
-
 /// The slots of a function that are reached. Nothing is stated of it, so that what calls this isn't proved over all that is
 /// stated of walks.
 fn reached_of(alloc: Global, function: &Function) -> Result<Items<bool>, AllocError> {
     reached_slots(alloc, function.instructions.as_slice())
 }
 
-/// A linked program of these slots and copies.
-fn linked_of(
-    alloc: Global,
-    function: Function,
-    copies: Result<Items<CodeCopy>, AllocError>,
-) -> Result<Linked, AllocError> {
-    let copies = copies?;
+/// A program with the slots of it that are reached.
+fn with_reached(alloc: Global, linked: LinkedFunction) -> Result<Linked, AllocError> {
+    let LinkedFunction { function, map } = linked;
     let reached = reached_of(alloc, &function)?;
     Ok(Linked {
         function,
-        copies,
+        copies: map.copies,
         reached,
     })
 }
 
-/// Programs, linked together or, where one of them is refused, each alone.
+/// An object whose functions have numbers, to link its programs one by one.
 #[derive(Drop)]
 pub struct Linker<'a> {
     object: &'a Object,
-    sections: &'a HashSet<usize>,
     maps: ProgramMaps<'a>,
-    /// All programs, where none is refused.
-    together: Option<ByKey<Function>>,
 }
 
 impl<'a> Linker<'a> {
-    /// Links the programs that count; `sections` has the indices of the sections with functions.
-    pub fn new(
-        alloc: Global,
-        object: &'a Object,
-        sections: &'a HashSet<usize>,
-        programs: &[ObjectProgram],
-    ) -> Result<Linker<'a>, AllocError> {
-        let Ok(maps) = object.program_maps(sections) else {
-            return Err(AllocError);
-        };
-        let keys = keys_of(alloc, programs)?;
-        let together = link(alloc, object, sections, &keys)?.ok();
-        Ok(Linker {
-            object,
-            sections,
-            maps,
-            together,
-        })
-    }
-
-    /// The function of a program, linked.
-    fn function(
-        &self,
-        alloc: Global,
-        program: &ObjectProgram,
-    ) -> Result<Result<Option<Function>, RefusalText>, AllocError> {
-        if let Some(together) = &self.together {
-            return match together.get(program.key) {
-                Some(function) => Ok(Ok(Some(function.clone()?))),
-                None => Ok(Ok(None)),
-            };
-        }
-        let keys = [key_of(program)];
-        match link(alloc, self.object, self.sections, &keys)? {
-            Ok(mut linked) => Ok(Ok(linked.remove(program.key))),
-            Err(error) => Ok(Err(explained(alloc, self.object, PrepareError::Calls(error))?)),
+    /// Finds the calls of all functions; `sections` has the indices of the sections with functions.
+    pub fn new(object: &'a Object, sections: &'a HashSet<usize>) -> Result<Linker<'a>, AllocError> {
+        match object.program_maps(sections) {
+            Ok(maps) => Ok(Linker { object, maps }),
+            Err(_) => Err(AllocError),
         }
     }
 
-    /// The copies that a program is made of.
-    fn copies(
-        &self,
-        alloc: Global,
-        program: &ObjectProgram,
-    ) -> Result<Items<CodeCopy>, AllocError> {
-        match self.maps.of(program.name.as_str()) {
-            Ok(Some(map)) => Ok(map.copies),
-            Ok(None) => Ok(Items::new(alloc)),
-            Err(error) if is_memory(&error) => Err(AllocError),
-            Err(_) => Ok(Items::new(alloc)),
-        }
-    }
-
-    /// A program, linked, or why it can't be. None where the object has no function of it.
+    /// A program, linked, or why it can't be.
     ///
     /// # Errors
     ///
@@ -261,14 +175,12 @@ impl<'a> Linker<'a> {
         &self,
         alloc: Global,
         program: &ObjectProgram,
-    ) -> Result<Result<Option<Linked>, RefusalText>, AllocError> {
-        match self.function(alloc, program)? {
-            Ok(Some(function)) => {
-                let copies = self.copies(alloc, program);
-                Ok(Ok(Some(linked_of(alloc, function, copies)?)))
-            }
-            Ok(None) => Ok(Ok(None)),
-            Err(sentence) => Ok(Err(sentence)),
+    ) -> Result<Result<Linked, RefusalText>, AllocError> {
+        let functions = &self.maps.functions;
+        match functions.linked_with_map(alloc, &key_of(program)) {
+            Ok(linked) => Ok(Ok(with_reached(alloc, linked)?)),
+            Err(error) if is_memory(&error) => Err(AllocError),
+            Err(error) => Ok(Err(explained(alloc, self.object, PrepareError::Calls(error))?)),
         }
     }
 }

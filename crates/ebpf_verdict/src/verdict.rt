@@ -167,11 +167,10 @@ fn judge_program(
     let section = program.section.as_str();
     let unattached = note_attach(findings, answers, number, section)?;
     match linker.linked(answers.alloc, program)? {
-        Ok(Some(linked)) => {
+        Ok(linked) => {
             let breaks = judge_linked(findings, answers, number, &linked)?;
             Ok(breaks || unattached)
         }
-        Ok(None) => Ok(unattached),
         Err(sentence) => {
             let name = program.name.as_str();
             note_refused(findings, answers, number, name, sentence)?;
@@ -203,7 +202,7 @@ fn judge_object(
 ) -> Result<Vec<bool>, AllocError> {
     let alloc = answers.alloc;
     let sections = object.text_sections(alloc)?;
-    let linker = Linker::new(alloc, object, &sections, &answers.loaded.needs.programs)?;
+    let linker = Linker::new(object, &sections)?;
     judge_programs(findings, answers, &linker)
 }
 
