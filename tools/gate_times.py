@@ -67,11 +67,11 @@ def look(seen, parts, command):
             stat = stat_of(process)
             key = (process, stat[19])
             is_part = int(stat[1]) == command
-            if key not in seen and key not in parts:
+            if key not in seen:
                 words = words_of(process)
                 if words and os.path.basename(words[0]) == "rattle" and words[1:2] in (["check"], ["build"]) and is_below(int(process), command):
                     seen[key] = Seen(words, os.readlink(f"/proc/{process}/cwd"), time.time())
-                if is_part:
+                if is_part and key not in parts:
                     parts[key] = Seen(words, "", time.time())
             own, waited = (int(stat[11]) + int(stat[12])) / TICKS, (int(stat[13]) + int(stat[14])) / TICKS
             if key in seen:
