@@ -1,4 +1,4 @@
--- Faults in order, what a call may answer for want of memory, and what follows an answer or an option.
+-- Faults in order, what a call may answer for want of memory, and what follows an answer.
 use Rattle.std.specs.Prelude.{◌≡◌, Bool, List, [], ◌∷◌, ⊤, Option, Some, None, Result, Ok, Err, MatchBool, if◌then◌else◌, ◌<◌, ℕ, true, false, slice_get}
 use Rattle.std.specs.List.{flat_map}
 
@@ -63,8 +63,3 @@ pub record IsClear {E : Type 0} (table : List (Bool × E)) : Type 0 where
 abbrev pub if_ok : {A X E : Type 0} → Result A E → (A → Result X E) → Result X E
 if_ok (Ok x) next = next x
 if_ok (Err e) next = Err e
-
--- what an option leads to, or else what stands without it
-abbrev pub if_some : {A X : Type 0} → Option A → (A → X) → X → X
-if_some None next other = other
-if_some (Some x) next other = next x

@@ -54,6 +54,7 @@ fn programs_named<'a>(
 }
 
 /// The programs with the keys of their functions, in byte order of names.
+/// `AllocError` where no memory is found.
 pub fn programs_in_order<'a>(
     alloc: Global,
     programs: &'a ByName<Program>,
