@@ -10,11 +10,10 @@ use Rattle.std.specs.Ordering.{is_eq, nat_cmp}
 use Rattle.std.proofs.lemmas.Map.Lookups.{exact_pairs, exact_unsigned}
 use Rattle.std.proofs.lemmas.Option.{same_Some}
 use Rattle.std.proofs.lemmas.Bool.{and_parts}
-use Rattle.ebpf_base.specs.Faults.{Gives, if_ok}
+use Rattle.ebpf_base.specs.Faults.{if_ok}
 use Rattle.ebpf_btf.specs.Next.{if_some}
-use Rattle.ebpf_btf.specs.Memory.{is_btf_memory}
 use Rattle.ebpf_btf.specs.TypeInfo.{TypeInfo}
-use Rattle.ebpf_btf.specs.declared.error.BtfError.{BtfError as TypeError, BtfError}
+use Rattle.ebpf_btf.specs.declared.error.BtfError.{BtfError}
 use Rattle.ebpf_btf.specs.declared.types.BtfType.{BtfType}
 use Rattle.ebpf_ext.specs.declared.relocation.Relocation.{Relocation}
 use Rattle.ebpf_btf.specs.declared.kind.BtfKind.{BtfKind}
@@ -34,7 +33,7 @@ use Rattle.ebpf_core.specs.declared.paths.LocalPath.{LocalPath}
 use Rattle.ebpf_core.specs.Answers.{Tells, of_types, without_texts}
 use Rattle.ebpf_core.specs.LocalPaths.{local_path, accessors, field_path, part_step, path_for, spot_at_element, variant_path, spot_after, wrong_kind, basis_of}
 use Rattle.ebpf_core.specs.Outcomes.{outcome_among, loaded_by, local_loaded, matches}
-use Rattle.ebpf_core.specs.Searches.{candidates_for, candidates_named, is_local, itself, outcome_of, Sides, was_enum64, HasLocalNames, IsLocalType, searched_kinds, AreCached, Question, question_of, question_cmp}
+use Rattle.ebpf_core.specs.Searches.{candidates_for, is_local, itself, outcome_of, Sides, was_enum64, HasLocalNames, IsLocalType, searched_kinds, AreCached, Question, question_of, question_cmp}
 use Rattle.ebpf_core.proofs.Refusals.{refused_by}
 use Rattle.ebpf_core.specs.Fields.{field_value}
 use Rattle.ebpf_core.specs.Laws.{OutcomesRestOnQuestions}
@@ -82,13 +81,6 @@ module _ (local target : TypeInfo) (r : Relocation) where
         let here : Tells answer (if_ok (of_types (candidates_for local target r.type_id)) (outcome_among local target r path)) =
         subst (λ (t : Sides). Tells answer (if_ok (of_types (candidates_for t.local t.target r.type_id)) (outcome_among t.local t.target r path))) (same ∙ sym view) given in
         subst (λ (t : Sides). Tells answer (stated t)) view (rw (over_ids path is other) here)
-
--- what an index of the kernel's types has
-pub over_index : (local target info : TypeInfo) (s : Sides) → record { local = local; target = target } ≡ s → info ≡ target
-    → (t : BtfType) (name : List ℕ) (answer : Result (List ℕ) TypeError)
-    → Gives is_btf_memory answer (candidates_named info t name) → Gives is_btf_memory answer (candidates_named s.target t name)
-over_index local target info s view same t name answer given =
-    subst (λ (i : TypeInfo). Gives is_btf_memory answer (candidates_named i t name)) (same ∙ ap (λ (u : Sides). u.target) view) given
 
 -- ---- the kinds and names that an index has for local types
 

@@ -82,6 +82,10 @@ abbrev pub HasLocalNames : IndexedTypes → TypeInfo → BtfKind → BtfKind →
 HasLocalNames index local first second = (t : BtfType) (name : List ℕ) → IsLocalType local t name → is_among_kinds (first ∷ second ∷ []) (kind_of t) ≡ true
     → (has_named index first name ≡ true) × (has_named index second name ≡ true)
 
+-- the index at a place has the types of two kinds and of a name
+abbrev pub HasNameAt : List IndexedTypes → ℕ → BtfKind → BtfKind → List ℕ → Type 0
+HasNameAt indices n first second name = (index : IndexedTypes) → slice_get indices n ≡ Some index → (has_named index first name ≡ true) × (has_named index second name ≡ true)
+
 -- ---- the question of a record, and outcomes that are cached for records with the same question
 
 -- its type and the offset of its access string, and the number of its kind

@@ -1,16 +1,14 @@
 //! Records over the types of a kernel, one after the other.
 
-ghost use Rattle.std.specs.Prelude.{◌≡◌, All, IfErr, IfOk, MatchBool, Ok, true, ⊤};
-ghost use Rattle.std.specs.Option.{ForSome};
+ghost use Rattle.std.specs.Prelude.{◌≡◌, ◌<◌, All, IfErr, IfOk, IfSome, MatchBool, Ok, length, true, ⊤};
 ghost use Rattle.ebpf_base.specs.Faults.{Gives, Refuses, fault_of, if_ok};
 ghost use Rattle.ebpf_btf.specs.Memory.{is_btf_memory};
-ghost use Rattle.ebpf_btf.specs.TypeInfo.{TypeInfo};
 ghost use Rattle.ebpf_btf.specs.declared.error.BtfError.TheVariants.{OutOfMemory};
 ghost use Rattle.ebpf_core_candidates.specs.Candidates.{candidates, candidates_fault, candidates_of_both, candidates_of_both_fault, has_named};
 ghost use Rattle.ebpf_core.specs.Answers.{Tells, of_types, without_texts, is_record_memory};
 ghost use Rattle.ebpf_core.specs.Outcomes.{outcome_among};
 ghost use Rattle.ebpf_core.specs.Laws.{OutcomeIsRefused};
-ghost use Rattle.ebpf_core.specs.Searches.{candidates_for, candidates_named, is_local, outcome_of, was_enum64, searched_kinds, HasLocalNames, IsLocalType, question_of};
+ghost use Rattle.ebpf_core.specs.Searches.{candidates_for, candidates_named, is_local, outcome_of, was_enum64, searched_kinds, HasLocalNames, HasNameAt, IsLocalType, question_of};
 
 use crate::error::RelocationError;
 use crate::outcome::{Outcome, outcome_among};
@@ -83,6 +81,30 @@ fn ids_of_both(
     }
 }
 
+/// What a record comes to over the target types of the kind and name of a local type. They are looked for in an index
+/// that has them.
+#[tactic(auto, unfolding(crate::specs::Searches::candidates_named))]
+fn outcome_named(
+    alloc: Global,
+    local: &Btf,
+    index: &KindsIndex<'_>,
+    relocation: &Relocation,
+    path: &LocalPath,
+    ty: &BtfType<'_>,
+    name: &str,
+) -> Result<Outcome, RelocationError>
+    requires first { has_named index.now (searched_kinds ty.now).0 name.now ≡ true }
+    requires second { has_named index.now (searched_kinds ty.now).1 name.now ≡ true }
+    ensures { Tells result (if_ok (of_types (candidates_named index.now.info ty.now name.now)) (outcome_among local.now index.now.info relocation.now path.now)) }
+{
+    if was_enum64(ty) {
+        let ids = ids_of_both(alloc, index, BtfKind::Union, BtfKind::Enum64, name)?;
+        return outcome_among(alloc, local, index.btf(), relocation, path, ids.as_slice());
+    }
+    let found = ids_of_kind(index, ty.kind(), name)?;
+    outcome_among(alloc, local, index.btf(), relocation, path, found)
+}
+
 /// The target types of the kind and name of a local type, looked for in an index that has them.
 #[tactic(auto, unfolding(crate::specs::Searches::candidates_named))]
 fn ids_named(
@@ -119,23 +141,49 @@ fn index_of<'a>(
     TypeIndex::of_names(alloc, target, &[first, second], local)
 }
 
-/// The first index that has the types of two kinds and of a name.
-fn index_with<'a, 'b>(
-    indices: &'b [KindsIndex<'a>],
+/// The place of the first index that has the types of two kinds and of a name.
+fn index_with(
+    indices: &[KindsIndex<'_>],
     first: BtfKind,
     second: BtfKind,
     name: &str,
-) -> Option<&'b KindsIndex<'a>>
-    ensures first { ForSome result (λ index. has_named index.now first name.now ≡ true) }
-    ensures second { ForSome result (λ index. has_named index.now second name.now ≡ true) }
-    ensures types { (info : TypeInfo) → All (λ index. index.info ≡ info) indices.now → ForSome result (λ index. index.now.info ≡ info) }
+) -> Option<usize>
+    ensures place { IfSome result (λ n. n < length indices.now) }
+    ensures names { IfSome result (λ n. HasNameAt indices.now n first second name.now) }
 {
-    for index in indices {
+    for n in 0..indices.len() {
+        let index = &indices[n];
         if index.has(first, name) && index.has(second, name) {
-            return Some(index);
+            return Some(n);
         }
     }
     None
+}
+
+/// The place of an index that has the target types of the kind and name of a local type. Where there is none it is made.
+fn index_for<'a>(
+    alloc: Global,
+    indices: &mut Vec<KindsIndex<'a>>,
+    local: &Btf,
+    target: &'a Btf,
+    ty: &BtfType<'_>,
+    name: &str,
+) -> Result<usize, BtfError>
+    requires types { All (λ index. index.info ≡ target.now) indices.old.items }
+    requires named { IsLocalType local.now ty.now name.now }
+    ensures types { All (λ index. index.info ≡ target.now) indices.new.items }
+    ensures place { IfOk result (λ n. n < length indices.new.items) }
+    ensures names { IfOk result (λ n. HasNameAt indices.new.items n (searched_kinds ty.now).0 (searched_kinds ty.now).1 name.now) }
+    ensures memory { IfErr result (λ e. e ≡ OutOfMemory) }
+{
+    let (first, second) = searched_kinds(ty);
+    if let Some(n) = index_with(indices, first, second, name) {
+        return Ok(n);
+    }
+    let index = index_of(alloc, local, target, first, second)?;
+    let n = indices.len();
+    indices.push(index)?;
+    Ok(n)
 }
 
 /// The types of an object, and those of a kernel in which they are looked for, record by record. The kernel's types of
@@ -191,36 +239,6 @@ impl<'a> CoreSearch<'a> {
         self.target
     }
 
-    /// Keeps an index of the kernel's types.
-    fn keep(&mut self, index: KindsIndex<'a>) -> Result<(), AllocError>
-        requires { index.info ≡ self.old.target }
-        ensures { self.new ≡ self.old }
-    {
-        self.indices.push(index)?;
-        Ok(())
-    }
-
-    /// The kernel's types of the kind and name of a local type.
-    fn candidates_named(
-        &mut self,
-        alloc: Global,
-        ty: &BtfType<'_>,
-        name: &str,
-    ) -> Result<Items<u32>, BtfError>
-        requires { IsLocalType self.old.local ty.now name.now }
-        ensures ids { Gives is_btf_memory result (candidates_named self.old.target ty.now name.now) }
-        ensures stays { self.new ≡ self.old }
-    {
-        let (first, second) = searched_kinds(ty);
-        if let Some(index) = index_with(&self.indices, first, second, name) {
-            return ids_named(alloc, index, ty, name);
-        }
-        let index = index_of(alloc, self.local, self.target, first, second)?;
-        let ids = ids_named(alloc, &index, ty, name);
-        self.keep(index)?;
-        ids
-    }
-
     /// The ids of the kernel's types that a local type may stand for, in increasing order: those of its kind and name.
     ///
     /// `UnknownBtfType` where there is no such local type; `InvalidStringOffset` where its name or that of a kernel's
@@ -229,10 +247,12 @@ impl<'a> CoreSearch<'a> {
         ensures ids { Gives is_btf_memory result (candidates_for self.old.local self.old.target type_id) }
         ensures stays { self.new ≡ self.old }
     {
-        let local = self.local;
+        let (local, target) = (self.local, self.target);
         let ty = local.type_by_id(type_id)?;
         let name = local.type_name(&ty)?;
-        self.candidates_named(alloc, &ty, name.as_str())
+        let name = name.as_str();
+        let n = index_for(alloc, &mut self.indices, local, target, &ty, name)?;
+        ids_named(alloc, &self.indices[n], &ty, name)
     }
 
     /// What a record comes to over the kernel's types that its local type may stand for.
@@ -245,15 +265,12 @@ impl<'a> CoreSearch<'a> {
         ensures outcome { Tells result (if_ok (of_types (candidates_for self.old.local self.old.target relocation.now.type_id)) (outcome_among self.old.local self.old.target relocation.now path.now)) }
         ensures stays { self.new ≡ self.old }
     {
-        let ids = self.candidates(alloc, relocation.type_id)?;
-        outcome_among(
-            alloc,
-            self.local,
-            self.target,
-            relocation,
-            path,
-            ids.as_slice(),
-        )
+        let (local, target) = (self.local, self.target);
+        let ty = local.type_by_id(relocation.type_id)?;
+        let name = local.type_name(&ty)?;
+        let name = name.as_str();
+        let n = index_for(alloc, &mut self.indices, local, target, &ty, name)?;
+        outcome_named(alloc, local, &self.indices[n], relocation, path, &ty, name)
     }
 
     /// What a record comes to, whatever is cached.
