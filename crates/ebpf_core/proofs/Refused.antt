@@ -1,6 +1,7 @@
 -- Why a record has no outcome, as an equation and step by step.
-use Rattle.std.proofs.Common.{◌≡◌, ℕ, zero, suc, ◌<◌, true, List, [], ◌∷◌, Option, Some, Result, Ok, Err, refl, sym, ap, ◌∙◌, subst, arith, slice_get}
+use Rattle.std.proofs.Common.{◌≡◌, ℕ, zero, suc, ◌<◌, Bool, true, false, cond, List, [], ◌∷◌, Option, Some, Result, Ok, Err, refl, sym, ap, ◌∙◌, subst, arith, slice_get}
 use Rattle.std.specs.Prelude.{IfErr, MatchBool, filter, is_ok, not, ⊤}
+use Rattle.std.specs.List.{list_all}
 use Rattle.std.proofs.lemmas.Option.{same_Some}
 use Rattle.std.proofs.lemmas.Result.{IfErr-at_err, IfErr-weaker}
 use Rattle.ebpf_btf.specs.TypeInfo.{TypeInfo}
@@ -8,10 +9,11 @@ use Rattle.ebpf_ext.specs.declared.relocation.Relocation.{Relocation}
 use Rattle.ebpf_base.specs.Faults.{if_ok}
 use Rattle.ebpf_core.specs.Answers.{FirstFails, Tells, each, of_types, without_texts, is_record_memory}
 use Rattle.ebpf_core.specs.LocalPaths.{local_path, LocalSideIs}
-use Rattle.ebpf_core.specs.Outcomes.{found_at_candidate, matches, type_name_at, agreed_outcome, values_agree, outcome_of_matches, differing_names, local_loaded, match_value, outcome_among}
+use Rattle.ebpf_core.specs.Outcomes.{found_at_candidate, matches, type_name_at, values_agree, outcome_of_matches, differing_names, local_loaded, match_value, outcome_among}
 use Rattle.ebpf_core.specs.Laws.{AreInConflict, Unreadable, Differing, AmongIsRefused, Matching, LocalField, Values, Conflict, OutcomeIsRefused, LocalSide, Candidates, Among}
 use Rattle.ebpf_core.specs.Searches.{candidates_for, is_local, outcome_of}
 use Rattle.ebpf_core.specs.declared.error.RelocationError.{RelocationError}
+use Rattle.ebpf_core.specs.declared.error.RelocationError.TheVariants.{ConflictingCandidates}
 use Rattle.ebpf_core.specs.declared.field.LoadedField.{LoadedField}
 use Rattle.ebpf_core.specs.declared.matches.Found.{Found}
 use Rattle.ebpf_core.specs.declared.outcome.Outcome.{Outcome}
@@ -72,19 +74,20 @@ module _ (target : TypeInfo) (name : List ℕ) (loaded : Option LoadedField) whe
   conflict : (kind : _) (values : List MatchValue) → InConflict values (outcome_of_matches target name kind loaded values)
   unfolding outcome_of_matches
   conflict kind [] = tt
-  conflict kind (first ∷ others) =
-      by_answer (InConflict (first ∷ others)) (differing_names target first others) _
-      (λ e is. Unreadable first others e (IfErr-at_err _ is (each_fails named (filter (λ v. not (values_agree first v)) others))))
-      (λ names is. by_names names is)
+  conflict kind (first ∷ others) = by_test (list_all (values_agree first) others) refl
     where
-      by_names : (names : List (List ℕ)) → differing_names target first others ≡ Ok names → InConflict (first ∷ others) (agreed_outcome name loaded first names)
-      by_names [] is = tt
-      by_names (other ∷ more) is = Differing first others other more is
+      by_test : (b : Bool) → list_all (values_agree first) others ≡ b
+          → InConflict (first ∷ others) (cond b (Ok (record { value = first.number; local = loaded; target = first.loaded })) (if_ok (differing_names target first others) (λ names. Err (ConflictingCandidates name names))))
+      by_test true all = tt
+      by_test false some =
+          by_answer (InConflict (first ∷ others)) (differing_names target first others) (λ names. Err (ConflictingCandidates name names))
+          (λ e is. Unreadable first others e some (IfErr-at_err _ is (each_fails named (filter (λ v. not (values_agree first v)) others))))
+          (λ names is. Differing first others names some is)
 
   conflict_refuses : (kind : _) {values : List MatchValue} {fault : RelocationError} → AreInConflict target name values fault → outcome_of_matches target name kind loaded values ≡ Err fault
   unfolding outcome_of_matches
-  conflict_refuses kind (Unreadable first others fault h) = rw (fails_each named (filter (λ v. not (values_agree first v)) others) fault h) refl
-  conflict_refuses kind (Differing first others other more is) = rw is refl
+  conflict_refuses kind (Unreadable first others fault some h) = rw (some, fails_each named (filter (λ v. not (values_agree first v)) others) fault h) refl
+  conflict_refuses kind (Differing first others names some is) = rw (some, is) refl
 
 -- ---- over candidates
 

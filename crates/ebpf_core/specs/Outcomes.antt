@@ -1,7 +1,7 @@
 -- What a record comes to over all candidates (the kernel's Documentation/bpf/llvm_reloc.rst, "CO-RE Relocations", and
 -- tools/lib/bpf/relo_core.c, bpf_core_spec_match and bpf_core_calc_relo_insn).
 use Rattle.std.specs.Prelude.{ℕ, Bool, List, [], Option, Some, None, option_map, unwrap_or, Result, Ok, Err, if◌then◌else◌, ◌≡◌, ◌<◌, true, false, length, slice_get, ◌==◌, ◌&&◌, not, nat_eq, ◌∷◌, filter, option_and_then}
-use Rattle.std.specs.List.{filter_map}
+use Rattle.std.specs.List.{filter_map, list_all}
 use Rattle.std.specs.Option.{option_eq}
 use Rattle.std.specs.Result.{result_ok}
 use Rattle.ebpf_base.specs.Faults.{first_some, if_ok}
@@ -157,14 +157,13 @@ without_match _ = None
 abbrev pub differing_names : TypeInfo → MatchValue → List MatchValue → Result (List (List ℕ)) RelocationError
 differing_names target first others = each (λ v. of_types (type_name_at target v.candidate)) (filter (λ v. not (values_agree first v)) others)
 
--- the first match's value where no other differs from it
-abbrev pub agreed_outcome : List ℕ → Option LoadedField → MatchValue → List (List ℕ) → Result Outcome RelocationError
-agreed_outcome name loaded first [] = Ok (record { value = first.number; local = loaded; target = first.loaded })
-agreed_outcome name loaded first (other ∷ others) = Err (ConflictingCandidates name (other ∷ others))
-
+-- the first match's value where all later matches agree with it
 unfoldable pub outcome_of_matches : TypeInfo → List ℕ → RelocationKind → Option LoadedField → List MatchValue → Result Outcome RelocationError
 outcome_of_matches target name kind loaded [] = Ok (record { value = without_match kind; local = loaded; target = None })
-outcome_of_matches target name kind loaded (first ∷ others) = if_ok (differing_names target first others) (agreed_outcome name loaded first)
+outcome_of_matches target name kind loaded (first ∷ others) =
+    if list_all (values_agree first) others
+    then Ok (record { value = first.number; local = loaded; target = first.loaded })
+    else if_ok (differing_names target first others) (λ names. Err (ConflictingCandidates name names))
 
 -- What a record comes to over its candidates. Matching comes first, then the local field, then the values.
 unfoldable pub outcome_among : TypeInfo → TypeInfo → Relocation → LocalPath → List ℕ → Result Outcome RelocationError

@@ -4,7 +4,8 @@ ghost use Rattle.std.specs.Prelude.{◌≡◌, IfErr, MatchBool, ⊤};
 ghost use Rattle.ebpf_core.specs.Answers.{Tells, without_texts, is_record_memory};
 ghost use Rattle.ebpf_core.specs.Fields.{field_value};
 ghost use Rattle.ebpf_core.specs.Laws.{AmongIsRefused};
-ghost use Rattle.ebpf_core.specs.Outcomes.{outcome_of_matches, differing_names, loaded_by, local_loaded, outcome_among, without_match};
+ghost use Rattle.ebpf_core.specs.Outcomes.{outcome_of_matches, differing_names, loaded_by, local_loaded, outcome_among, values_agree, without_match};
+ghost use Rattle.std.specs.List.{list_all};
 
 use crate::error::{RelocationError, invalid_kind, path_words};
 use crate::field::{FieldFault, LoadedField, field_value};
@@ -94,6 +95,13 @@ fn local_loaded(
     }
 }
 
+/// Whether all later matches agree with the first.
+fn all_agree(first: MatchValue, others: &[MatchValue]) -> bool
+    ensures { result ≡ list_all (values_agree first) others.now }
+{
+    others.iter().all(|other| first.agrees(*other))
+}
+
 /// The names of the types whose matches differ from the first.
 #[tactic(auto, using(crate::proofs::LocalSides::agreeing, crate::proofs::LocalSides::differing, crate::proofs::LocalSides::unreadable, crate::proofs::LocalSides::others_over, crate::proofs::Refusals::also))]
 fn differing_names(
@@ -133,14 +141,14 @@ fn conclude(
             target: None,
         });
     };
-    let candidates = differing_names(alloc, target, *first, others)?;
-    if candidates.is_empty() {
+    if all_agree(*first, others) {
         return Ok(Outcome {
             value: first.number,
             local,
             target: first.loaded,
         });
     }
+    let candidates = differing_names(alloc, target, *first, others)?;
     let type_name = Text::from_str(alloc, type_name)?;
     Err(RelocationError::ConflictingCandidates {
         type_name,

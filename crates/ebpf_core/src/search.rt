@@ -151,8 +151,7 @@ fn index_with(
     ensures place { IfSome result (λ n. n < length indices.now) }
     ensures names { IfSome result (λ n. HasNameAt indices.now n first second name.now) }
 {
-    for n in 0..indices.len() {
-        let index = &indices[n];
+    for (n, index) in indices.iter().enumerate() {
         if index.has(first, name) && index.has(second, name) {
             return Some(n);
         }
