@@ -87,9 +87,10 @@ has_kind kinds kind = slice_index_or kinds (kind_number kind) false
 unfoldable pub name_hash : List ℕ → ℕ
 name_hash name = fold_hasher.finish (fold_hasher.write fold_hasher.initial name) / 2 ^ 32
 
--- whether a hash is marked: its mark stands at its remainder by their number, so that hashes of one remainder share it
+-- whether a hash is marked: its mark stands at its remainder by 16384, so that hashes of one remainder share it, and past
+-- the end all are marked
 abbrev pub is_hash_marked : List Bool → ℕ → Bool
-is_hash_marked marks hash = slice_index_or marks (hash % length marks) false
+is_hash_marked marks hash = slice_index_or marks (hash % 16384) true
 
 -- the essential name of a text is marked
 abbrev pub is_name_marked : List Bool → List ℕ → Bool

@@ -4,6 +4,7 @@
 mod compatible;
 mod kinds;
 pub mod laws;
+pub mod marks;
 mod type_index;
 mod type_names;
 mod type_row;

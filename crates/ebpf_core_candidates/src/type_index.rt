@@ -17,7 +17,8 @@ use crate::kinds::{
     AnonymousTypes, KINDS, SomeKinds, UnreadableName, UnreadableNames, add_anonymous, every_kind,
     has_kind, keep_first, kind_number, kinds_of, lower, no_anonymous_types,
 };
-use crate::type_names::{TypeNames, every_name, is_hash_marked, name_hash, names_of};
+use crate::marks::{every_name, is_hash_marked, name_hash};
+use crate::type_names::{TypeNames, names_of};
 use crate::type_row::{TypeRow, order_of_rows, row_range, union};
 use ebpf_btf::{Btf, BtfError, BtfKind, essential_name};
 use std::alloc::{AllocError, Global};
@@ -40,7 +41,6 @@ fn read_rows(
     marks: &[bool],
 ) -> Result<Found, AllocError>
     requires kinds { length kinds.now ≡ 20 }
-    requires marks { 0 < length marks.now }
     ensures rows { IfOk result (λ found. found.rows.items ≡ rows kinds.now marks.now names.now) }
     ensures anonymous { IfOk result (λ found. (kind : BtfKind) → has_kind kinds.now kind ≡ true → slice_index_or found.anonymous.items (kind_number kind) [] ≡ candidates names.now kind []) }
     ensures unread { IfOk result (λ found. (kind : BtfKind) → has_kind kinds.now kind ≡ true → slice_index_or found.unreadable (kind_number kind) None ≡ unreadable_from names.now kind 0 names.now.types) }
@@ -114,7 +114,6 @@ fn index_of<'a>(
     marks: Vec<bool>,
 ) -> Result<KindsIndex<'a>, BtfError>
     requires kinds { length kinds ≡ 20 }
-    requires marks { 0 < length marks.items }
     ensures types { IfOk result (λ index. index.info ≡ btf.now) }
     ensures kinds { IfOk result (λ index. index.kinds ≡ kinds) }
     ensures marks { IfOk result (λ index. index.marks ≡ marks.items) }
@@ -298,8 +297,7 @@ impl<'a> TypeIndex<'a> {
         ensures types { IfOk result (λ index. index ≡ btf.now) }
         ensures memory { IfErr result (λ e. e ≡ OutOfMemory) }
     {
-        let marks = every_name(alloc)?;
-        let index = index_of(alloc, btf, every_kind(), marks)?;
+        let index = index_of(alloc, btf, every_kind(), every_name(alloc))?;
         Ok(TypeIndex { index })
     }
 
@@ -313,8 +311,7 @@ impl<'a> TypeIndex<'a> {
         ensures kinds { IfOk result (λ index. (kind : BtfKind) (name : List ℕ) → has_named index kind name ≡ is_among_kinds kinds.now kind) }
         ensures memory { IfErr result (λ e. e ≡ OutOfMemory) }
     {
-        let marks = every_name(alloc)?;
-        index_of(alloc, btf, kinds_of(kinds), marks)
+        index_of(alloc, btf, kinds_of(kinds), every_name(alloc))
     }
 
     /// The index of the types of some kinds that may stand for those of `local`: as `of_kinds`, but that types of other

@@ -19,6 +19,7 @@ use Rattle.ebpf_btf.specs.declared.error.BtfError.{BtfError}
 use Rattle.ebpf_btf.specs.declared.kind.BtfKind.{BtfKind}
 use Rattle.ebpf_btf.specs.declared.types.BtfType.{BtfType}
 use Rattle.ebpf_btf.specs.declared.types.BtfType.TheVariants.{Func, Var}
+use Rattle.ebpf_base.proofs.Faults.{or_else-None}
 use Rattle.ebpf_ksyms.specs.Addresses.{is_one_of}
 use Rattle.ebpf_ksyms.specs.Externs.{NamedExtern, kernel_ids_of, is_typed, outcome_by, renewed, with_outcome, at_found, at_lookup_key, at_type, kernel_ids_in, lookup_key_of, LookupKeyValue}
 use Rattle.ebpf_ksyms.specs.PrivateContracts.{finished, sort_of, with_sort, with_type_ids, sort_of_kind, with_head_ids, id_at, id_of, ids_in, only_at, lookup_name, lookup_names, typed_as, typed_refused}
@@ -128,6 +129,11 @@ pub more-types : (kernel : TypeInfo) (name : List ℕ) (id : ℕ) (t : BtfType) 
 more-types kernel name id t types before after e =
     option-step (finished kernel name (id + 1) types) (with_type_ids kernel name id t) (finished kernel name id (t ∷ types)) before (finished-cons kernel name id t types)
     ∙ ap (option_map (finished kernel name (id + 1) types)) (sym e)
+
+-- with no type left it is over
+pub no-types : (kernel : TypeInfo) (name : List ℕ) (id : ℕ) (types : List BtfType) (ids : Option Ids) → types ≡ [] → option_map (finished kernel name id types) ids ≡ ids
+no-types kernel name id types None e = refl
+no-types kernel name id types (Some ids) e = rw (e, or_else-None ids.function, or_else-None ids.variable) refl
 
 -- a type by its kind and the offset of its name
 sort_by_kind : (t : BtfType) → sort_of t ≡ sort_of_kind (kind_of t)

@@ -1,6 +1,7 @@
 -- The entries of a map by their names, values by name after a change, and from what each part of resolution gives to the externs as a whole.
-use Rattle.std.proofs.Common.{◌≡◌, ℕ, Bool, true, false, cond, ◌&&◌, T, List, [], ◌∷◌, ◌++◌, map, Option, Some, None, refl, ap, sym, subst, ◌∙◌, ◌+◌, ◌<◌, ◌≤◌, zero, suc, ◌||◌, length, arith, drop, get_or, add-one, drop-cons, Ok, Err, inl, inr}
+use Rattle.std.proofs.Common.{◌≡◌, ℕ, Bool, true, false, cond, ◌&&◌, T, List, [], ◌∷◌, ◌++◌, map, Option, Some, None, refl, ap, sym, subst, ◌∙◌, ◌+◌, ◌<◌, ◌≤◌, zero, suc, ◌||◌, true≢false, length, arith, drop, get_or, add-one, drop-cons, Ok, Err, inl, inr}
 use Rattle.std.proofs.lemmas.Bool.{or_right}
+use Rattle.std.proofs.lemmas.List.Elements.{All-tail}
 use Rattle.std.proofs.lemmas.Map.Text.{btree_map_updates_str}
 use Rattle.std.proofs.lemmas.Slice.Eq.{bytes_eq-Decides}
 use Rattle.std.specs.BTreeMap as tree
@@ -13,11 +14,12 @@ use Rattle.std.specs.List.{AllByRecursion, flat_map, cons_option}
 use Rattle.std.specs.List.Sorted.{IsStrictlySortedBy}
 use Rattle.std.specs.Map.{keys_of}
 use Rattle.std.specs.Ordering.{eq_by_cmp, is_eq, is_lt, nat_cmp}
-use Rattle.std.specs.Prelude.{IsSome, if◌then◌else◌, option_map, not}
+use Rattle.std.specs.Prelude.{All, IsSome, if◌then◌else◌, option_map, not}
 use Rattle.std.specs.Str.{bytes_eq}
 use Rattle.std.specs.declared.cmp.Ordering.TheVariants.{Less}
 use Rattle.ebpf_base.proofs.Mapped.{later_text_stands}
 use Rattle.ebpf_base.proofs.Maps.{is_equal, entries_rise}
+use Rattle.ebpf_core_candidates.specs.Candidates.{is_hash_marked, name_hash}
 use Rattle.ebpf_base.proofs.TextMaps.{text_exact}
 use Rattle.ebpf_base.specs.Faults.{first_some, or_else}
 use Rattle.ebpf_base.specs.Maps.{last_at, text_cmp, text_total, lent_bytes}
@@ -143,9 +145,41 @@ module _ {V : Type 0} where
   put-more false true x o = refl
   put-more false false x o = refl
 
+  -- the same of what is under a mark
+  pub under_mark : (marked b : Bool) (v : V) (o p : Option V) → p ≡ cond b (option_map (λ _. v) o) o → cond marked p None ≡ cond b (option_map (λ _. v) (cond marked o None)) (cond marked o None)
+  under_mark true b v o p e = e
+  under_mark false true v o p e = refl
+  under_mark false false v o p e = refl
+
 -- equal by their bytes
 pub same_bytes : (a b : List ℕ) → bytes_eq a b ≡ true → a ≡ b
 same_bytes a b e = (bytes_eq-Decides a b).0 e
+
+module _ (marks : List Bool) where
+  abbrev pub AreMarked : List (Bor (List ℕ)) → Type 0
+  AreMarked names = All (λ name. is_hash_marked marks (name_hash name.now) ≡ true) names
+
+  -- what is one of some marked names is marked
+  one_is_marked : (names : List (Bor (List ℕ))) → AreMarked names → (q : List ℕ) → is_one_of (lent_bytes names) q ≡ true → is_hash_marked marks (name_hash q) ≡ true
+  one_is_marked [] all q e = cc
+  one_is_marked (n ∷ names) all q e = by_test (bytes_eq n.now q) refl (one_is_marked names (All-tail (λ name. is_hash_marked marks (name_hash name.now) ≡ true) n names all) q) e
+    where
+      by_test : (b : Bool) → bytes_eq n.now q ≡ b → (is_one_of (lent_bytes names) q ≡ true → is_hash_marked marks (name_hash q) ≡ true) → (b || is_one_of (lent_bytes names) q) ≡ true → is_hash_marked marks (name_hash q) ≡ true
+      by_test true same rest one = subst (λ text. is_hash_marked marks (name_hash text) ≡ true) (same_bytes n.now q same) (all 0 n (omega arith))
+      by_test false other rest one = rest one
+
+  -- so that a value at these names alone is one under their marks
+  pub marked_only : {V : Type 0} (names : List (Bor (List ℕ))) (value : V) (o : Option V) → AreMarked names → (q : List ℕ) → o ≡ only_at (lent_bytes names) (λ _. value) q
+      → cond (is_hash_marked marks (name_hash q)) o None ≡ only_at (lent_bytes names) (λ _. value) q
+  marked_only names value o all q is = by_mark (is_hash_marked marks (name_hash q)) refl
+    where
+      without : (b : Bool) → is_hash_marked marks (name_hash q) ≡ false → is_one_of (lent_bytes names) q ≡ b → None ≡ cond b (Some value) None
+      without true out one = absurd (true≢false (sym (one_is_marked names all q one) ∙ out))
+      without false out one = refl
+
+      by_mark : (b : Bool) → is_hash_marked marks (name_hash q) ≡ b → cond b o None ≡ only_at (lent_bytes names) (λ _. value) q
+      by_mark true marked = is
+      by_mark false out = without (is_one_of (lent_bytes names) q) out refl
 
 module _ {V : Type 0} (names : List (Bor (List ℕ))) (i : ℕ) (d : Bor (List ℕ)) (value : V) (old new : BTreeMap (Bor (List ℕ)) V) where
   -- one more of some names is put

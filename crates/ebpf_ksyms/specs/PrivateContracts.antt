@@ -14,6 +14,7 @@ use Rattle.ebpf_btf.specs.TypeInfo.{TypeInfo}
 use Rattle.ebpf_btf.specs.declared.kind.BtfKind.{BtfKind}
 use Rattle.ebpf_btf.specs.declared.types.BtfType.{BtfType}
 use Rattle.ebpf_btf.specs.declared.types.BtfType.TheVariants.{Func, Var}
+use Rattle.ebpf_core_candidates.specs.Candidates.{is_hash_marked, name_hash}
 use Rattle.ebpf_ksyms.specs.Addresses.{is_one_of, Item, Line, address_of, line_of_item, lines_fault, address_if_named, stated_fault, Counts, address_and_name, stated_address}
 use Rattle.ebpf_ksyms.specs.Externs.{NamedExtern, Externs, is_typeless, left_without, with_address, is_typed, outcome_by, with_outcome, KernelIds, lookup_key_of}
 use Rattle.ebpf_ksyms.specs.declared.error.KsymsError.{KsymsError}
@@ -77,9 +78,9 @@ finished kernel name id types ids = record {
 
 -- ---- what contracts of private functions name and no public one
 
--- the value at a name
+-- the value at a name that is marked
 unfoldable pub value_named : {V : Type 0} → Named V → List ℕ → Option V
-value_named m name = get_by (λ k. text_cmp name k.now) m.values
+value_named m name = if is_hash_marked m.marks.items (name_hash name) then get_by (λ k. text_cmp name k.now) m.values else None
 
 -- values at some names alone
 abbrev pub only_at : {V : Type 0} → List (List ℕ) → (List ℕ → V) → List ℕ → Option V

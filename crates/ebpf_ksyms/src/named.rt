@@ -2,21 +2,39 @@
 
 ghost use Rattle.std.specs.FinMap.{entries, get};
 ghost use Rattle.std.specs.List.{flat_map};
-ghost use Rattle.std.specs.Prelude.{◌≡◌, ℕ, List, IfOk, Some, option_map, if◌then◌else◌};
+ghost use Rattle.std.specs.Prelude.{◌≡◌, ℕ, All, List, IfOk, Some, option_map, if◌then◌else◌, true};
 ghost use Rattle.std.specs.Str.{bytes_eq};
 ghost use Rattle.ebpf_base.specs.Maps.{lent_bytes};
+ghost use Rattle.ebpf_core_candidates.specs.Candidates.{is_hash_marked, name_hash};
 ghost use Rattle.ebpf_ksyms.specs.Externs.{is_typed, is_typeless, wanted_names};
 ghost use Rattle.ebpf_ksyms.specs.PrivateContracts.{value_named, only_at, entry_named, externs_from};
 
 use ebpf_base::ByName;
+use ebpf_core_candidates::marks::{every_name, is_hash_marked, mark, name_hash, no_name};
 use ebpf_model::ExternDesc;
 use std::alloc::{AllocError, Global};
 use std::collections::BTreeMap;
 use std::marker::Model;
 
-/// Values by name, in the order of the names, so that no names make a look-up slow.
+/// Marks of some names.
+fn marks_of(alloc: Global, names: &[&str]) -> Result<Vec<bool>, AllocError>
+    ensures { IfOk result (λ marks. All (λ name. is_hash_marked marks.items (name_hash name.now) ≡ true) names.now) }
+{
+    if names.is_empty() {
+        return Ok(every_name(alloc));
+    }
+    let mut marks = no_name(alloc)?;
+    for name in names {
+        mark(&mut marks, name_hash(name.as_bytes()));
+    }
+    Ok(marks)
+}
+
+/// Values by name, in the order of the names, so that no names make a look-up slow. Their marks tell most other names from
+/// them at once.
 #[derive(Drop)]
 pub struct Named<'a, V> {
+    marks: Vec<bool>,
     values: BTreeMap<&'a str, V>,
 }
 
@@ -25,11 +43,12 @@ impl<'a, V: Copy + Drop> Named<'a, V> {
     pub fn new(alloc: Global, names: &[&'a str], value: V) -> Result<Named<'a, V>, AllocError>
         ensures { IfOk result (λ m. (q : List ℕ) → value_named m q ≡ only_at (lent_bytes names.now) (λ _. value) q) }
     {
+        let marks = marks_of(alloc, names)?;
         let mut values = BTreeMap::new(alloc);
         for name in names {
             values.insert(*name, value)?;
         }
-        Ok(Named { values })
+        Ok(Named { marks, values })
     }
 
     /// The value at a name.
@@ -37,6 +56,9 @@ impl<'a, V: Copy + Drop> Named<'a, V> {
     pub fn get(&self, name: &str) -> Option<V>
         ensures { result ≡ value_named self.now name.now }
     {
+        if !is_hash_marked(&self.marks, name_hash(name.as_bytes())) {
+            return None;
+        }
         self.values.get(name).copied()
     }
 

@@ -1,10 +1,10 @@
 use Rattle.std.proofs.Common.{◌≡◌, ◌+◌, ◌<◌, length, ap, sym, ◌∙◌, drop, None, arith}
 use Rattle.std.specs.Prelude.{option_map, slice_get}
 use Rattle.ebpf_btf.specs.Types.{kind_of}
-use Rattle.ebpf_btf.proofs.InOrder.{drop_some}
+use Rattle.ebpf_btf.proofs.InOrder.{drop_none, drop_some}
 use Rattle.ebpf_core_candidates.proofs.Names.{headed, is_there}
 use Rattle.ebpf_ksyms.specs.PrivateContracts.{finished, value_named}
-use Rattle.ebpf_ksyms.proofs.Outcomes.{by_head, more-types}
+use Rattle.ebpf_ksyms.proofs.Outcomes.{by_head, more-types, no-types}
 use Rattle.ebpf_ksyms.proofs.ids.ids_in.Goals as goal
 
 pub loop-id-preserved-in_default : goal.loop-id-preserved-in_default
@@ -21,4 +21,10 @@ loop-id-preserved c = λ q.
     let with_it = c.in_ok-add_kernel_type.ensures.ok q ∙ by_head info q i head.ty c.in-Some.head.kind c.in-Some.head.name_offset (value_named c.loop-id.ids q) head.of_kind head.named in
     sym (more-types info q i head.ty (drop (i + 1) info.types) (value_named c.loop-id.ids q) (value_named c.add_kernel_type.new.ids q) with_it)
     ∙ ap (λ ts. option_map (finished info q i ts) (value_named c.loop-id.ids q)) (sym (drop_some info.types head.ty i head.is))
+    ∙ c.loop-id.invariant q
+
+pub returns-clause-ok : goal.returns-clause-ok
+returns-clause-ok c = λ q.
+    let info = c.args.kernel.now in
+    sym (no-types info q c.loop-id.id (drop c.loop-id.id info.types) (value_named c.loop-id.ids q) (drop_none info.types c.loop-id.id (omega arith)))
     ∙ c.loop-id.invariant q

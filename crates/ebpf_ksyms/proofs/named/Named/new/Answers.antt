@@ -1,6 +1,6 @@
 use Rattle.std.proofs.Common.{◌∙◌}
 use Rattle.ebpf_ksyms.specs.PrivateContracts.{value_named}
-use Rattle.ebpf_ksyms.proofs.Resolving.{named-step, named-end}
+use Rattle.ebpf_ksyms.proofs.Resolving.{marked_only, named-step, named-end}
 use Rattle.ebpf_ksyms.proofs.named.Named.new.Goals as goal
 
 pub loop-name-preserved : goal.loop-name-preserved
@@ -10,4 +10,6 @@ loop-name-preserved g c = λ q.
 
 pub returns : goal.returns
 unfolding value_named
-returns g c = λ q. named-end c.args.names.now c.loop-name.name-index c.args.value c.loop-name.values c.loop-name-test.false q ∙ c.loop-name.invariant q
+returns g c = λ q.
+    marked_only c.in_ok-marks.marks.items c.args.names.now c.args.value _ c.in_ok-marks.ensures q
+    (named-end c.args.names.now c.loop-name.name-index c.args.value c.loop-name.values c.loop-name-test.false q ∙ c.loop-name.invariant q)
