@@ -3,6 +3,7 @@ use Rattle.std.proofs.Common.{◌≡◌, ℕ, Bool, true, false, cond, List, [],
 use Rattle.std.proofs.lemmas.Bool.Decides.{nat_tests}
 use Rattle.std.specs.BTreeMap.{BTreeMap, get, is_at, Updates}
 use Rattle.std.specs.List.{flat_map}
+use Rattle.std.specs.Map.{lookup}
 use Rattle.std.specs.Ordering.{nat_cmp}
 use Rattle.std.specs.Prelude.{◌==◌, if◌then◌else◌, slice_get}
 use Rattle.ebpf_base.proofs.Faults.{both_None}
@@ -154,6 +155,10 @@ one_more {X = X} says same_for m n name id d knows is updates = record { known_i
         let same : d ≡ e = cc in
         ap (says o) (sym place) ∙ same_for name o id d is ∙ ap Ok same
     step q e o false here at = knows.known_is q e (sym (ap (λ b. cond b (Some d) (get nat_cmp m q)) here) ∙ at) o
+
+-- where no entry changes what is remembered stays
+pub same_remembered : {X : Type 0} (says : List ℕ → ℕ → Result X BtfError) (m n : BTreeMap ℕ X) → Remembers says m → n.entries ≡ m.entries → Remembers says n
+same_remembered says m n knows same = record { known_is = λ id d at. knows.known_is id d (sym (ap (lookup (is_at (nat_cmp id))) same) ∙ at) }
 
 -- ---- lists of which no item has a fault
 

@@ -7,7 +7,7 @@ use Rattle.std.specs.Cmp.{eq_by_cmp_equiv}
 use Rattle.std.specs.FinMap.{FinMap, get, insert, empty, get-insert, get-empty, same_map}
 use Rattle.std.specs.List.{flat_map, position, zip}
 use Rattle.std.specs.Ordering.{eq_by_cmp}
-use Rattle.std.specs.Prelude.{◌==◌, ⊤, is_some, if◌then◌else◌}
+use Rattle.std.specs.Prelude.{◌==◌, ⊤, OnOk, OnErr, is_some, if◌then◌else◌}
 use Rattle.std.specs.Result.{is_err}
 use Rattle.std.specs.Str.{bytes_eq}
 use Rattle.ebpf_base.proofs.Faults.{or_else-assoc, first_some-append, both_None, or_else-None}
@@ -414,8 +414,10 @@ module _ (reading : Reading) (info : TypeInfo) (sections : NamedSections) (found
 pub none_kept : (reading : Reading) (info : TypeInfo) (kept : FinMap text_cmp DistinctMaps) → kept ≡ empty → AreSectionMaps reading info kept
 none_kept reading info kept is = record { are = λ name k at. let wrong : None ≡ Some k = sym (get-empty text_cmp name) ∙ ap (λ x. get x name) (sym is) ∙ at in absurd (cc) }
 
-pub one_kept : (reading : Reading) (info : TypeInfo) (name : List ℕ) (k : DistinctMaps) → AreMapsOf reading info name k → (kept after : FinMap text_cmp DistinctMaps) → AreSectionMaps reading info kept → after ≡ insert kept name k → AreSectionMaps reading info after
-one_kept reading info name k one kept after before put = record { are = λ q e at. by_test q e (eq_by_cmp text_cmp q name) refl (sym (ap (λ x. get x q) put ∙ get-insert text_total kept name k q) ∙ at) }
+pub one_kept : {V E : Type 0} (reading : Reading) (info : TypeInfo) (name : List ℕ) (k : DistinctMaps) → AreMapsOf reading info name k → (kept after : FinMap text_cmp DistinctMaps) → AreSectionMaps reading info kept
+    → (r : Result V E) → OnOk r (after ≡ insert kept name k) → OnErr r (after ≡ kept) → AreSectionMaps reading info after
+one_kept reading info name k one kept after before (Err e) put same = subst (AreSectionMaps reading info) (sym same) before
+one_kept reading info name k one kept after before (Ok v) put same = record { are = λ q e at. by_test q e (eq_by_cmp text_cmp q name) refl (sym (ap (λ x. get x q) put ∙ get-insert text_total kept name k q) ∙ at) }
   where
     by_test : (q : List ℕ) (e : DistinctMaps) (b : Bool) → eq_by_cmp text_cmp q name ≡ b → cond b (Some k) (get kept q) ≡ Some e → AreMapsOf reading info q e
     by_test q e true here at = let same : k ≡ e = cc in subst (λ n. AreMapsOf reading info n e) (sym (at_name q name here)) (subst (AreMapsOf reading info name) same one)

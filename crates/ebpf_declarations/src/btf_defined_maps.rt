@@ -26,13 +26,17 @@ use ebpf_parts::{ParseError, Reading, Section};
 use std::alloc::Global;
 use std::marker::Model;
 
-/// Types that declare maps, and the maps that the DATASECs of some names declare, each name of a map once. Contracts
-/// see the types and how they are read.
+/// Types that declare maps, and the maps that the DATASECs of the names of sections declare, each name of a map once.
+/// Contracts see the types and how they are read.
 #[derive(Drop)]
 pub struct BtfDefinedMaps<'b> {
     btf: &'b Btf,
     reading: Reading,
+    sections: NamedSections,
+    known: KnownStructs,
     distinct: ByName<DistinctMaps>,
+    ghost found: { AreFound btf.now sections },
+    ghost structs: { Knows reading btf.now known },
     ghost kept: { AreSectionMaps reading btf.now distinct },
 }
 
@@ -45,71 +49,61 @@ impl<'b> Model for BtfDefinedMaps<'b> {
 }
 
 impl<'b> BtfDefinedMaps<'b> {
-    /// The BTF-defined maps. The DATASECs of these names are found in one pass, in which of each DATASEC's
-    /// name no more is looked at than the longest of them has. Their entries are read once, up to the first that has
-    /// a fault or is of a name that is none of these symbols'. `OutOfMemory` where memory is refused.
+    /// The BTF-defined maps. The DATASECs of these names are found in one pass, in which of each DATASEC's name no more
+    /// is looked at than the longest of them has. `OutOfMemory` where memory is refused.
+    #[tactic(auto, using(crate::proofs::SectionMaps::none_kept))]
     pub fn gather(
         alloc: Global,
         btf: &'b Btf,
         reading: Reading,
         names: &[&str],
-        symbols: &ByName<usize>,
     ) -> Result<BtfDefinedMaps<'b>, BtfError>
         ensures types { IfOk result (λ d. d ≡ record { reading = reading; types = btf.now }) }
         ensures memory { IfErr result (λ e. is_btf_memory e ≡ true) }
     {
         let sections = NamedSections::gather(alloc, btf, names)?;
-        let distinct = all_section_maps(alloc, btf, reading, &sections, names, symbols)?;
         Ok(BtfDefinedMaps {
             btf,
             reading,
-            distinct,
+            sections,
+            known: KnownStructs::none(alloc),
+            distinct: ByName::new(alloc),
         })
     }
 
     /// Puts the BTF-defined maps of a section by their names, DATASEC by DATASEC of the section's name and of each its
-    /// entries in order; of equal names the later stands. Each name is put once, however many entries declare it.
+    /// entries in order; of equal names the later stands. Each name is put once, however many entries declare it. What
+    /// the DATASECs of a name declare is read at the first section of the name, and kept for the others.
     pub fn put(
-        &self,
+        &mut self,
         alloc: Global,
         maps: &mut ByName<Map>,
         section: &Section<'_>,
         symbols: &ByName<usize>,
     ) -> Result<(), ParseError>
-        ensures put { OnOk result (maps.new ≡ put_all maps.old (btf_maps self.now.reading self.now.types (map.get symbols.now) section.now.index.0 section.now.name)) }
-        ensures fault { Refuses is_parse_memory result (btf_maps_fault self.now.reading self.now.types (map.get symbols.now) section.now.index.0 section.now.name) }
+        ensures stays { self.new ≡ self.old }
+        ensures put { OnOk result (maps.new ≡ put_all maps.old (btf_maps self.old.reading self.old.types (map.get symbols.now) section.now.index.0 section.now.name)) }
+        ensures fault { Refuses is_parse_memory result (btf_maps_fault self.old.reading self.old.types (map.get symbols.now) section.now.index.0 section.now.name) }
     {
         if let Some(distinct) = self.distinct.get(section.name) {
             return distinct.put(alloc, maps, section, symbols);
         }
-        let distinct = self.read(alloc, section.name, symbols)?;
-        distinct.put(alloc, maps, section, symbols)
-    }
-
-    /// What the DATASECs of a name declare, of which the maps are not kept.
-    fn read(
-        &self,
-        alloc: Global,
-        name: &str,
-        symbols: &ByName<usize>,
-    ) -> Result<DistinctMaps, ParseError>
-        ensures maps { IfOk result (λ distinct. AreMapsOf self.now.reading self.now.types name.now distinct) }
-        ensures fault { Refuses is_parse_memory result (btf_maps_fault self.now.reading self.now.types (map.get symbols.now) 0 name.now) }
-    {
-        let sections = match NamedSections::of_name(alloc, self.btf, name) {
-            Ok(sections) => sections,
-            Err(error) => return Err(parse_error(error)),
-        };
-        let mut known = KnownStructs::none(alloc);
-        read_section_maps(
+        if let Err(error) = self.sections.look_for(alloc, self.btf, section.name) {
+            return Err(parse_error(error));
+        }
+        let distinct = read_section_maps(
             alloc,
             self.btf,
             self.reading,
-            &mut known,
-            &sections,
-            name,
+            &mut self.known,
+            &self.sections,
+            section.name,
             symbols,
-        )
+        )?;
+        distinct.put(alloc, maps, section, symbols)?;
+        self.distinct
+            .insert(String::from_str(alloc, section.name)?, distinct)?;
+        Ok(())
     }
 }
 
@@ -149,7 +143,7 @@ fn add_entry(
     requires known { Knows reading btf.now known.old }
     requires numbered { AreNumbered btf.now.strings distinct.old.names }
     requires symbols { AllZip (HasSymbol (map.get symbols.now)) distinct.old.names.names distinct.old.last }
-    ensures known { OnOk result (Knows reading btf.now known.new) }
+    ensures known { Knows reading btf.now known.new }
     ensures numbered { OnOk result (AreNumbered btf.now.strings distinct.new.names) }
     ensures added { OnOk result ((name : List ℕ) × (n : ℕ) × (d : MapDefinitions) × (declared reading btf.now entry.now ≡ Ok (name, d)) × HasNumber distinct.old.names.names distinct.new.names.names name n × (distinct.new.last ≡ put_at distinct.old.last n d) × HasSymbol (map.get symbols.now) name d) }
     ensures fault { Refuses is_parse_memory result (fault_of (entry_map reading btf.now (map.get symbols.now) 0 entry.now)) }
@@ -186,7 +180,7 @@ fn read_entries(
     entries: &[DataSecEntry],
 ) -> Result<DistinctMaps, ParseError>
     requires { Knows reading btf.now known.old }
-    ensures known { OnOk result (Knows reading btf.now known.new) }
+    ensures known { Knows reading btf.now known.new }
     ensures kept { IfOk result (λ distinct. AreKept distinct.names.names distinct.last (flat_map (λ entry. given (declared reading btf.now entry)) entries.now)) }
     ensures fault { Refuses is_parse_memory result (entries_fault reading btf.now (map.get symbols.now) 0 entries.now) }
 {
@@ -199,7 +193,7 @@ fn read_entries(
 
 /// What the DATASECs of a name declare, which was looked for, or the first fault in a section of the name with these
 /// symbols.
-pub fn read_section_maps(
+fn read_section_maps(
     alloc: Global,
     btf: &Btf,
     reading: Reading,
@@ -211,7 +205,7 @@ pub fn read_section_maps(
     requires found { AreFound btf.now sections.now }
     requires there { is_some (map.get sections.now.by_name name.now) ≡ true }
     requires known { Knows reading btf.now known.old }
-    ensures known { OnOk result (Knows reading btf.now known.new) }
+    ensures known { Knows reading btf.now known.new }
     ensures maps { IfOk result (λ distinct. AreMapsOf reading btf.now name.now distinct) }
     ensures fault { Refuses is_parse_memory result (btf_maps_fault reading btf.now (map.get symbols.now) 0 name.now) }
 {
@@ -223,73 +217,6 @@ pub fn read_section_maps(
         Some(offset) => Err(ParseError::BtfError(BtfError::InvalidStringOffset { offset })),
         None => Ok(distinct),
     }
-}
-
-/// Keeps what the DATASECs of a name declare, unless an entry has a fault or a name that no symbol has. Whether none
-/// has.
-fn add_section_maps(
-    alloc: Global,
-    by_name: &mut ByName<DistinctMaps>,
-    btf: &Btf,
-    reading: Reading,
-    known: &mut KnownStructs,
-    sections: &NamedSections,
-    symbols: &ByName<usize>,
-    name: &str,
-) -> Result<bool, BtfError>
-    requires found { AreFound btf.now sections.now }
-    requires by_name { AreSectionMaps reading btf.now by_name.old }
-    requires known { Knows reading btf.now known.old }
-    ensures by_name { OnOk result (AreSectionMaps reading btf.now by_name.new) }
-    ensures known { IfOk result (λ clear. MatchBool clear (Knows reading btf.now known.new) ⊤) }
-    ensures memory { IfErr result (λ e. is_btf_memory e ≡ true) }
-{
-    if by_name.contains_key(name) {
-        return Ok(true);
-    }
-    if !sections.by_name.contains_key(name) {
-        return Ok(true);
-    }
-    let distinct = match read_section_maps(alloc, btf, reading, known, sections, name, symbols) {
-        Ok(distinct) => distinct,
-        Err(ParseError::OutOfMemory) => return Err(BtfError::OutOfMemory),
-        Err(_other) => return Ok(false),
-    };
-    by_name.insert(String::from_str(alloc, name)?, distinct)?;
-    Ok(true)
-}
-
-/// What the DATASECs of these names declare, up to the first name of which an entry has a fault or a name that no
-/// symbol has. `OutOfMemory` where memory is refused.
-pub fn all_section_maps(
-    alloc: Global,
-    btf: &Btf,
-    reading: Reading,
-    sections: &NamedSections,
-    names: &[&str],
-    symbols: &ByName<usize>,
-) -> Result<ByName<DistinctMaps>, BtfError>
-    requires { AreFound btf.now sections.now }
-    ensures by_name { IfOk result (λ by_name. AreSectionMaps reading btf.now by_name) }
-    ensures memory { IfErr result (λ e. is_btf_memory e ≡ true) }
-{
-    let mut by_name = ByName::new(alloc);
-    let mut known = KnownStructs::none(alloc);
-    for name in names {
-        if !add_section_maps(
-            alloc,
-            &mut by_name,
-            btf,
-            reading,
-            &mut known,
-            sections,
-            symbols,
-            name,
-        )? {
-            return Ok(by_name);
-        }
-    }
-    Ok(by_name)
 }
 
 /// The fault of types as a fault of parsing; want of memory stays want of memory.

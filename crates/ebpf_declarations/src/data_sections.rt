@@ -182,14 +182,20 @@ impl NamedSections {
         gather_into(alloc, btf, by_name, longest)
     }
 
-    /// The DATASECs of one name. `OutOfMemory` where memory is refused.
-    pub fn of_name(alloc: Global, btf: &Btf, name: &str) -> Result<NamedSections, BtfError>
-        ensures found { IfOk result (λ found. AreFound btf.now found) }
-        ensures there { IfOk result (λ found. is_some (get found.by_name name.now) ≡ true) }
+    /// Looks for the DATASECs of a name, and of no other then, where it was not looked for. `OutOfMemory` where memory
+    /// is refused.
+    pub fn look_for(&mut self, alloc: Global, btf: &Btf, name: &str) -> Result<(), BtfError>
+        requires { AreFound btf.now self.old }
+        ensures found { AreFound btf.now self.new }
+        ensures there { OnOk result (is_some (get self.new.by_name name.now) ≡ true) }
         ensures memory { IfErr result (λ e. is_btf_memory e ≡ true) }
     {
+        if self.by_name.contains_key(name) {
+            return Ok(());
+        }
         let mut by_name = ByName::new(alloc);
         by_name.insert(String::from_str(alloc, name)?, Items::new(alloc))?;
-        gather_into(alloc, btf, by_name, name.len())
+        *self = gather_into(alloc, btf, by_name, name.len())?;
+        Ok(())
     }
 }

@@ -33,7 +33,7 @@ pub fn declared(
 ) -> Result<(usize, MapDefinitions), BtfError>
     requires known { Knows reading btf.now known.old }
     requires numbered { AreNumbered btf.now.strings names.old }
-    ensures known { OnOk result (Knows reading btf.now known.new) }
+    ensures known { Knows reading btf.now known.new }
     ensures numbered { OnOk result (AreNumbered btf.now.strings names.new) }
     ensures declared { IfOk result (λ found. (name : List ℕ) × (declared reading btf.now entry.now ≡ Ok (name, found.1)) × HasNumber names.old.names names.new.names name found.0) }
     ensures fault { IfErr result (λ e. MatchBool (is_btf_memory e) ⊤ (declared reading btf.now entry.now ≡ Err e)) }

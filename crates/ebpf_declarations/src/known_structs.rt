@@ -1,6 +1,6 @@
 //! What structs say of maps, member by member, remembered by the ids of the structs.
 
-ghost use Rattle.std.specs.Prelude.{◌≡◌, OnOk};
+ghost use Rattle.std.specs.Prelude.{◌≡◌};
 ghost use Rattle.ebpf_base.specs.Faults.{Gives};
 ghost use Rattle.ebpf_btf.specs.Memory.{is_btf_memory};
 ghost use Rattle.ebpf_btf.specs.TypeInfo.{TypeInfo};
@@ -156,7 +156,7 @@ fn inner_struct_definition(
 ) -> Result<BtfMapDef, BtfError>
     requires { RemembersInner reading btf.now known.old }
     ensures says { Gives is_btf_memory result (inner_struct_definition reading btf.now name.now struct_id) }
-    ensures known { OnOk result (RemembersInner reading btf.now known.new) }
+    ensures known { RemembersInner reading btf.now known.new }
 {
     if let Some(said) = known.get(&struct_id) {
         return Ok(*said);
@@ -178,7 +178,7 @@ fn member_value(
 ) -> Result<MemberValue, BtfError>
     requires { RemembersInner reading btf.now known.old }
     ensures says { Gives is_btf_memory result (member_value reading btf.now name.now member.now) }
-    ensures known { OnOk result (RemembersInner reading btf.now known.new) }
+    ensures known { RemembersInner reading btf.now known.new }
 {
     let about = map_member_at(btf, member)?;
     if about != MapMember::Values {
@@ -204,7 +204,7 @@ pub fn definitions(
 ) -> Result<MapDefinitions, BtfError>
     requires { RemembersInner reading btf.now known.old }
     ensures says { Gives is_btf_memory result (definitions reading btf.now name.now members.now) }
-    ensures known { OnOk result (RemembersInner reading btf.now known.new) }
+    ensures known { RemembersInner reading btf.now known.new }
 {
     let mut all = MapDefinitions::none();
     for index in 0..members.len() {
@@ -246,7 +246,7 @@ fn read_struct(
 ) -> Result<MapDefinitions, BtfError>
     requires { RemembersInner reading btf.now inner_maps.old }
     ensures says { Gives is_btf_memory result (struct_definitions reading btf.now name.now struct_id) }
-    ensures known { OnOk result (RemembersInner reading btf.now inner_maps.new) }
+    ensures known { RemembersInner reading btf.now inner_maps.new }
 {
     let members = members_at(btf, struct_id)?;
     definitions(alloc, btf, reading, inner_maps, name, &members)
@@ -263,7 +263,7 @@ pub fn struct_definitions(
 ) -> Result<MapDefinitions, BtfError>
     requires { Knows reading btf.now known.old }
     ensures says { Gives is_btf_memory result (struct_definitions reading btf.now name.now struct_id) }
-    ensures known { OnOk result (Knows reading btf.now known.new) }
+    ensures known { Knows reading btf.now known.new }
 {
     if let Some(said) = known.maps.get(&struct_id) {
         return Ok(*said);

@@ -8,7 +8,7 @@ ghost use Rattle.ebpf_parts.specs.Memory.{is_parse_memory};
 ghost use Rattle.ebpf_parsing.specs.Maps.{data_bytes, data_flags, data_map, data_map_fault, word_at, legacy_pinning, definition_of, legacy_map, legacy_fault, legacy_maps, legacy_maps_fault, btf_defined_maps, btf_defined_maps_fault};
 ghost use Rattle.ebpf_parsing.specs.ObjectTables.{last_maps};
 
-use crate::sections::{Groups, SectionNames, is_index};
+use crate::sections::{SectionNames, is_index};
 use crate::symbols::{NamedSymbol, symbol_indices_by_name};
 use ebpf_base::{ByName, Items, Text};
 use ebpf_btf::Btf;
@@ -231,34 +231,12 @@ pub fn put_legacy_maps(
     put_each(alloc, maps, section, symbols)
 }
 
-/// The indices of the symbols of some sections by name.
-fn map_symbols(
-    alloc: Global,
-    sections: &[usize],
-    symbols: &Groups<NamedSymbol<'_>>,
-) -> Result<ByName<usize>, ParseError>
-    ensures memory { IfErr result (λ e. is_parse_memory e ≡ true) }
-{
-    let mut numbers = ByName::new(alloc);
-    for section in sections {
-        for symbol in symbols.of(*section) {
-            if numbers.contains_key(symbol.name) {
-                continue;
-            }
-            numbers.insert(String::from_str(alloc, symbol.name)?, symbol.index)?;
-        }
-    }
-    Ok(numbers)
-}
-
-/// The BTF-defined maps, where the DATASECs of all sections of maps are found in one pass, and what they
-/// declare is read as far as these sections have symbols of its names.
+/// The BTF-defined maps, where the DATASECs of all sections of maps are found in one pass.
 pub fn find_btf_defined_maps<'b>(
     alloc: Global,
     types: &'b Option<Btf>,
     reading: Reading,
     names: &SectionNames<'_>,
-    symbols: &Groups<NamedSymbol<'_>>,
 ) -> Result<Option<BtfDefinedMaps<'b>>, ParseError>
     ensures types { IfOk result (λ declared. declared ≡ types_in_reading reading types.now) }
     ensures memory { IfErr result (λ e. is_parse_memory e ≡ true) }
@@ -266,8 +244,7 @@ pub fn find_btf_defined_maps<'b>(
     let Some(types) = types else {
         return Ok(None);
     };
-    let numbers = map_symbols(alloc, names.map_indices.as_slice(), symbols)?;
-    match BtfDefinedMaps::gather(alloc, types, reading, names.maps.as_slice(), &numbers) {
+    match BtfDefinedMaps::gather(alloc, types, reading, names.maps.as_slice()) {
         Ok(declared) => Ok(Some(declared)),
         Err(error) => Err(parse_error(error)),
     }
@@ -278,12 +255,13 @@ pub fn find_btf_defined_maps<'b>(
 pub fn put_btf_defined_maps(
     alloc: Global,
     maps: &mut ByName<Map>,
-    types: &Option<BtfDefinedMaps<'_>>,
+    types: &mut Option<BtfDefinedMaps<'_>>,
     section: &Section<'_>,
     symbols: &[NamedSymbol<'_>],
 ) -> Result<(), ParseError>
-    ensures put { OnOk result (maps.new ≡ put_all maps.old (btf_defined_maps types.now section.now symbols.now)) }
-    ensures fault { Refuses is_parse_memory result (btf_defined_maps_fault types.now section.now symbols.now) }
+    ensures stays { types.new ≡ types.old }
+    ensures put { OnOk result (maps.new ≡ put_all maps.old (btf_defined_maps types.old section.now symbols.now)) }
+    ensures fault { Refuses is_parse_memory result (btf_defined_maps_fault types.old section.now symbols.now) }
 {
     let Some(types) = types else {
         return Err(ParseError::NoBTF);

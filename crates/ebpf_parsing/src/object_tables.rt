@@ -196,14 +196,15 @@ impl ObjectTables {
     fn add_kind(
         &mut self,
         alloc: Global,
-        inputs: &SectionInputs<'_>,
+        inputs: &mut SectionInputs<'_>,
         last: &ByName<usize>,
         section: &Section<'_>,
         symbols: &[NamedSymbol<'_>],
     ) -> Result<(), ParseError>
+        ensures inputs { inputs.new ≡ inputs.old }
         ensures others { OnOk result (self.new.relocations ≡ self.old.relocations) }
-        ensures put { OnOk result (record self.new { relocations = put_all self.old.relocations (relocations_in section.now); section_infos = put_all self.new.section_infos ((section.now.name, section.now.index) ∷ []) } ≡ added_last last.now inputs.now self.old section.now symbols.now) }
-        ensures fault { Refuses is_parse_memory result (fault_in inputs.now.reading inputs.now.btf section.now symbols.now) }
+        ensures put { OnOk result (record self.new { relocations = put_all self.old.relocations (relocations_in section.now); section_infos = put_all self.new.section_infos ((section.now.name, section.now.index) ∷ []) } ≡ added_last last.now inputs.old self.old section.now symbols.now) }
+        ensures fault { Refuses is_parse_memory result (fault_in inputs.old.reading inputs.old.btf section.now symbols.now) }
     {
         match section.kind {
             EbpfSectionKind::Program => self.add_programs(alloc, inputs, section, symbols),
@@ -212,7 +213,13 @@ impl ObjectTables {
             }
             EbpfSectionKind::Maps => put_legacy_maps(alloc, &mut self.maps, section, symbols),
             EbpfSectionKind::BtfMaps => {
-                put_btf_defined_maps(alloc, &mut self.maps, &inputs.declared, section, symbols)
+                put_btf_defined_maps(
+                    alloc,
+                    &mut self.maps,
+                    &mut inputs.declared,
+                    section,
+                    symbols,
+                )
             }
             EbpfSectionKind::Text => self.add_texts(alloc, inputs, section, symbols),
             _ => Ok(()),
@@ -224,15 +231,16 @@ impl ObjectTables {
     fn add_section(
         &mut self,
         alloc: Global,
-        inputs: &SectionInputs<'_>,
+        inputs: &mut SectionInputs<'_>,
         last: &ByName<usize>,
         section: &ElfSection<'_>,
         tables: &[RelocationTable<'_>],
         symbols: &[NamedSymbol<'_>],
     ) -> Result<(), ParseError>
         requires { tables.now ≡ filter (λ r. relocated_section r == section.now.index) (relocation_sections section.now.file) }
-        ensures put { OnOk result (self.new ≡ added_last last.now inputs.now self.old (section_of section.now) symbols.now) }
-        ensures fault { Refuses is_parse_memory result (or_else (section_fault section.now) (fault_in inputs.now.reading inputs.now.btf (section_of section.now) symbols.now)) }
+        ensures inputs { inputs.new ≡ inputs.old }
+        ensures put { OnOk result (self.new ≡ added_last last.now inputs.old self.old (section_of section.now) symbols.now) }
+        ensures fault { Refuses is_parse_memory result (or_else (section_fault section.now) (fault_in inputs.old.reading inputs.old.btf (section_of section.now) symbols.now)) }
     {
         let section = read_section(alloc, section, tables)?;
         self.add_kind(alloc, inputs, last, &section, symbols)?;
@@ -246,13 +254,12 @@ fn section_inputs<'s>(
     alloc: Global,
     metadata: &'s FileMetadata,
     names: &SectionNames<'_>,
-    symbols: &Groups<NamedSymbol<'_>>,
 ) -> Result<SectionInputs<'s>, ParseError>
     ensures inputs { IfOk result (λ inputs. inputs ≡ metadata.now) }
     ensures memory { IfErr result (λ e. is_parse_memory e ≡ true) }
 {
     let records = RecordsByName::gather(alloc, &metadata.btf_ext, names.code.as_slice())?;
-    let declared = find_btf_defined_maps(alloc, &metadata.btf, metadata.reading, names, symbols)?;
+    let declared = find_btf_defined_maps(alloc, &metadata.btf, metadata.reading, names)?;
     Ok(SectionInputs {
         metadata,
         records,
@@ -264,7 +271,7 @@ fn section_inputs<'s>(
 /// name.
 fn read_by_last(
     alloc: Global,
-    inputs: &SectionInputs<'_>,
+    inputs: &mut SectionInputs<'_>,
     section_infos: ByName<SectionIndex>,
     file: &ElfFile<'_>,
     tables: &Groups<RelocationTable<'_>>,
@@ -274,8 +281,8 @@ fn read_by_last(
     requires tables { AreTablesOf file.now tables.now.groups }
     requires grouped { (q : ℕ) → group_at symbols.now.groups q ≡ section_symbols (file_symbols file.now) q }
     requires last { last.now ≡ last_data (object_sections file.now) }
-    ensures object_tables { IfOk result (λ p. p ≡ object_tables_of inputs.now section_infos file.now) }
-    ensures fault { Refuses is_parse_memory result (sections_fault inputs.now.reading inputs.now.btf file.now) }
+    ensures object_tables { IfOk result (λ p. p ≡ object_tables_of inputs.old section_infos file.now) }
+    ensures fault { Refuses is_parse_memory result (sections_fault inputs.old.reading inputs.old.btf file.now) }
 {
     let mut object_tables = ObjectTables::new(alloc, section_infos);
     for section in file.sections() {
@@ -310,10 +317,10 @@ pub fn read_sections(
     ensures fault { Refuses is_parse_memory result (sections_fault metadata.now.reading metadata.now.btf file.now) }
 {
     let names = SectionNames::read(alloc, file)?;
-    let inputs = section_inputs(alloc, metadata, &names, symbols)?;
+    let mut inputs = section_inputs(alloc, metadata, &names)?;
     read_by_last(
         alloc,
-        &inputs,
+        &mut inputs,
         section_infos,
         file,
         tables,

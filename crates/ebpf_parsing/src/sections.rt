@@ -94,8 +94,6 @@ pub struct SectionNames<'a> {
     pub code: Vec<&'a str>,
     /// The names of the sections of BTF-defined maps.
     pub maps: Vec<&'a str>,
-    /// The indices of these.
-    pub map_indices: Vec<usize>,
     /// The index of the last section of data of each name: its map stands, and those of the others need not be made.
     pub last_data: ByName<usize>,
 }
@@ -108,7 +106,6 @@ impl<'a> SectionNames<'a> {
         ensures memory { IfErr result (λ e. is_parse_memory e ≡ true) }
     {
         let name = name_or_empty(section);
-        let index = section.index().0;
         match EbpfSectionKind::from_elf(name, section) {
             EbpfSectionKind::Program | EbpfSectionKind::Text => {
                 self.code.push(name)?;
@@ -116,12 +113,11 @@ impl<'a> SectionNames<'a> {
             }
             EbpfSectionKind::BtfMaps => {
                 self.maps.push(name)?;
-                self.map_indices.push(index)?;
                 Ok(())
             }
             EbpfSectionKind::Data | EbpfSectionKind::Rodata | EbpfSectionKind::Bss => {
                 self.last_data
-                    .insert(String::from_str(alloc, name)?, index)?;
+                    .insert(String::from_str(alloc, name)?, section.index().0)?;
                 Ok(())
             }
             _ => Ok(()),
@@ -136,7 +132,6 @@ impl<'a> SectionNames<'a> {
         let mut names = SectionNames {
             code: Vec::new(alloc),
             maps: Vec::new(alloc),
-            map_indices: Vec::new(alloc),
             last_data: ByName::new(alloc),
         };
         for section in file.sections() {

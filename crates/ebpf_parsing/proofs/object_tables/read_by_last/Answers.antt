@@ -1,4 +1,4 @@
-use Rattle.std.proofs.Common.{◌≡◌, ◌∷◌, rules, sym, ap, subst, ◌∙◌, None, false, map, filter}
+use Rattle.std.proofs.Common.{◌≡◌, ◌∷◌, rules, refl, sym, ap, subst, ◌∙◌, None, false, map, filter}
 use Rattle.std.specs.Prelude.{◌==◌, Some, Err, MatchBool, ⊤}
 use Rattle.ebpf_base.specs.Faults.{Refuses, first_some, or_else}
 use Rattle.ebpf_base.specs.Maps.{text_total}
@@ -28,6 +28,7 @@ loop-section-init c =
     let items : c.into_iter-section-iterator.result ≡ sections file = search rules in
     record {
       from = subst (AreOf file) (sym items) (all_from file);
+      inputs = refl;
       lasts = all_lasts text_total data_row c.args.last.now (map section_of (others c.into_iter-section-iterator.result)) (c.requires.last ∙ ap (λ r. last_data (map section_of (others r))) (sym items));
       object_tables = ap (λ p. all_added metadata p ys (map section_of (others c.into_iter-section-iterator.result))) empty
           ∙ ap (λ r. all_added metadata (object_tables_from c.args.section_infos) ys (map section_of (others r))) items;
@@ -51,6 +52,7 @@ loop-section-preserved c =
     let front : c.loop-section.section-iterator ≡ s ∷ c.next.new.self = search rules in
     let other : is_type_information s ≡ false = search rules in
     let of_section : c.of-in-loop-section.result.now ≡ section_symbols ys s.index = search rules in
+    let inputs : c.loop-section.inputs ≡ metadata = c.loop-section.invariant.inputs in
     let put : c.add_section.new.self ≡ added_last c.args.last.now metadata c.loop-section.object_tables (section_of s) c.of-in-loop-section.result.now = search rules in
     let lasts : DataLasts c.args.last.now (section_of s ∷ map section_of (others c.next.new.self)) =
     subst (λ r. DataLasts c.args.last.now (map section_of r)) (ap others front ∙ kept s c.next.new.self other) c.loop-section.invariant.lasts in
@@ -58,6 +60,7 @@ loop-section-preserved c =
     let clear : read_fault metadata.reading metadata.btf file s ≡ None = ap (λ g. or_else (section_fault s) (fault_in metadata.reading metadata.btf (section_of s) g)) (sym of_section) ∙ clear_there in
     record {
       from = (subst (AreOf file) front c.loop-section.invariant.from).1;
+      inputs = c.add_section.ensures.inputs ∙ inputs;
       lasts = fewer_lasts text_total data_row c.args.last.now (section_of s) (map section_of (others c.next.new.self)) lasts;
       object_tables = ap (λ p. all_added metadata p ys (map section_of (others c.next.new.self))) put
           ∙ same_added c.args.last.now (section_of s) (map section_of (others c.next.new.self)) lasts metadata c.loop-section.object_tables ys c.of-in-loop-section.result.now
@@ -84,5 +87,5 @@ returns-in_err-add_section-clause-fault c =
     ∙ ap (λ g. or_else (or_else (section_fault s) (fault_in reading types (section_of s) g)) (first_some (read_fault reading types file) (others c.next.new.self))) (sym of_section) in
     let e : ParseError = c.in_err-add_section.field-0.0 in
     let result : c.from_residual.result ≡ Err e = search rules in
-    let there = refused_first is_parse_memory e (or_else (section_fault s) (fault_in reading types (section_of s) c.of-in-loop-section.result.now)) (first_some (read_fault reading types file) (others c.next.new.self)) c.in_err-add_section.ensures.fault in
+    let there = refused_first is_parse_memory e (or_else (section_fault s) (fault_in reading types (section_of s) c.of-in-loop-section.result.now)) (first_some (read_fault reading types file) (others c.next.new.self)) (rw c.loop-section.invariant.inputs at c.in_err-add_section.ensures.fault) in
     subst (λ r. Refuses is_parse_memory r (sections_fault reading types file)) (sym result) (subst (λ x. MatchBool (is_parse_memory e) ⊤ (x ≡ Some e)) (sym whole) there)

@@ -14,6 +14,7 @@ abbrev pub invariant-loop-section : goal.invariant-loop-section
 invariant-loop-section l = record {
   from : AreOf l.file l.section-iterator;
   lasts : DataLasts l.last (map section_of (others l.section-iterator));
-  object_tables : all_added l.inputs l.object_tables (file_symbols l.file) (map section_of (others l.section-iterator)) ≡ object_tables_of l.inputs l.fn.section_infos l.file;
-  fault : first_some (read_fault l.inputs.reading l.inputs.btf l.file) (others l.section-iterator) ≡ sections_fault l.inputs.reading l.inputs.btf l.file;
+  inputs : l.inputs ≡ l.fn.inputs;
+  object_tables : all_added l.fn.inputs l.object_tables (file_symbols l.file) (map section_of (others l.section-iterator)) ≡ object_tables_of l.fn.inputs l.fn.section_infos l.file;
+  fault : first_some (read_fault l.fn.inputs.reading l.fn.inputs.btf l.file) (others l.section-iterator) ≡ sections_fault l.fn.inputs.reading l.fn.inputs.btf l.file;
 }

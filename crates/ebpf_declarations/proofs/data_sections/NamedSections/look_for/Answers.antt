@@ -2,7 +2,7 @@ use Rattle.std.proofs.Common.{rules, ◌≡◌, [], true, length, refl}
 use Rattle.std.specs.Prelude.{is_some}
 use Rattle.std.specs.FinMap.{get, insert}
 use Rattle.ebpf_declarations.proofs.SectionMaps.{one_wanted, one_there}
-use Rattle.ebpf_declarations.proofs.data_sections.NamedSections.of_name.Goals as goal
+use Rattle.ebpf_declarations.proofs.data_sections.NamedSections.look_for.Goals as goal
 
 pub gather_into-requires : goal.gather_into-requires
 gather_into-requires c =
