@@ -2,7 +2,6 @@ use Rattle.std.proofs.Common.{◌≡◌, ◌∙◌, Some, sym, ap}
 use Rattle.std.specs.FinMap.{get}
 use Rattle.ebpf_declarations.proofs.NumberedNames.{there}
 use Rattle.ebpf_declarations.specs.SectionMaps.{missing, HasSymbol}
-use Rattle.ebpf_declarations.specs.Maps.{declared}
 use Rattle.ebpf_declarations.proofs.btf_defined_maps.add_entry.Goals as goal
 
 pub check_symbol-requires : goal.check_symbol-requires
