@@ -1,7 +1,8 @@
 -- Why a record has no outcome, as an equation and step by step.
-use Rattle.std.proofs.Common.{◌≡◌, ℕ, zero, suc, ◌<◌, Bool, true, false, cond, List, [], ◌∷◌, Option, Some, Result, Ok, Err, refl, sym, ap, ◌∙◌, subst, arith, slice_get}
+use Rattle.std.proofs.Common.{◌≡◌, ℕ, zero, suc, ◌<◌, ◌&&◌, Bool, true, false, cond, List, [], ◌∷◌, Option, Some, Result, Ok, Err, refl, sym, ap, ◌∙◌, subst, arith, slice_get}
 use Rattle.std.specs.Prelude.{IfErr, MatchBool, filter, is_ok, not, ⊤}
 use Rattle.std.specs.List.{list_all}
+use Rattle.std.proofs.lemmas.Bool.{and_parts}
 use Rattle.std.proofs.lemmas.Option.{same_Some}
 use Rattle.std.proofs.lemmas.Result.{IfErr-at_err, IfErr-weaker}
 use Rattle.ebpf_btf.specs.TypeInfo.{TypeInfo}
@@ -62,6 +63,32 @@ module _ {A X E : Type 0} (f : A → Result X E) (xs : List A) where
   pub fails_each : (fault : E) → FirstFails f xs fault → each f xs ≡ Err fault
   fails_each fault h = fails_first f (each f) (λ x y ys. y ∷ ys) [] refl (λ x xs. refl) xs fault h
 
+-- ---- where all pass none is left, and else some are
+
+module _ {A X E : Type 0} (f : A → Result X E) where
+  none_asked : (xs : List A) → each f xs ≡ Ok [] → xs ≡ []
+  none_asked [] h = refl
+  none_asked (x ∷ xs) h = by_answers (f x) (each f xs) h
+    where
+      by_answers : (a : Result X E) (r : Result (List X) E) → if_ok a (λ y. if_ok r (λ ys. Ok (y ∷ ys))) ≡ Ok [] → x ∷ xs ≡ []
+      by_answers (Err e) r h = cc
+      by_answers (Ok y) (Err e) h = cc
+      by_answers (Ok y) (Ok ys) h = cc
+
+module _ {A : Type 0} (p : A → Bool) where
+  none_left : (xs : List A) → list_all p xs ≡ true → filter (λ v. not (p v)) xs ≡ []
+  none_left [] all = refl
+  none_left (x ∷ xs) all = rw (and_parts (p x) (list_all p xs) all).0 (none_left xs (and_parts (p x) (list_all p xs) all).1)
+
+  some_left : (xs : List A) → list_all p xs ≡ false → filter (λ v. not (p v)) xs ≡ [] → ⊥
+  some_left [] some none = cc
+  some_left (x ∷ xs) some none = by_test (p x) (some_left xs) some none
+    where
+      by_test : (b : Bool) → (list_all p xs ≡ false → filter (λ v. not (p v)) xs ≡ [] → ⊥) → (b && list_all p xs) ≡ false
+          → cond (not b) (x ∷ filter (λ v. not (p v)) xs) (filter (λ v. not (p v)) xs) ≡ [] → ⊥
+      by_test true rest some none = rest some none
+      by_test false rest some none = cc
+
 -- ---- matches in conflict
 
 module _ (target : TypeInfo) (name : List ℕ) (loaded : Option LoadedField) where
@@ -76,18 +103,31 @@ module _ (target : TypeInfo) (name : List ℕ) (loaded : Option LoadedField) whe
   conflict kind [] = tt
   conflict kind (first ∷ others) = by_test (list_all (values_agree first) others) refl
     where
+      by_names : list_all (values_agree first) others ≡ false → (names : List (List ℕ)) → differing_names target first others ≡ Ok names → InConflict (first ∷ others) (Err (ConflictingCandidates name names))
+      by_names some [] is = absurd (some_left (values_agree first) others some (none_asked named (filter (λ v. not (values_agree first v)) others) is))
+      by_names some (other ∷ more) is = Differing first others other more is
+
       by_test : (b : Bool) → list_all (values_agree first) others ≡ b
           → InConflict (first ∷ others) (cond b (Ok (record { value = first.number; local = loaded; target = first.loaded })) (if_ok (differing_names target first others) (λ names. Err (ConflictingCandidates name names))))
       by_test true all = tt
       by_test false some =
           by_answer (InConflict (first ∷ others)) (differing_names target first others) (λ names. Err (ConflictingCandidates name names))
-          (λ e is. Unreadable first others e some (IfErr-at_err _ is (each_fails named (filter (λ v. not (values_agree first v)) others))))
-          (λ names is. Differing first others names some is)
+          (λ e is. Unreadable first others e (IfErr-at_err _ is (each_fails named (filter (λ v. not (values_agree first v)) others))))
+          (λ names is. by_names some names is)
+
+  not_all : (first : MatchValue) (others : List MatchValue) → ((differing_names target first others ≡ Ok []) → ⊥) → list_all (values_agree first) others ≡ false
+  not_all first others some = by_test (list_all (values_agree first) others) refl
+    where
+      by_test : (b : Bool) → list_all (values_agree first) others ≡ b → list_all (values_agree first) others ≡ false
+      by_test true all = absurd (some (ap (each named) (none_left (values_agree first) others all)))
+      by_test false is = is
 
   conflict_refuses : (kind : _) {values : List MatchValue} {fault : RelocationError} → AreInConflict target name values fault → outcome_of_matches target name kind loaded values ≡ Err fault
   unfolding outcome_of_matches
-  conflict_refuses kind (Unreadable first others fault some h) = rw (some, fails_each named (filter (λ v. not (values_agree first v)) others) fault h) refl
-  conflict_refuses kind (Differing first others names some is) = rw (some, is) refl
+  conflict_refuses kind (Unreadable first others fault h) =
+      let is : differing_names target first others ≡ Err fault = fails_each named (filter (λ v. not (values_agree first v)) others) fault h in
+      rw (not_all first others (λ none. cc), is) refl
+  conflict_refuses kind (Differing first others other more is) = rw (not_all first others (λ none. cc), is) refl
 
 -- ---- over candidates
 

@@ -1,6 +1,5 @@
 -- What holds of every record and all types, and why a record has no outcome.
 use Rattle.std.specs.Prelude.{◌≡◌, ℕ, false, not, List, ◌∷◌, filter, Option, Ok, Err, Result}
-use Rattle.std.specs.List.{list_all}
 use Rattle.ebpf_btf.specs.TypeInfo.{TypeInfo}
 use Rattle.ebpf_btf.specs.declared.error.BtfError.{BtfError as TypeError}
 use Rattle.ebpf_ext.specs.declared.relocation.Relocation.{Relocation}
@@ -17,17 +16,14 @@ use Rattle.ebpf_core.specs.declared.paths.LocalPath.{LocalPath}
 use Rattle.ebpf_core.specs.declared.matches.MatchValue.{MatchValue}
 use Rattle.ebpf_core.specs.declared.outcome.Outcome.{Outcome}
 
--- Matches are in conflict: not all later ones agree with the first, and one that differs has no name that can be read, or
--- all have.
+-- Matches are in conflict: one that differs from the first has no name that can be read, or some differ from it.
 pub data AreInConflict (target : TypeInfo) (type_name : List ℕ) : List MatchValue → RelocationError → Type 0 where
   Unreadable : (first : MatchValue) (others : List MatchValue) (fault : RelocationError)
-      → list_all (values_agree first) others ≡ false
       → FirstFails (λ v. of_types (type_name_at target v.candidate)) (filter (λ v. not (values_agree first v)) others) fault
       → AreInConflict target type_name (first ∷ others) fault
-  Differing : (first : MatchValue) (others : List MatchValue) (names : List (List ℕ))
-      → list_all (values_agree first) others ≡ false
-      → differing_names target first others ≡ Ok names
-      → AreInConflict target type_name (first ∷ others) (ConflictingCandidates type_name names)
+  Differing : (first : MatchValue) (others : List MatchValue) (name : List ℕ) (names : List (List ℕ))
+      → differing_names target first others ≡ Ok (name ∷ names)
+      → AreInConflict target type_name (first ∷ others) (ConflictingCandidates type_name (name ∷ names))
 
 -- A record is refused over its candidates with a fault: of the first candidate that has one, of the local field, of the
 -- first match whose value has one, or since matches are in conflict. Each stands where none before it does.
