@@ -4,7 +4,7 @@
 usage: beside_libbpf.py EBPF_BENCH [--runs N] [--table FILE] [WORD..]     WORD: only inputs whose name has it
        beside_libbpf.py EBPF_BENCH --objects FOLDER [--libbpf FOLDER] [--cold] [--table FILE] [WORD..]
 
-EBPF_BENCH is the built crates/bench_prepare/out/bench_prepare. Needs gcc, libbpf and its headers, and a kernel that shows its
+EBPF_BENCH is bench_prepare, as build.sh builds it. Needs gcc, libbpf and its headers, and a kernel that shows its
 types; for the first form clang with the bpf target and bpftool too. libbpf (libbpf/load_times.c) and `bench_prepare prepare`
 run on each input in turn. Both begin with the file in the page cache, and count everything from opening the object, with
 reading the kernel's types and symbols where the input needs them, to finished slots.

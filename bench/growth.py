@@ -3,7 +3,7 @@
 
 usage: growth.py EBPF_BENCH [--functions N..] [--small N..] [--times N]
 
-EBPF_BENCH is the built crates/bench_prepare/out/bench_prepare. Needs gcc, libbpf and its headers, and a kernel that shows its
+EBPF_BENCH is bench_prepare, as build.sh builds it. Needs gcc, libbpf and its headers, and a kernel that shows its
 types. Of a chain of so many functions of some twenty slots, and of so many of three slots, it prints the least time of
 three runs of `bench_prepare prepare`, and the most memory that the process held in one run, as a multiple of the file too.
 The files are what clang and `llvm-strip -g` make of such chains, but libbpf/chain_objects.py makes them here. Of the

@@ -16,6 +16,7 @@ from dataclasses import dataclass
 from pathlib import Path
 
 from checked import absences, embedded, functions, grouping, inspecting, kconfig, lacking, linking, listing, refusing, sizes, telling, walks
+from checked.page import shown_output
 
 TOP = Path(__file__).parents[1]
 EXAMPLE = TOP / "examples" / "check"
@@ -184,9 +185,7 @@ def example(rows):
     rows.row("the example", ["check", "memdrop.o", "btf/5.18", "btf/6.18"], 1, EXAMPLE_OUT)
     rows.row("a folder", ["check", "memdrop.o", "btf"], 1, EXAMPLE_OUT)
     rows.row("a folder with a slash", ["check", "memdrop.o", "btf/"], 1, EXAMPLE_OUT)
-    page = (TOP / "docs" / "TOOL.md").read_text().split("$ ebpf check memdrop.o btf; echo $?\n")[1]
-    told = "".join(line.removeprefix("    ") + "\n" for line in page.split("\n\nOf the newer")[0].split("\n"))
-    rows.expect("docs/TOOL.md: the example", told, EXAMPLE_OUT + "1\n")
+    rows.expect("docs/CLI.md: the example", shown_output("ebpf check memdrop.o btf; echo $?"), EXAMPLE_OUT + "1\n")
     ok = rows.row("one kernel", ["check", "memdrop.o", "btf/5.18"], 0)
     rows.expect("one kernel: last line", ok.stdout.split("\n")[-2], "memdrop.o: ok on 1 of 1 kernels, 2 of 2 programs")
     chosen = rows.row("one program", ["check", "memdrop.o", "btf", "--program", "on_shrink"], 0)
@@ -349,7 +348,7 @@ def lacks(rows):
     wanted = "  bpf_rcu_read_lock  <ksym>  no such function (a module's?)\n    on 1 of 1\n"
     rows.expect("an extern that is not: line", wanted in ran.stdout, True)
     rows.expect("an extern that is not: no program runs", ran.stdout.split("\n")[0], "breaks  2/2 programs  small")
-    shutil.copy(TOP / "crates" / "test_rows" / "data" / "references.o", rows.folder)
+    shutil.copy(TOP / "tests/drivers" / "test_rows" / "data" / "references.o", rows.folder)
     ran = rows.row("many externs that are not", ["check", "references.o", "small"], 1)
     rows.expect("many externs that are not: two are told", ran.stdout.count("<ksym>"), 2)
 

@@ -1,8 +1,8 @@
 #!/usr/bin/env python3
-"""Compares docs/ERRORS.md with what crates/test_errors prints (its file stdout), line by line, and that with the variants
+"""Compares docs/ERRORS.md with what tests/drivers/test_errors prints (its file stdout), line by line, and that with the variants
 that the sources declare, so that none is forgotten. Ends with 'N passed, M failed', and with status 1 where one failed.
 usage: errors_page.py [--write]      --write: writes the page
-A new variant: a value of it in crates/test_errors, its line in stdout, and below what one does about it where one can.
+A new variant: a value of it in tests/drivers/test_errors, its line in stdout, and below what one does about it where one can.
 """
 import re
 import sys
@@ -11,15 +11,15 @@ from pathlib import Path
 TOP = Path(__file__).parents[1]
 CRATES = TOP / "crates"
 PAGE = TOP / "docs" / "ERRORS.md"
-PRINTED = CRATES / "test_errors" / "stdout"
+PRINTED = TOP / "tests/drivers/test_errors/stdout"
 
 HEAD = """# Errors
 
-Each public error, variant by variant, with the sentence that it prints for one value. `crates/test_errors` prints them, and `tests/errors_page.py` makes this page of what it prints.
+Each public error, variant by variant, with the sentence that it prints for one value. `tests/drivers/test_errors` prints them, and `tests/errors_page.py` makes this page of what it prints.
 
 - Numbers of sections and symbols are those of `readelf -S` and `readelf -s`, type ids those of `bpftool btf dump`, and relocations, instructions and members count from 0. Offsets and addresses are hexadecimal. Names stand in quotes, with escapes for what can't be printed.
 - An error has numbers where the object has names. `object.explain(&error)` prints a `PrepareError` with these names: the map that has no descriptor, the section, the symbol, the extern whose type needs the kernel's. An error of one pass is put in its stage's variant first, as `PrepareError::Maps(error)`, one of `patch_map_data` in `Parse`. Where a file can't be parsed, `ExplainedParse` has the sections' names from its bytes, and the place where the error tells none. Both take no memory.
-- `ebpf-link` and `ebpf-inspect` print the stage and the variant (`ebpf-link: maps: SectionNotFound`), `ebpf` the sentence with both and what one can do (docs/TOOL.md, "Refusals"), C gets the variant's name (docs/C.md): look it up here, under the stage's error.
+- `ebpf-link` and `ebpf-inspect` print the stage and the variant (`ebpf-link: maps: SectionNotFound`), `ebpf` the sentence with both and what one can do (docs/CLI.md, "Refusals"), C gets the variant's name (docs/C.md): look it up here, under the stage's error.
 - Want of memory is `OutOfMemory` of each type, in no place and of no function; more memory is what helps.
 - `maps::InvalidTypeBinding` and `programs::InvalidTypeBinding` (`try_from` of `bpf_map_type`, `bpf_prog_type`) hold the number that is no type, and have no sentence.
 """
@@ -210,7 +210,7 @@ def page():
 def faults():
     """How many lines the page has to hold, and what is wrong with it or with what is printed."""
     paths = {path for path, _ in printed()}
-    wrong = [f"crates/test_errors prints no {path}" for path in sorted(declared() - paths)]
+    wrong = [f"tests/drivers/test_errors prints no {path}" for path in sorted(declared() - paths)]
     wrong += [f"tests/errors_page.py knows no type of {path}" for path in sorted(paths) if type_of(path) not in TYPES]
     wrong += [f"tests/errors_page.py says what one does about {path}, which is none" for path in sorted(set(ADVICE) - paths)]
     wanted = page().splitlines()

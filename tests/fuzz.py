@@ -12,7 +12,7 @@ fields are set to their limits, or near them. Those with odd numbers are objects
 fields, names, sections and slots changed. No file is longer than 64 KiB.
 
 A find is a run that ends with another status than 0, 1 and 2 or by a signal, or runs past 10 s; one that writes to standard
-error with status 0, or with status 1 or 2 anything but one of the lines that docs/PROGRAMS.md states, or that writes output
+error with status 0, or with status 1 or 2 anything but one of the lines that docs/CLI.md states, or that writes output
 beside a refusal; output of another form; two programs that don't refuse alike. Of the program in C it is a signal, a report
 of a sanitizer, a run past 10 s, a byte that isn't freed, a number that a call may not answer, another object behind a
 refusal, or a broad reading that isn't the stated one of what that takes.

@@ -1,6 +1,6 @@
 #!/usr/bin/env python3
 """Writes the cases of the test programs and what each has to print of them: data/cases.txt and stdout of
-crates/test_rows and crates/test_btf_rows, and stdout of crates/bench_prepare.
+tests/drivers/test_rows and tests/drivers/test_btf_rows, and stdout of bench/drivers/bench_prepare.
 usage: make_rows.py
 
 A new row: in the module of rows/ on its subject, or in a new one listed below, add to its cases() a
@@ -60,7 +60,8 @@ from rows import (
 )
 from rows.case import write_cases
 
-CRATES = Path(__file__).parents[1] / "crates"
+TOP = Path(__file__).parents[1]
+DRIVERS = TOP / "tests/drivers"
 
 OBJECTS = [small_object, programs, texts, license_and_version, order, maps, btf_defined_maps, externs, type_faults, records, linked]
 OBJECTS += [fds_written, externs_written, resolved, prepared, printed, values, names, loaded_names, compiled, references, big_endian, broad]
@@ -79,9 +80,9 @@ def cases_of(modules):
 
 if __name__ == "__main__":
     objects = cases_of(OBJECTS)
-    core = {"core_relo": cases_of(CORE), "core_limits": core_limits.cases(), "core_searches": core_limits.searched()}
+    core = {"core_relo": cases_of(CORE), "core_limits": core_limits.cases()}
     for held in [objects, *core.values()]:
         printed.add_to(held)
-    write_cases(CRATES / "test_rows", objects, **core)
-    write_cases(CRATES / "test_btf_rows", cases_of(TYPES))
-    (CRATES / "bench_prepare/stdout").write_text("".join(line + "\n" for line in many_types.expected_lines()))
+    write_cases(DRIVERS / "test_rows", objects, **core)
+    write_cases(DRIVERS / "test_btf_rows", cases_of(TYPES))
+    (TOP / "bench/drivers/bench_prepare/stdout").write_text("".join(line + "\n" for line in many_types.expected_lines()))

@@ -1,34 +1,56 @@
-"""Runs the tests of each crate and each program that has a file stdout by `rt try`, which proves nothing and stops at an
-index out of range, a sum that wraps or a failed unwrap; compares what the programs print with these files, row by row.
-Programs are built together where that is quicker (together.py). Says of each edit that the prover is to refuse whether it
-can still be applied, and tries none; whether docs/ERRORS.md is what test_errors prints; and of each piece of code of
-docs/LIBRARY.md and of README.md's program whether the crate has it that the gate runs. Ends with 'N passed, M failed', and
-with status 1 where one failed.
-usage: quick.py [CRATE..]      CRATE: only the tests and rows of these crates
+"""Runs every test case without a proof, by `rt try`, which stops at an index out of range, a sum that wraps or a failed unwrap:
+
+- the tests of each driver and crate, and each program that has a file stdout, whose output is compared with that file test
+  case by test case; programs are built together where that is quicker (together.py);
+- one row of the driver of allocation failures.
+
+It also checks, without running anything:
+
+- whether each mutant applies, each row of tests/mutants.tsv names one, and their checksums change where they have to;
+- whether docs/API.md is that of the sources, and docs/ERRORS.md the output of test_errors;
+- whether the documents have their form, and the code of docs/LIBRARY.md and README.md is that of the crates that run it.
+
+Ends with 'N passed, M failed', and with status 1 where one failed.
 """
+import argparse
 import os
 import re
-import subprocess
 import sys
 import tempfile
+import time
 from concurrent.futures import ThreadPoolExecutor
 from dataclasses import dataclass, field
 from itertools import zip_longest
 from pathlib import Path
 
 TOP = Path(__file__).parents[1]
-CRATES = TOP / "crates"
 sys.path.append(str(TOP / "tools"))
 
+import api_page  # noqa: E402
+import documents  # noqa: E402
+import errors_page  # noqa: E402
 import library_page  # noqa: E402
-from errors_page import faults  # noqa: E402
-from more_edits import misfits  # noqa: E402
+import mutants  # noqa: E402
+import mutants_test  # noqa: E402
+from driver_crates import listed  # noqa: E402
+from growths import calls  # noqa: E402
+from growths import driver as alloc_failures  # noqa: E402
 from together import one_crate  # noqa: E402
+from unproved import rt_try  # noqa: E402
 
-# What a program may take, in seconds: built with checks it takes many times as long as else.
-SECONDS = 2700
+CRATES = listed()
 # Programs whose rows take as long as building them does: each of their words is run by itself, these beside all others.
-LONG = {"test_rows": ["core_limits.txt", "core_searches.txt"], "test_btf_rows": ["cases.txt"]}
+LONG = {"test_rows": ["core_relo.txt"], "test_btf_rows": ["cases.txt"]}
+# What is looked at once for the whole repository: what is counted, and what gives the count and the failures.
+CHECKS = {
+    "mutants that apply": mutants.misfits,
+    "tests/mutants.tsv in order": mutants.row_misfits,
+    "tests of the mutants' checksums": mutants_test.run_cases,
+    "items of docs/API.md as the sources have them": api_page.misfits,
+    "documents in form": documents.misfits,
+    "errors that docs/ERRORS.md has as they are printed": errors_page.faults,
+    "pieces of docs/LIBRARY.md and README.md that stand": library_page.misfits,
+}
 
 
 @dataclass
@@ -39,46 +61,28 @@ class Outcome:
     failures: list = field(default_factory=list)
 
 
-def without_hints(folder):
-    """An environment in which `sh` ends at once. By it rt try starts, beside each run, a whole reading of the crate for hints
-    at names that a check refuses, which takes as long as the build; rt ci refuses such names."""
-    stub = folder / "sh"
-    stub.write_text("#!/bin/sh\nexit 0\n")
-    stub.chmod(0o755)
-    return {**os.environ, "PATH": f"{folder}{os.pathsep}{os.environ['PATH']}"}
-
-
-def rt_try(folder, *words):
-    """Runs the program or the tests of the crate in a folder without a proof."""
-    with tempfile.TemporaryDirectory() as hints:
-        return subprocess.run(
-            ["rt", "try", "--seconds", str(SECONDS), *words],
-            cwd=folder,
-            env=without_hints(Path(hints)),
-            stdin=subprocess.DEVNULL,
-            capture_output=True,
-            text=True,
-            errors="replace",
-        )
-
-
-def last_lines(ran):
-    return "\n".join([*ran.stdout.splitlines(), *ran.stderr.splitlines()][-6:])
-
-
 def run_tests(crates):
     """The tests of these crates, which are built together."""
     with tempfile.TemporaryDirectory() as made:
-        ran = rt_try(one_crate(TOP, Path(made) / "repository", "quick_tests", crates), "--test")
-    results = re.findall(r"^test (\S+) \.\.\. (\w+)", ran.stdout + ran.stderr, re.MULTILINE)
+        tried = rt_try(one_crate(Path(made) / "repository", "quick_tests", crates), "--test")
+    results = re.findall(r"^test (\S+) \.\.\. (\w+)", tried.printed + tried.said, re.MULTILINE)
     outcomes = {}
     for crate in crates:
         own = [(name, result) for name, result in results if name.split("::")[0] == crate]
         outcome = outcomes[crate] = Outcome(sum(result == "ok" for _, result in own))
         outcome.failures = [f"{crate}: test {name}: {result}" for name, result in own if result != "ok"]
-        if not own or (ran.returncode and not outcome.failures):
-            outcome.failures.append(f"{crate}: its tests ended with status {ran.returncode}:\n{last_lines(ran)}")
+        if not own or (tried.status and not outcome.failures):
+            outcome.failures.append(f"{crate}: its tests ended with status {tried.status}:\n{tried.last_lines}")
     return outcomes
+
+
+def run_alloc_failures(names):
+    """One row of the driver of allocation failures, which has a stored output; refused_growths.sh runs all."""
+    rows = [row for row in calls.rows() if row.name == alloc_failures.STORED_ROW]
+    driver = alloc_failures.Driver(rows)
+    tallies = [alloc_failures.stored_output(driver, rows), *(row.judge(driver) for row in rows)]
+    outcome = Outcome(sum(it.passed for it in tallies), [fault for it in tallies for fault in it.faults])
+    return dict.fromkeys(names, outcome)
 
 
 def rows_of(text):
@@ -101,7 +105,7 @@ def rows_of(text):
 
 def words_of(crate):
     """The words that a program is run with."""
-    args = CRATES / crate / "args"
+    args = CRATES[crate].folder / "args"
     return args.read_text().split("\n")[:-1] if args.exists() else []
 
 
@@ -129,8 +133,9 @@ def put_cases(folder, runs):
         (folder / f"{number}").write_text(run.crate)
         (folder / f"{number}.args").write_text("".join(f"{word}\n" for word in run.words))
         for word in run.words:
-            if (CRATES / run.crate / "data" / word).is_file():
-                data[word] = CRATES / run.crate / "data" / word
+            file = CRATES[run.crate].folder / "data" / word
+            if file.is_file():
+                data[word] = file
     return [flag for word, file in data.items() for flag in ("--data", f"{word}={file}")]
 
 
@@ -138,22 +143,22 @@ def run_programs(runs):
     """Does these runs, one after the other, of programs that are built together."""
     with tempfile.TemporaryDirectory() as made:
         made = Path(made)
-        crate = one_crate(TOP, made / "repository", "quick_programs", sorted({run.crate for run in runs}))
+        crate = one_crate(made / "repository", "quick_programs", sorted({run.crate for run in runs}))
         (made / "cases").mkdir()
         flags = put_cases(made / "cases", runs)
-        ran = rt_try(crate, "--cases", str(made / "cases"), *flags)
-    printed = dict(re.findall(r"^== (\d+)\n((?:(?!== \d+\n).*\n?)*)", ran.stdout, re.MULTILINE))
-    statuses = dict(re.findall(r"^case=(\d+) run=ended status=(\d+)", ran.stderr, re.MULTILINE))
+        tried = rt_try(crate, "--cases", str(made / "cases"), *flags)
+    printed = dict(re.findall(r"^== (\d+)\n((?:(?!== \d+\n).*\n?)*)", tried.printed, re.MULTILINE))
+    statuses = dict(re.findall(r"^case=(\d+) run=ended status=(\d+)", tried.said, re.MULTILINE))
     for number, run in enumerate(runs):
         run.printed = printed.get(str(number), "")
         run.status = int(statuses.get(str(number), -1))
-        run.said = last_lines(ran)
+        run.said = tried.last_lines
     return runs
 
 
 def compared(crate, runs):
     """What a program printed in its runs beside its file stdout."""
-    folder = CRATES / crate
+    folder = CRATES[crate].folder
     stdout, printed = (folder / "stdout").read_text(), "".join(run.printed for run in runs)
     outcome = Outcome()
     for number, (want, gave) in enumerate(zip_longest(rows_of(stdout), rows_of(printed)), 1):
@@ -173,46 +178,64 @@ def compared(crate, runs):
 def tasks(names):
     """What is to be run, in parts that are run beside each other, what takes longest first; each part gives runs of programs,
     or outcomes of tests."""
-    crates = [folder for folder in sorted(CRATES.iterdir()) if not names or folder.name in names]
-    runs = [Run(folder.name, words) for folder in crates if (folder / "stdout").exists() for words in runs_of(folder.name)]
+    crates = [crate for name, crate in sorted(CRATES.items()) if not names or name in names]
+    runs = [Run(crate.name, words) for crate in crates if (crate.folder / "stdout").exists() for words in runs_of(crate.name)]
     long = [run for run in runs if set(run.words) & set(LONG.get(run.crate, []))]
     others = [run for run in runs if run not in long]
     parts = [(run_programs, [run]) for run in long] + [(run_programs, others)] * bool(others)
-    tests = [folder.name for folder in crates if any("#[test]" in file.read_text() for file in folder.glob("src/**/*.rt"))]
-    return runs, parts + [(run_tests, tests)] * bool(tests)
+    tests = [crate.name for crate in crates if crate.has_tests()]
+    driver = [crate.name for crate in crates if crate.name == alloc_failures.NAME]
+    return runs, parts + [(run_tests, tests)] * bool(tests) + [(run_alloc_failures, driver)] * bool(driver)
 
 
-def ran(names):
-    """The outcomes of the crates, by name."""
+def timed(part):
+    """What a part gives, and the seconds that it took."""
+    began = time.monotonic()
+    return part[0](part[1]), time.monotonic() - began
+
+
+def title(what):
+    """The programs or the tests of a part, in short."""
+    names = sorted({it.crate if isinstance(it, Run) else it for it in what})
+    words = what[0].words if len(what) == 1 and isinstance(what[0], Run) else []
+    return " ".join([*names[:1], *words]) + (f" and {len(names) - 1} more" if len(names) > 1 else "")
+
+
+def ran(names, jobs):
+    """The outcomes of the crates, by name; so many parts run at once."""
     runs, parts = tasks(names)
     outcomes = {}
-    with ThreadPoolExecutor(len(os.sched_getaffinity(0))) as pool:
-        for (work, what), done in zip(parts, pool.map(lambda part: part[0](part[1]), parts)):
-            outcomes.update(done if work is run_tests else {})
+    with ThreadPoolExecutor(jobs) as pool:
+        for (work, what), (done, took) in zip(parts, pool.map(timed, parts)):
+            outcomes.update({} if work is run_programs else done)
+            print(f"{took:.0f} s: {title(what)}", flush=True)
     for crate in sorted({run.crate for run in runs}):
         outcomes[crate] = compared(crate, [run for run in runs if run.crate == crate])
     return outcomes
 
 
 def main():
+    words = argparse.ArgumentParser(prog="quick.sh", description="Runs every test case without a proof.")
+    words.add_argument("--jobs", type=int, default=len(os.sched_getaffinity(0)), help="parts that run at once (one for each processor)")
+    words.add_argument("names", metavar="CRATE", nargs="*", help="only the test cases of these crates and drivers")
+    given = words.parse_args()
+    unknown = [name for name in given.names if name not in CRATES]
+    if unknown:
+        words.error(f"no crate or driver {unknown[0]}")
     passed = failed = 0
-    for name, outcome in ran(sys.argv[1:]).items():
+    for name, outcome in ran(given.names, given.jobs).items():
         passed += outcome.passed
         failed += len(outcome.failures)
         print(f"{name}: {outcome.passed} passed, {len(outcome.failures)} failed", flush=True)
         for failure in outcome.failures[:5]:
             print(failure, flush=True)
-    if not sys.argv[1:]:
-        edits, failures = misfits()
-        passed, failed = passed + edits - len(failures), failed + len(failures)
-        print("\n".join([*failures, f"edits that apply: {edits - len(failures)}"]), flush=True)
-        lines, failures = faults()
-        right = max(lines - len(failures), 0)
-        passed, failed = passed + right, failed + len(failures)
-        print("\n".join([*failures, f"errors that docs/ERRORS.md has as they are printed: {right}"]), flush=True)
-        pieces, failures = library_page.misfits()
-        passed, failed = passed + pieces - len(failures), failed + len(failures)
-        print("\n".join([*failures, f"pieces of docs/LIBRARY.md and README.md that stand: {pieces - len(failures)}"]), flush=True)
+    if not given.names:
+        for what, check in CHECKS.items():
+            count, failures = check()
+            failures = failures if count else [f"{what}: nothing was looked at"]
+            right = max(count - len(failures), 0)
+            passed, failed = passed + right, failed + len(failures)
+            print("\n".join([*failures, f"{what}: {right}"]), flush=True)
     print(f"{passed} passed, {failed} failed")
     return 1 if failed or not passed else 0
 

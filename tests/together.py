@@ -1,11 +1,10 @@
-"""Several crates as one, so that `rt try` builds them once for all: the sources of each stand in a module of its name. The
-program reads the name of the one that it runs from its standard input.
+"""Several crates or drivers as one crate, so that `rt try` builds them once for all: the sources of each are a module of its
+name. The program reads the name of the one that it runs from its standard input.
 """
 import re
-import shutil
 
-# What a crate is read from.
-PARTS = ("src", "specs", "proofs")
+from driver_crates import listed, make_repository
+
 MAIN = """//! The programs that are run together.
 #![tactic(auto)]
 
@@ -45,24 +44,20 @@ LIBRARY = """//! The crates whose tests are run together.
 """
 
 
-def dependencies(crates_txt, names):
+def libraries_of(crates):
     """The libraries of these crates, each once."""
-    found = []
-    for name in names:
-        line = re.search(rf"^{name}:(.*)$", crates_txt, re.MULTILINE)[1]
-        found += [word for word in line.split() if word not in found]
-    return found
+    return list(dict.fromkeys(name for crate in crates for name in crate.libraries))
 
 
 def put_module(crate, to):
-    """Puts the sources of a crate into a module of its name; gives what its `main` returns, None of a library."""
-    name = crate.name
+    """Puts the sources of a crate into a module of its name; returns the type of its `main`'s result, None for a library."""
+    name, sources = crate.name, crate.folder / "src"
     returns = None
-    for source in sorted((crate / "src").rglob("*.rt")):
-        place = source.relative_to(crate / "src")
+    for source in sorted([*sources.rglob("*.rt"), *sources.rglob("*.rs")]):
+        place = source.relative_to(sources).with_suffix(".rt")
         text = re.sub(r"\bcrate::", f"crate::{name}::", source.read_text())
         target = to / name / place
-        if place.name in ("main.rt", "lib.rt") and len(place.parts) == 1:
+        if str(place) in ("main.rt", "lib.rt"):
             target = to / f"{name}.rt"
             text = text.replace("#![tactic(auto)]\n", "", 1)
             main = re.search(r"^fn main\(rt: HostRuntime\) -> (\S+) \{", text, re.MULTILINE)
@@ -74,26 +69,22 @@ def put_module(crate, to):
     return returns
 
 
-def one_crate(top, folder, crate, names):
-    """Makes a repository in a folder with the crates of another one and one more, of the sources of these; gives its folder.
-    It is a program where these are programs, else a library."""
-    crates_txt = (top / "crates.txt").read_text()
-    (folder / "crates").mkdir(parents=True)
-    for old in (top / "crates").iterdir():
-        for part in PARTS:
-            if (old / part).is_dir():
-                shutil.copytree(old / part, folder / "crates" / old.name / part)
-    if (top / "HANDLES").exists():
-        shutil.copy(top / "HANDLES", folder)
-    made = folder / "crates" / crate
-    returned = {name: put_module(top / "crates" / name, made / "src") for name in names}
-    modules = "\n".join(f"mod {name};" for name in sorted(names))
+def one_crate(folder, name, names):
+    """Makes a repository in a folder with one crate of this name, made of the crates of these names, and with all that they
+    stand on; returns the crate's folder. It is a program where these are programs, else a library."""
+    known = listed()
+    crates = [known[it] for it in names]
+    libraries = libraries_of(crates)
+    make_repository(folder, libraries)
+    made = folder / "crates" / name
+    returned = {crate.name: put_module(crate, made / "src") for crate in crates}
+    modules = "\n".join(f"mod {it};" for it in sorted(names))
     if None in returned.values():
         (made / "src/lib.rt").write_text(LIBRARY.format(modules=modules))
     else:
         calls = {"ExitCode": "{0}::main(rt)"}
-        arms = [f'        "{name}" => {calls.get(kind, "status({0}::main(rt))").format(name)},' for name, kind in returned.items()]
+        arms = [f'        "{it}" => {calls.get(kind, "status({0}::main(rt))").format(it)},' for it, kind in returned.items()]
         (made / "src/main.rt").write_text(MAIN.format(modules=modules + "\n", arms="\n".join(arms)))
-    listed = " ".join(dependencies(crates_txt, names))
-    (folder / "crates.txt").write_text(f"{crates_txt}{crate}: {listed}\n")
+    with (folder / "crates.txt").open("a") as lines:
+        lines.write(f"{name}: {' '.join(libraries)}\n")
     return made

@@ -5,6 +5,7 @@ from pathlib import Path
 
 from checked.listing import table
 from checked.objects import GLOBAL, WEAK, Asks, Code, Refers, address, call, function, helper, move, object_of, program
+from checked.page import shown_output
 from rows.btf import CONST, btf, datasec, integer, prototype, struct_of, ty, variable
 from rows.btf import function as function_type
 from rows.core_sides import OFFSET, S
@@ -57,8 +58,8 @@ def beside(rows):
     rows.write("queue", btf(*queue, prototype(0), function_type("bpf_rcu_read_lock", 5)))
     words = {
         CHECK / "memdrop.o": [],
-        TOP / "crates" / "test_rows" / "data" / "counter.o": [],
-        TOP / "crates" / "test_rows" / "data" / "references.o": ["--btf", str(rows.folder / "queue"), *symbols],
+        TOP / "tests/drivers" / "test_rows" / "data" / "counter.o": [],
+        TOP / "tests/drivers" / "test_rows" / "data" / "references.o": ["--btf", str(rows.folder / "queue"), *symbols],
         DATA / "watch.o": ["--btf", str(DATA / "kernel.btf"), *symbols],
         TOP / "crates" / "ebpf_inspect_program" / "data" / "call.o": [],
     }
@@ -257,11 +258,9 @@ def closed_output(rows):
 
 
 def shown(rows):
-    """The example of docs/TOOL.md."""
-    data = (TOP / "crates" / "test_rows" / "data" / "counter.o").read_bytes()
-    page = (TOP / "docs" / "TOOL.md").read_text().split("$ ebpf inspect crates/test_rows/data/counter.o\n")[1]
-    lines = page.split("\n\nThe first table")[0].split("\n")
-    inspected(rows, "counter.o", data, "".join(line.removeprefix("    ") + "\n" for line in lines))
+    """The example of docs/CLI.md."""
+    data = (TOP / "tests/drivers" / "test_rows" / "data" / "counter.o").read_bytes()
+    inspected(rows, "counter.o", data, shown_output("ebpf inspect tests/drivers/test_rows/data/counter.o"))
 
 
 ROWS = [beside, one_program, linked, chains, many, kernels, names, words, closed_output, shown]

@@ -5,6 +5,7 @@ from pathlib import Path
 from checked.linking import linked, told
 from checked.listing import table
 from checked.objects import GLOBAL, WEAK, address, object_of, program
+from checked.page import shown_output
 from checked.refusing import refused
 from rows.btf import CONST, ENUM, INT, array, btf, datasec, integer, prototype, struct_of, ty, variable
 from rows.btf import function as function_type
@@ -206,12 +207,11 @@ def configurations(rows):
 
 
 def documented(rows):
-    """The example of docs/TOOL.md."""
-    page = (TOP / "docs" / "TOOL.md").read_text().split("$ ebpf link tests/objects/kernel_parts_19.o\n")[1]
-    said = "".join(line.removeprefix("    ") + "\n" for line in page.split("\n\n")[0].split("\n"))
+    """The example of docs/CLI.md."""
+    said = shown_output("ebpf link tests/objects/kernel_parts_19.o")
     name = rows.write("tests/objects/kernel_parts_19.o", (OBJECTS / "kernel_parts_19.o").read_bytes())
     ran = rows.run("link", name)
-    rows.expect("docs/TOOL.md: a strong extern", (ran.returncode, ran.stdout, ran.stderr), (1, "", said))
+    rows.expect("docs/CLI.md: a strong extern", (ran.returncode, ran.stdout, ran.stderr), (1, "", said))
 
 
 ROWS = [placed, compiled, taken, lacking, undeclared, versions, configurations, documented]

@@ -6,6 +6,7 @@ from pathlib import Path
 
 from checked import objdump
 from checked.objects import GLOBAL, LACKS_B, WEAK, Asks, Code, Refers, address, call, function, go, helper, jump, move, object_of, program, wide
+from checked.page import shown_output
 from growths.inputs import KERNEL, LINES, TASKS
 from rows.btf import btf, datasec, integer, prototype, variable
 from rows.btf import function as function_type
@@ -322,10 +323,9 @@ def closed_output(rows):
 
 
 def documented(rows):
-    """The example of docs/TOOL.md."""
-    page = (TOP / "docs" / "TOOL.md").read_text().split("$ ebpf link memdrop.o --btf btf/6.18 --program on_tick --lines\n")[1]
-    out = "".join(line.removeprefix("    ") + "\n" for line in page.split("\n\nThe line `program")[0].split("\n"))
-    rows.row("docs/TOOL.md: ebpf link", ["link", "memdrop.o", "--btf", "btf/6.18", "--program", "on_tick", "--lines"], 0, out)
+    """The example of docs/CLI.md."""
+    out = shown_output("ebpf link memdrop.o --btf btf/6.18 --program on_tick --lines")
+    rows.row("docs/CLI.md: ebpf link", ["link", "memdrop.o", "--btf", "btf/6.18", "--program", "on_tick", "--lines"], 0, out)
 
 
 ROWS = [dumped, instructions, jumps, named, kernels, records, lines, as_bytes, shown, refused, broad, closed_output, documented]

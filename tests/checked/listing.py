@@ -3,6 +3,7 @@ import json
 from pathlib import Path
 
 from checked.objects import GLOBAL, WEAK, Asks, Code, address, call, function, helper, move, object_of, program
+from checked.page import shown_output
 from rows.btf import btf, datasec, integer, prototype, typedef, variable
 from rows.btf import function as function_type
 from rows.core_sides import MOVE, OFFSET, TYPE_SIZE, S, struct_of
@@ -197,11 +198,10 @@ def refused(rows):
 
 
 def compiled(rows):
-    """An object that clang made, as docs/TOOL.md shows it, and others by their numbers."""
-    data = (TOP / "crates" / "test_rows" / "data" / "counter.o").read_bytes()
-    page = (TOP / "docs" / "TOOL.md").read_text().split("$ ebpf list crates/test_rows/data/counter.o\n")[1]
-    shown = "".join(line.removeprefix("    ") + "\n" for line in page.split("\n\nThe first line")[0].split("\n"))
-    listed(rows, "counter.o", data, shown.replace("crates/test_rows/data/counter.o:", "object:"))
+    """An object that clang made, as docs/CLI.md shows it, and others by their numbers."""
+    data = (TOP / "tests/drivers" / "test_rows" / "data" / "counter.o").read_bytes()
+    shown = shown_output("ebpf list tests/drivers/test_rows/data/counter.o")
+    listed(rows, "counter.o", data, shown.replace("tests/drivers/test_rows/data/counter.o:", "object:"))
     for version in [14, 19]:
         data = (TOP / "tests" / "objects" / f"kernel_parts_{version}.o").read_bytes()
         rows.write("object", data)

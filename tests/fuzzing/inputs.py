@@ -38,19 +38,24 @@ def own_types(data):
         return None
 
 
+def data_files(name):
+    """The files of this name in the data of crates and test drivers."""
+    return [*sorted(TOP.glob(f"crates/*/data/{name}")), *sorted(TOP.glob(f"tests/drivers/*/data/{name}"))]
+
+
 class Files:
     """The real files that are damaged, and types to go with them."""
 
     def __init__(self):
         cases = make_rows.cases_of(make_rows.OBJECTS + make_rows.CORE + make_rows.TYPES)
-        paths = [*sorted(TOP.glob("crates/*/data/*.o")), *sorted(TOP.glob("tests/objects/*.o"))]
+        paths = [*data_files("*.o"), *sorted(TOP.glob("tests/objects/*.o"))]
         found = [path.read_bytes() for path in paths]
         self.compiled = list(dict.fromkeys([*found, *map(renamed, found)]))
         self.small = row_files(cases, "object")
         self.own = {data: own_types(data) for data in [*self.compiled, *self.small]}
         tasks = struct_of("task_struct", 16, ("state", 1, 0), ("pid", 1, 32), ("tgid", 1, 96))
         self.types = [references.KERNEL, btf(integer("int", 4), tasks)]
-        self.types += [path.read_bytes() for path in sorted(TOP.glob("crates/*/data/*.btf"))]
+        self.types += [path.read_bytes() for path in data_files("*.btf")]
         self.other_types = [data for data in row_files(cases, "kernel", "types") if count_types(data).isdigit()]
 
     def object(self, chance):

@@ -1,4 +1,4 @@
-"""What a run may leave: the statuses and lines that docs/PROGRAMS.md states."""
+"""What a run may leave: the statuses and lines that docs/CLI.md ('ebpf-link and ebpf-inspect') states."""
 import re
 
 STAGES = "btf|parse|types|maps|ksyms|externs|calls"

@@ -3,7 +3,7 @@
 
     beside_libbpf.py LIBBPF PROGRAM [OBJECT ..]
 
-LIBBPF has root/usr/include and root/usr/lib64 of libbpf 1.5, PROGRAM is crates/test_kernel_types as `rt run` builds it. The
+LIBBPF has root/usr/include and root/usr/lib64 of libbpf 1.5, PROGRAM is test_kernel_types, as `bench/build.sh FOLDER test_kernel_types` builds it. The
 objects are those given, those of crates/*/data and tests/objects, those of the rows (make_rows.py), and those that clang
 makes of the sources in objects/, with each version of clang that is there (clang, clang-19).
 
@@ -115,8 +115,8 @@ def main():
     libbpf, program, *given = [pathlib.Path(word).resolve() for word in sys.argv[1:]]
     with tempfile.TemporaryDirectory() as name:
         folder = pathlib.Path(name)
-        own = {*TOP.glob("crates/*/data/*.o"), *(TOP / "tests/objects").glob("*.o")}
-        own |= {path for path in (TOP / "crates/test_kernel_types/data").iterdir() if path.name not in UNASKED}
+        own = {*TOP.glob("crates/*/data/*.o"), *TOP.glob("tests/drivers/*/data/*.o"), *(TOP / "tests/objects").glob("*.o")}
+        own |= {path for path in (TOP / "tests/drivers/test_kernel_types/data").iterdir() if path.name not in UNASKED}
         objects = compiled(folder) + sorted(own) + given
         ours = answers(program, objects)
         theirs = answers(libbpf_program(libbpf, folder), objects)

@@ -1,5 +1,5 @@
 #!/usr/bin/env python3
-"""Writes the objects of crates/test_kernel_types, and what it has to print of each: data, args and stdout of the crate.
+"""Writes the objects of tests/drivers/test_kernel_types, and what it has to print of each: data, args and stdout of the crate.
 usage: make_rows.py
 
 A new row: in the module on its subject, an object by its types, sections and symbols, and the types that come out otherwise
@@ -21,7 +21,7 @@ from growths.inputs import section  # noqa: E402
 from row import Row  # noqa: E402
 from rows.btf import DATASEC, words  # noqa: E402
 
-CRATE = Path(__file__).parents[2] / "crates" / "test_kernel_types"
+CRATE = Path(__file__).parents[1] / "drivers" / "test_kernel_types"
 
 # The object that clang made of examples/check, and the sizes of its sections of variables, of one variable each.
 COMPILED, SIZES = "memdrop.o", {".maps": 32, "license": 4}

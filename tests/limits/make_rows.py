@@ -1,8 +1,8 @@
 #!/usr/bin/env python3
-"""Writes the objects of crates/test_object_calls/src/limits/objects.rt: one small object for each thing that an object
+"""Writes the objects of tests/drivers/test_object_calls/src/limits/objects.rs: one small object for each thing that an object
 owns more often than its file has it, with what is made of it by counted.py.
 
-usage: make_rows.py > crates/test_object_calls/src/limits/objects.rt
+usage: make_rows.py > tests/drivers/test_object_calls/src/limits/objects.rs
 """
 import struct
 import sys

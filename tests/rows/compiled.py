@@ -3,7 +3,7 @@ from pathlib import Path
 
 from rows.case import Case
 
-FILE = Path(__file__).parents[2] / "crates/test_rows/data/counter.o"
+FILE = Path(__file__).parents[2] / "tests/drivers/test_rows/data/counter.o"
 
 
 def cases():

@@ -195,5 +195,11 @@ def steps():
     ]
 
 
+def long_cases():
+    """Searches of up to 1,048,576 members, which take minutes in a program that is built with checks: proved programs run
+    them, ebpf-link (search_limits.py) and the library for C."""
+    return searched() + searched_twice()
+
+
 def cases():
-    return parts() + levels() + searched_twice() + bits() + steps()
+    return parts() + levels() + bits() + steps()

@@ -5,7 +5,7 @@ from pathlib import Path
 from rows.btf import btf, function, prototype, struct_of, variable
 from rows.case import Case
 
-FILE = Path(__file__).parents[2] / "crates/test_rows/data/references.o"
+FILE = Path(__file__).parents[2] / "tests/drivers/test_rows/data/references.o"
 
 # Where the executable sections stand, one behind the other: .text with `look` and `each`, and one section for each of
 # the two programs.

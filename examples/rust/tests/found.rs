@@ -4,14 +4,14 @@ use std::path::PathBuf;
 
 fn object(name: &str) -> Object {
     let path = PathBuf::from(env!("CARGO_MANIFEST_DIR"))
-        .join("../../crates")
+        .join("../..")
         .join(name);
     Object::open(&std::fs::read(path).expect("a file of the repository")).expect("an object")
 }
 
 #[test]
 fn things_are_found_as_they_are_listed() {
-    let object = object("test_rows/data/counter.o");
+    let object = object("tests/drivers/test_rows/data/counter.o");
     for map in object.maps().expect("maps") {
         assert_eq!(object.map(&map.name), Ok(map));
     }
@@ -24,7 +24,7 @@ fn things_are_found_as_they_are_listed() {
 
 #[test]
 fn link_maps_tell_of_linked_programs() {
-    let mut object = object("ebpf_link/data/call.o");
+    let mut object = object("crates/ebpf_link/data/call.o");
     let copies = object.link_map("p").expect("a link map");
     let places: Vec<(usize, usize)> = copies.iter().map(|copy| (copy.base, copy.slots)).collect();
     assert_eq!((copies[0].name.as_str(), places), ("p", vec![(0, 2), (2, 1)]));
@@ -43,7 +43,7 @@ fn link_maps_tell_of_linked_programs() {
 
 #[test]
 fn records_are_told_before_they_are_applied() {
-    let mut object = object("test_rows/data/counter.o");
+    let mut object = object("tests/drivers/test_rows/data/counter.o");
     // a kernel without a type
     let mut types = vec![0x9f, 0xeb, 1, 0, 24, 0, 0, 0];
     types.extend_from_slice(&[0; 12]);

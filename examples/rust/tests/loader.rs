@@ -68,7 +68,7 @@ fn types_are_made_for_the_kernel() {
 
 #[test]
 fn variables_are_read() {
-    let mut object = Object::open(&file("crates/test_rows/data/counter.o")).expect("an object");
+    let mut object = Object::open(&file("tests/drivers/test_rows/data/counter.o")).expect("an object");
     let variables = object.variables().expect("variables");
     let wanted = variables.iter().find(|it| it.name == "wanted").expect("a variable");
     assert_eq!((wanted.map.as_str(), wanted.offset, wanted.size), (".rodata", 0, 4));
@@ -81,7 +81,7 @@ fn variables_are_read() {
 
 #[test]
 fn initial_values_are_listed() {
-    let bytes = file("crates/test_rows/data/counter.o");
+    let bytes = file("tests/drivers/test_rows/data/counter.o");
     let object = Object::open(&bytes).expect("an object");
     assert_eq!(object.initial_slots(&bytes).expect("no initial values"), []);
     let refused = object.initial_slots(b"no file").expect_err("no file");

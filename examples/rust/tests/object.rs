@@ -4,13 +4,13 @@ use std::path::PathBuf;
 
 fn file(name: &str) -> Vec<u8> {
     let path = PathBuf::from(env!("CARGO_MANIFEST_DIR"))
-        .join("../../crates")
+        .join("../..")
         .join(name);
     std::fs::read(path).expect("a file of the repository")
 }
 
 fn small() -> Object {
-    Object::open(&file("ebpf_link/data/call.o")).expect("an object")
+    Object::open(&file("crates/ebpf_link/data/call.o")).expect("an object")
 }
 
 #[test]
@@ -27,7 +27,7 @@ fn programs_are_linked() {
 
 #[test]
 fn a_limit_is_kept() {
-    let bytes = file("ebpf_link/data/call.o");
+    let bytes = file("crates/ebpf_link/data/call.o");
     assert!(Object::open_within(&bytes, 972).is_ok());
     let Err(Error::Parse(refusal)) = Object::open_within(&bytes, 971) else {
         panic!("more than 971 bytes");
@@ -41,7 +41,7 @@ fn one_call_does_all() {
         maps: &[("none", 7)],
         ..Target::default()
     };
-    let object = Object::prepare(&file("ebpf_link/data/call.o"), &target).expect("prepared");
+    let object = Object::prepare(&file("crates/ebpf_link/data/call.o"), &target).expect("prepared");
     assert_eq!(object.slots("p").expect("slots").len(), 3);
     assert_eq!(object.license().expect("a license"), b"GPL");
     assert!(!object.states_license().expect("no section license"));
@@ -49,7 +49,7 @@ fn one_call_does_all() {
 
 #[test]
 fn an_object_is_prepared_with_its_values() {
-    let mut object = Object::open(&file("test_rows/data/counter.o")).expect("an object");
+    let mut object = Object::open(&file("tests/drivers/test_rows/data/counter.o")).expect("an object");
     object
         .set_value("wanted", &42u32.to_le_bytes(), true)
         .expect("a variable");
@@ -73,13 +73,13 @@ fn an_object_is_prepared_with_its_values() {
 #[test]
 fn the_version_is_told() {
     assert_eq!(version(), (0, 3, 0));
-    let object = Object::open(&file("test_rows/data/counter.o")).expect("an object");
+    let object = Object::open(&file("tests/drivers/test_rows/data/counter.o")).expect("an object");
     assert!(object.states_license().expect("a section license"));
 }
 
 #[test]
 fn map_fds_are_written() {
-    let mut object = Object::open(&file("test_rows/data/counter.o")).expect("an object");
+    let mut object = Object::open(&file("tests/drivers/test_rows/data/counter.o")).expect("an object");
     let maps = object.maps().expect("maps");
     let names: Vec<&str> = maps.iter().map(|map| map.name.as_str()).collect();
     assert_eq!(names, [".bss", ".rodata", "counts", "tables"]);
@@ -109,7 +109,7 @@ fn map_fds_are_written() {
 
 #[test]
 fn values_are_written_all_or_none() {
-    let mut object = Object::open(&file("test_rows/data/counter.o")).expect("an object");
+    let mut object = Object::open(&file("tests/drivers/test_rows/data/counter.o")).expect("an object");
     let (first, second) = (1u32.to_le_bytes(), 42u32.to_le_bytes());
     object
         .set_values(&[
@@ -141,7 +141,7 @@ fn refusals_have_names() {
 
 #[test]
 fn refusals_have_the_numbers_of_their_errors() {
-    let mut object = Object::open(&file("test_rows/data/counter.o")).expect("an object");
+    let mut object = Object::open(&file("tests/drivers/test_rows/data/counter.o")).expect("an object");
     // the variable has 4 bytes
     let refused = object.set_value("wanted", &[1], true).expect_err("another size");
     let Error::Parse(refusal) = &refused else {
@@ -160,7 +160,7 @@ fn refusals_have_the_numbers_of_their_errors() {
 
 #[test]
 fn a_map_without_a_descriptor_is_told_by_its_symbol() {
-    let mut object = Object::open(&file("test_rows/data/counter.o")).expect("an object");
+    let mut object = Object::open(&file("tests/drivers/test_rows/data/counter.o")).expect("an object");
     // the first reference of `count` is to symbol 11 in section 9, the map `counts`
     let refused = object.relocate_maps(&[]).expect_err("no descriptor");
     let place = Details {

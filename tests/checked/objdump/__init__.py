@@ -15,13 +15,14 @@ from rows.elf import EXIT, FUNCTION, File, slot
 
 HERE = Path(__file__).parent
 CRATES = HERE.parents[2] / "crates"
+DRIVERS = HERE.parents[1] / "drivers"
 
 # The objects that crates have in data/, each once.
 OBJECTS = {
     "call": CRATES / "ebpf_link/data/call.o",
-    "counter": CRATES / "test_rows/data/counter.o",
+    "counter": DRIVERS / "test_rows/data/counter.o",
     "memdrop": CRATES / "ebpf/data/memdrop.o",
-    "references": CRATES / "test_rows/data/references.o",
+    "references": DRIVERS / "test_rows/data/references.o",
     "watch": CRATES / "example_library/data/watch.o",
 }
 
