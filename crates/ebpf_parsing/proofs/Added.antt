@@ -8,12 +8,11 @@ use Rattle.ebpf_base.specs.Faults.{or_else, first_some}
 use Rattle.ebpf_base.specs.Maps.{put_all, text_cmp}
 use Rattle.ebpf_btf.specs.TypeInfo.{TypeInfo}
 use Rattle.ebpf_declarations.specs.Maps.{TypesInReading, types_in_reading}
-use Rattle.ebpf_elf.specs.Relocations.{relocations, relocation_sections, relocated_section, table_entries}
+use Rattle.ebpf_elf.specs.Relocations.{relocation_sections, relocated_section, table_entries}
 use Rattle.ebpf_elf.specs.Sections.{SectionOf}
 use Rattle.ebpf_elf.specs.declared.relocation.ElfRelocation.{ElfRelocation}
 use Rattle.ebpf_parts.specs.ProgramTypes.{section_as}
-use Rattle.ebpf_parts.specs.Sections.{SectionValue, section_of, section_with, section_name_fault, data_fault, target_fault, section_fault, section_fault_with}
-use Rattle.ebpf_parts.specs.declared.error.ParseError.{ParseError}
+use Rattle.ebpf_parts.specs.Sections.{SectionValue, section_of, section_with}
 use Rattle.ebpf_parts.specs.declared.maps.either.Map.TheVariants.{Legacy}
 use Rattle.ebpf_parts.specs.declared.program_section.ProgramSection.{ProgramSection}
 use Rattle.ebpf_parts.specs.declared.reading.Reading.{Reading}
@@ -23,19 +22,16 @@ use Rattle.ebpf_parsing.specs.FileContents.{read_fault, symbols_at}
 use Rattle.ebpf_parsing.specs.Maps.{data_definition, data_flags, data_bytes, data_map, data_map_fault, btf_defined_maps, btf_defined_maps_fault, legacy_map, legacy_fault, legacy_maps_fault}
 use Rattle.ebpf_parsing.specs.ObjectTables.{added, all_added, last_maps, put_by, added_last}
 use Rattle.ebpf_parsing.specs.OfSection.{maps_in, programs_in, functions_in, relocations_in, programs_by, functions_by, fault_by, fault_in, program_section_faults}
-use Rattle.ebpf_parsing.specs.Programs.{programs_of, program_function, program_fault, with_key}
-use Rattle.ebpf_parsing.specs.Records.{FuncAndLineInfo, func_and_line_info_of}
-use Rattle.ebpf_parsing.specs.Sections.{is_type_information, section_info_entry, is_index, with_relocations}
-use Rattle.ebpf_parsing.specs.Symbols.{SymbolValue, section_symbols}
-use Rattle.ebpf_parsing.specs.Texts.{function_at, text_fault_at, size_at, symbol_at_offset, text_function, text_function_of, text_fault_of, offsets_from, text_fault, conflict_fault}
-use Rattle.ebpf_parsing.specs.declared.file_contents.FileMetadata.{FileMetadata}
 use Rattle.ebpf_parsing.specs.declared.object_tables.ObjectTables.{ObjectTables}
+use Rattle.ebpf_sections.proofs.ReadSections.{others}
+use Rattle.ebpf_sections.specs.Programs.{programs_of, program_function, program_fault, with_key}
+use Rattle.ebpf_sections.specs.Records.{FuncAndLineInfo, func_and_line_info_of}
+use Rattle.ebpf_sections.specs.Sections.{is_type_information, section_info_entry, is_index, with_relocations}
+use Rattle.ebpf_sections.specs.Symbols.{SymbolValue, section_symbols}
+use Rattle.ebpf_sections.specs.Texts.{function_at, text_fault_at, size_at, symbol_at_offset, text_function, text_function_of, text_fault_of, offsets_from, text_fault, conflict_fault}
+use Rattle.ebpf_sections.specs.declared.metadata.FileMetadata.{FileMetadata}
 
 -- ---- one more section adds its part
-
--- those of some sections that don't hold type information
-abbrev pub others : List SectionOf → List SectionOf
-others rest = filter (λ s. not (is_type_information s)) rest
 
 -- a section, and those after it
 pub all_more : (metadata : FileMetadata) (p : ObjectTables) (symbols : List SymbolValue) (s : SectionValue) (rest : List SectionValue)
@@ -77,17 +73,6 @@ pub section_patched : (s : SectionOf) (tables : List SectionOf) → tables ≡ f
     → section_of s ≡ with_relocations (flat_map table_entries tables) (section_with [] s)
 unfolding section_of section_with
 section_patched s tables e = ap (λ ts. with_relocations (flat_map table_entries ts) (section_with [] s)) (sym e)
-
--- the fault of its relocations stands behind the others
-pub fault_of_targets : (s : SectionOf) (tables : List SectionOf) → tables ≡ filter (λ r. relocated_section r == s.index) (relocation_sections s.file)
-    → section_fault s ≡ or_else (section_fault_with [] s) (target_fault (flat_map table_entries tables))
-unfolding section_fault section_fault_with
-fault_of_targets s tables e = step (section_name_fault s) (data_fault s) ∙ ap (λ ts. or_else (or_else (section_name_fault s) (or_else (data_fault s) None)) (target_fault (flat_map table_entries ts))) (sym e)
-  where
-    step : (n d : Option ParseError) → or_else n (or_else d (target_fault (relocations s))) ≡ or_else (or_else n (or_else d None)) (target_fault (relocations s))
-    step None None = refl
-    step None (Some e) = refl
-    step (Some e) d = refl
 
 module _ (list : List ElfRelocation) (s : SectionValue) where
   abbrev p : SectionValue

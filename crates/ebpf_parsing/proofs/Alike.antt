@@ -30,13 +30,13 @@ use Rattle.ebpf_parts.specs.declared.section.EbpfSectionKind.TheVariants.{Maps, 
 use Rattle.ebpf_parsing.specs.FileContents.{map_entries, program_entries, maps_as, programs_as, read_fault, sections_fault, own_symbols}
 use Rattle.ebpf_parsing.specs.FileTypes.{types_of_file, file_externs_fault, file_types_fault}
 use Rattle.ebpf_parsing.specs.Laws.{ReadingsAgree, StatedKindsAreNamed}
-use Rattle.ebpf_parsing.specs.LicenseAndVersion.{has_zero, front_of, stated_text_fault, license_text, license_text_fault, license_in, license_fault_in, license_as, license_fault_as, kernel_version_of, version_fault}
 use Rattle.ebpf_parsing.specs.Maps.{btf_defined_maps, btf_defined_maps_fault}
 use Rattle.ebpf_parsing.specs.OfSection.{maps_by, maps_in, programs_by, programs_in, fault_by, fault_in, program_section_faults}
-use Rattle.ebpf_parsing.specs.Programs.{program_of, programs_of, programs_fault, is_program_symbol}
-use Rattle.ebpf_parsing.specs.Sections.{is_big, has_code, has_big_endian_code, order_fault_as, other_sections, object_sections}
-use Rattle.ebpf_parsing.specs.Symbols.{file_symbols, symbols_fault, symbol_indices_by_name, SymbolValue, section_symbols}
-use Rattle.ebpf_parsing.proofs.Entries.{stands, all_flat_map}
+use Rattle.ebpf_sections.specs.LicenseAndVersion.{has_zero, front_of, stated_text_fault, license_text, license_text_fault, license_in, license_fault_in, license_as, license_fault_as, kernel_version_of, version_fault}
+use Rattle.ebpf_sections.specs.Programs.{program_of, programs_of, programs_fault, is_program_symbol}
+use Rattle.ebpf_sections.specs.Sections.{is_big, has_code, has_big_endian_code, order_fault_as, other_sections, object_sections}
+use Rattle.ebpf_sections.specs.Symbols.{file_symbols, symbols_fault, symbol_indices_by_name, SymbolValue, section_symbols}
+use Rattle.ebpf_sections.proofs.Entries.{stands, all_flat_map}
 
 -- ---- the license
 

@@ -32,13 +32,13 @@ use Rattle.ebpf_parts.specs.declared.section.EbpfSectionKind.TheVariants.{Maps, 
 use Rattle.ebpf_parsing.specs.FileContents.{read_fault, sections_fault, parse_fault_as}
 use Rattle.ebpf_parsing.specs.FileTypes.{types_of_file, externs_fault_beside, file_externs_fault, btf_of, types_fault_in, btf_fault, ext_fault_in, ext_fault_beside, ext_fault, file_types_fault, types_section, ext_section}
 use Rattle.ebpf_parsing.specs.Laws.{BroadRefusesNoName, StatedTakesBothOrders}
-use Rattle.ebpf_parsing.specs.LicenseAndVersion.{stated_text_fault, license_text_fault, license_fault_in, license_fault_as, version_number_fault, version_fault_in, version_fault, has_zero, front_of}
 use Rattle.ebpf_parsing.specs.Maps.{data_map_fault, btf_defined_maps_fault, struct_bytes, word_at, legacy_fault, legacy_maps_fault}
 use Rattle.ebpf_parsing.specs.OfSection.{fault_by, fault_in, program_section_faults}
-use Rattle.ebpf_parsing.specs.Programs.{is_program_symbol, program_bytes, range_faults, program_fault, programs_fault}
-use Rattle.ebpf_parsing.specs.Sections.{has_big_endian_code, order_fault_as, other_sections}
-use Rattle.ebpf_parsing.specs.Symbols.{file_symbols, symbol_fault, symbols_fault, SymbolValue, section_symbols}
-use Rattle.ebpf_parsing.specs.Texts.{text_function_bytes, conflict_fault_at, conflict_fault, repeated, text_fault_of, text_fault_at, symbol_at_offset, offsets, text_fault}
+use Rattle.ebpf_sections.specs.LicenseAndVersion.{stated_text_fault, license_text_fault, license_fault_in, license_fault_as, version_number_fault, version_fault_in, version_fault, has_zero, front_of}
+use Rattle.ebpf_sections.specs.Programs.{is_program_symbol, program_bytes, range_faults, program_fault, programs_fault}
+use Rattle.ebpf_sections.specs.Sections.{has_big_endian_code, order_fault_as, other_sections}
+use Rattle.ebpf_sections.specs.Symbols.{file_symbols, symbol_fault, symbols_fault, SymbolValue, section_symbols}
+use Rattle.ebpf_sections.specs.Texts.{text_function_bytes, conflict_fault_at, conflict_fault, repeated, text_fault_of, text_fault_at, symbol_at_offset, offsets, text_fault}
 
 -- a fault that only one of the readings has, or that of a limit
 abbrev is_told : ParseError → Bool

@@ -22,17 +22,17 @@ use Rattle.ebpf_parts.specs.declared.reading.Reading.{Reading}
 use Rattle.ebpf_parsing.specs.FileContents.{parse_fault_as, read_fault, sections_fault, own_symbols, functions, function_entries}
 use Rattle.ebpf_parsing.specs.FileTypes.{types_of_file, file_externs_fault, file_types_fault, ext_of}
 use Rattle.ebpf_parsing.specs.Laws.{IsTextSection, AreInOrder, own_functions, AtEachAddress, InOrder, SectionsTile}
-use Rattle.ebpf_parsing.specs.LicenseAndVersion.{license_fault_as, version_fault}
 use Rattle.ebpf_parsing.specs.OfSection.{fault_in, functions_by, functions_in, fault_by}
-use Rattle.ebpf_parsing.specs.Programs.{with_key}
-use Rattle.ebpf_parsing.specs.Records.{FuncAndLineInfo, func_and_line_info_of}
-use Rattle.ebpf_parsing.specs.Sections.{other_sections, object_sections, order_fault_as, is_type_information}
-use Rattle.ebpf_parsing.specs.Symbols.{file_symbols, symbols_fault, section_symbols, SymbolValue}
-use Rattle.ebpf_parsing.specs.Texts.{text_fault, conflict_fault, walk_fault, offsets_from}
-use Rattle.ebpf_parsing.proofs.Added.{others}
-use Rattle.ebpf_parsing.proofs.Lasts.{KeysDiffer, last_at-append, last_at-apart, last_at-differ}
+use Rattle.ebpf_sections.specs.LicenseAndVersion.{license_fault_as, version_fault}
+use Rattle.ebpf_sections.specs.Programs.{with_key}
+use Rattle.ebpf_sections.specs.Records.{FuncAndLineInfo, func_and_line_info_of}
+use Rattle.ebpf_sections.specs.Sections.{other_sections, object_sections, order_fault_as, is_type_information}
+use Rattle.ebpf_sections.specs.Symbols.{file_symbols, symbols_fault, section_symbols, SymbolValue}
+use Rattle.ebpf_sections.specs.Texts.{text_fault, conflict_fault, walk_fault, offsets_from}
+use Rattle.ebpf_sections.proofs.ReadSections.{others}
+use Rattle.ebpf_sections.proofs.Lasts.{KeysDiffer, last_at-append, last_at-apart, last_at-differ}
+use Rattle.ebpf_sections.proofs.Tiles as tiles
 use Rattle.ebpf_parsing.proofs.TextKeys.{Key, Entry, entries_apart, section_keys, text_keys, key_of_address, rise, differ, one_order}
-use Rattle.ebpf_parsing.proofs.Tiles as tiles
 
 -- ---- where a file has no fault, none of its sections has
 

@@ -40,15 +40,15 @@ use Rattle.ebpf_parts.specs.declared.section.EbpfSectionKind.TheVariants.{Text, 
 use Rattle.ebpf_parsing.specs.FileContents.{programs_as, functions, relocation_tables, own_symbols, function_entries, program_entries, relocation_entries, maps_as, map_entries}
 use Rattle.ebpf_parsing.specs.FileTypes.{externs_of, externs_beside, ext_of, btf_of, types_of_file}
 use Rattle.ebpf_parsing.specs.Laws.{FunctionsAtTheirKeys, IsFileSymbol, SymbolsAtTheirIndices, RelocationsAtTheirOffsets, ProgramsHaveFunctions, ExternsAreUnresolved, IsTableOfCode, TablesOfCode, RelocationsNameSymbols, IsSymbolIn, MapsHaveTheirSymbols, IsDataMap, OtherMapsAreOfData}
-use Rattle.ebpf_parsing.specs.LicenseAndVersion.{license_as, kernel_version_of}
 use Rattle.ebpf_parsing.specs.Maps.{data_map, data_maps, btf_defined_maps, legacy_map, legacy_maps}
 use Rattle.ebpf_parsing.specs.OfSection.{functions_by, functions_in, programs_by, programs_in, relocations_by, relocations_in, maps_by, maps_in}
-use Rattle.ebpf_parsing.specs.Programs.{with_key, program_function, program_of, programs_of, is_program_symbol}
-use Rattle.ebpf_parsing.specs.Records.{FuncAndLineInfo, func_and_line_info_of}
-use Rattle.ebpf_parsing.specs.Relocations.{offset_of, relocation_table_at, relocations_by_offset}
-use Rattle.ebpf_parsing.specs.Sections.{object_sections}
-use Rattle.ebpf_parsing.specs.Symbols.{file_symbols, symbol_of, symbol_entry, weak_named, SymbolValue, symbol_table, name_and_index, symbol_indices_by_name, is_in_section, section_symbols}
-use Rattle.ebpf_parsing.proofs.Entries.{stands, all_flat_map, Among, in_flat_map, known}
+use Rattle.ebpf_sections.specs.LicenseAndVersion.{license_as, kernel_version_of}
+use Rattle.ebpf_sections.specs.Programs.{with_key, program_function, program_of, programs_of, is_program_symbol}
+use Rattle.ebpf_sections.specs.Records.{FuncAndLineInfo, func_and_line_info_of}
+use Rattle.ebpf_sections.specs.Relocations.{offset_of, relocation_table_at, relocations_by_offset}
+use Rattle.ebpf_sections.specs.Sections.{object_sections}
+use Rattle.ebpf_sections.specs.Symbols.{file_symbols, symbol_of, symbol_entry, weak_named, SymbolValue, symbol_table, name_and_index, symbol_indices_by_name, is_in_section, section_symbols}
+use Rattle.ebpf_sections.proofs.Entries.{stands, all_flat_map, Among, in_flat_map, known}
 use Rattle.ebpf_parsing.proofs.SectionTables.{targets_clear}
 
 -- ---- what stands in the tables of each file

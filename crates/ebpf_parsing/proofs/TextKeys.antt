@@ -15,12 +15,12 @@ use Rattle.ebpf_parts.specs.declared.section.EbpfSectionKind.{EbpfSectionKind}
 use Rattle.ebpf_parts.specs.declared.section.EbpfSectionKind.TheVariants.{Text, Program as Programs}
 use Rattle.ebpf_parsing.specs.Laws.{OffsetsRise}
 use Rattle.ebpf_parsing.specs.OfSection.{functions_by, functions_in}
-use Rattle.ebpf_parsing.specs.Programs.{with_key, program_function, is_program_symbol}
-use Rattle.ebpf_parsing.specs.Records.{FuncAndLineInfo, func_and_line_info_of}
-use Rattle.ebpf_parsing.specs.Symbols.{SymbolValue}
-use Rattle.ebpf_parsing.specs.Texts.{is_text_at, is_defined_text, address_at, symbol_at_offset, text_function, text_function_of, function_at, text_fault_at, size_at, symbol_size_of, offsets_from}
-use Rattle.ebpf_parsing.proofs.Lasts.{KeysDiffer}
-use Rattle.ebpf_parsing.proofs.Tiles.{Stands, stands}
+use Rattle.ebpf_sections.specs.Programs.{with_key, program_function, is_program_symbol}
+use Rattle.ebpf_sections.specs.Records.{FuncAndLineInfo, func_and_line_info_of}
+use Rattle.ebpf_sections.specs.Symbols.{SymbolValue}
+use Rattle.ebpf_sections.specs.Texts.{is_text_at, is_defined_text, address_at, symbol_at_offset, text_function, text_function_of, function_at, text_fault_at, size_at, symbol_size_of, offsets_from}
+use Rattle.ebpf_sections.proofs.Lasts.{KeysDiffer}
+use Rattle.ebpf_sections.proofs.Tiles.{Stands, stands}
 
 -- ---- functions in order of their offset: there is one such order
 

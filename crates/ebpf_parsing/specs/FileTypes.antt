@@ -18,8 +18,8 @@ use Rattle.ebpf_model.specs.declared.symbol.ExternDesc.{ExternDesc}
 use Rattle.ebpf_parts.specs.Sections.{section_of, section_fault}
 use Rattle.ebpf_parts.specs.declared.error.ParseError.{ParseError}
 use Rattle.ebpf_parts.specs.declared.error.ParseError.TheVariants.{BtfError}
-use Rattle.ebpf_parsing.specs.Sections.{section_info_entry, first_section_named}
-use Rattle.ebpf_parsing.specs.Symbols.{file_symbols, SymbolValue, weak_named}
+use Rattle.ebpf_sections.specs.Sections.{section_info_entry, first_section_named}
+use Rattle.ebpf_sections.specs.Symbols.{file_symbols, SymbolValue, weak_named}
 
 -- ---- the type information of a file, and its records on instructions: its sections `.BTF` and `.BTF.ext` (libbpf's
 -- names)

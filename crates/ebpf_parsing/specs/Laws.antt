@@ -23,13 +23,13 @@ use Rattle.ebpf_parts.specs.declared.reading.Reading.TheVariants.{Broad}
 use Rattle.ebpf_parts.specs.declared.section.EbpfSectionKind.TheVariants.{Data, Rodata, Bss, Text, Program as Programs}
 use Rattle.ebpf_parsing.specs.FileContents.{maps_as, programs_as, functions, relocation_tables, parse_fault_as, own_symbols, maps, programs, parse_fault}
 use Rattle.ebpf_parsing.specs.FileTypes.{externs_of, ext_of}
-use Rattle.ebpf_parsing.specs.LicenseAndVersion.{license_of, license_as}
 use Rattle.ebpf_parsing.specs.Maps.{data_map}
-use Rattle.ebpf_parsing.specs.Records.{FuncAndLineInfo, func_and_line_info_of}
-use Rattle.ebpf_parsing.specs.Relocations.{relocations_by_offset}
-use Rattle.ebpf_parsing.specs.Sections.{object_sections}
-use Rattle.ebpf_parsing.specs.Symbols.{file_symbols, symbol_table, symbol_of, symbol_entry, SymbolValue}
-use Rattle.ebpf_parsing.specs.Texts.{text_functions, text_fault}
+use Rattle.ebpf_sections.specs.LicenseAndVersion.{license_of, license_as}
+use Rattle.ebpf_sections.specs.Records.{FuncAndLineInfo, func_and_line_info_of}
+use Rattle.ebpf_sections.specs.Relocations.{relocations_by_offset}
+use Rattle.ebpf_sections.specs.Sections.{object_sections}
+use Rattle.ebpf_sections.specs.Symbols.{file_symbols, symbol_table, symbol_of, symbol_entry, SymbolValue}
+use Rattle.ebpf_sections.specs.Texts.{text_functions, text_fault}
 
 -- ---- what stands in the tables of each file
 

@@ -15,7 +15,7 @@ use Rattle.ebpf_parts.specs.declared.maps.definition.PinningType.{PinningType}
 use Rattle.ebpf_parts.specs.declared.maps.definition.PinningType.TheVariants as pinned
 use Rattle.ebpf_parts.specs.declared.section.EbpfSectionKind.{EbpfSectionKind}
 use Rattle.ebpf_parts.specs.declared.section.EbpfSectionKind.TheVariants.{Rodata, Bss}
-use Rattle.ebpf_parsing.specs.Symbols.{SymbolValue, symbol_indices_by_name}
+use Rattle.ebpf_sections.specs.Symbols.{SymbolValue, symbol_indices_by_name}
 
 -- ---- the maps of data sections (libbpf's `.data`, `.rodata` and `.bss`)
 

@@ -13,10 +13,10 @@ use Rattle.ebpf_parts.specs.declared.section.EbpfSectionKind.TheVariants.{Maps, 
 use Rattle.ebpf_parsing.specs.FileContents.{symbols_at, map_entries, program_entries, function_entries, relocation_entries, name_entries}
 use Rattle.ebpf_parsing.specs.Maps.{data_maps}
 use Rattle.ebpf_parsing.specs.OfSection.{maps_in, programs_in, functions_in, relocations_in, maps_by}
-use Rattle.ebpf_parsing.specs.Sections.{section_info_entry, is_index}
-use Rattle.ebpf_parsing.specs.Symbols.{SymbolValue}
-use Rattle.ebpf_parsing.specs.declared.file_contents.FileMetadata.{FileMetadata}
 use Rattle.ebpf_parsing.specs.declared.object_tables.ObjectTables.{ObjectTables}
+use Rattle.ebpf_sections.specs.Sections.{section_info_entry, is_index}
+use Rattle.ebpf_sections.specs.Symbols.{SymbolValue}
+use Rattle.ebpf_sections.specs.declared.metadata.FileMetadata.{FileMetadata}
 
 -- ---- the tables while the sections of a file are read, one after the other
 

@@ -19,11 +19,11 @@ use Rattle.ebpf_parts.specs.declared.reading.Reading.{Reading}
 use Rattle.ebpf_parts.specs.declared.section.EbpfSectionKind.{EbpfSectionKind}
 use Rattle.ebpf_parts.specs.declared.section.EbpfSectionKind.TheVariants.{Maps, BtfMaps, Data, Rodata, Bss, Text, Program as Programs}
 use Rattle.ebpf_parsing.specs.Maps.{btf_defined_maps, btf_defined_maps_fault, data_maps, data_map_fault, legacy_maps, legacy_maps_fault}
-use Rattle.ebpf_parsing.specs.Programs.{with_key, programs_of, program_functions, programs_fault}
-use Rattle.ebpf_parsing.specs.Records.{FuncAndLineInfo, func_and_line_info_of}
-use Rattle.ebpf_parsing.specs.Relocations.{relocation_table_at}
-use Rattle.ebpf_parsing.specs.Symbols.{SymbolValue}
-use Rattle.ebpf_parsing.specs.Texts.{text_functions, text_fault}
+use Rattle.ebpf_sections.specs.Programs.{with_key, programs_of, program_functions, programs_fault}
+use Rattle.ebpf_sections.specs.Records.{FuncAndLineInfo, func_and_line_info_of}
+use Rattle.ebpf_sections.specs.Relocations.{relocation_table_at}
+use Rattle.ebpf_sections.specs.Symbols.{SymbolValue}
+use Rattle.ebpf_sections.specs.Texts.{text_functions, text_fault}
 
 -- the maps, by name
 abbrev pub maps_by : EbpfSectionKind → Reading → Option TypeInfo → SectionValue → List SymbolValue → List (List ℕ × Map)

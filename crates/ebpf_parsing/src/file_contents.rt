@@ -7,34 +7,25 @@ ghost use Rattle.ebpf_parts.specs.Memory.{is_parse_memory};
 ghost use Rattle.ebpf_parts.specs.declared.reading.Reading.{Reading};
 ghost use Rattle.ebpf_parsing.specs.FileContents.{contents_as, metadata_as, parse_fault_as, sections_fault};
 ghost use Rattle.ebpf_parsing.specs.FileTypes.{externs_of, file_externs_fault, types_of_file, file_types_fault, type_info_names};
-ghost use Rattle.ebpf_parsing.specs.LicenseAndVersion.{kernel_version_of, license_as, license_fault_as, version_fault};
 ghost use Rattle.ebpf_parsing.specs.ObjectTables.{object_tables_of};
-ghost use Rattle.ebpf_parsing.specs.Sections.{AreTablesOf, group_at};
-ghost use Rattle.ebpf_parsing.specs.Symbols.{file_symbols, symbol_table, symbols_fault, names_of, section_symbols};
+ghost use Rattle.ebpf_sections.specs.LicenseAndVersion.{kernel_version_of, license_as, license_fault_as, version_fault};
+ghost use Rattle.ebpf_sections.specs.Sections.{AreTablesOf, group_at};
+ghost use Rattle.ebpf_sections.specs.Symbols.{file_symbols, symbol_table, symbols_fault, names_of, section_symbols};
 
 use crate::file_types::{FileExterns, FileTypes};
-use crate::license::{read_license, read_version};
 use crate::object_tables::{ObjectTables, read_sections};
-use crate::relocations::{RelocationTable, read_relocation_sections};
-use crate::sections::{Groups, check_order};
-use crate::symbols::{FileSymbols, object_symbols, read_symbols};
 use ebpf_base::{ByIndex, ByName, Items};
 use ebpf_btf::{Btf, Endianness};
 use ebpf_elf::{ElfFile, SectionIndex};
 use ebpf_ext::BtfExt;
 use ebpf_model::{ExternDesc, Symbol};
 use ebpf_parts::{ParseError, Reading};
+use ebpf_sections::license::{read_license, read_version};
+use ebpf_sections::metadata::FileMetadata;
+use ebpf_sections::relocations::{RelocationTable, read_relocation_sections};
+use ebpf_sections::sections::{Groups, check_order};
+use ebpf_sections::symbols::{FileSymbols, object_symbols, read_symbols};
 use std::alloc::Global;
-
-/// What programs and functions carry of their object.
-#[derive(Drop)]
-pub struct FileMetadata {
-    pub reading: Reading,
-    pub license: Items<u8>,
-    pub kernel_version: Option<u32>,
-    pub btf: Option<Btf>,
-    pub btf_ext: Option<BtfExt>,
-}
 
 /// What an ELF file with eBPF programs holds.
 #[derive(Drop)]

@@ -11,12 +11,9 @@ ghost use Rattle.ebpf_ext.specs.ExtReading.{read_ext};
 ghost use Rattle.ebpf_parts.specs.Memory.{is_parse_memory};
 ghost use Rattle.ebpf_parts.specs.declared.error.ParseError.TheVariants.{BtfError as TypeFault};
 ghost use Rattle.ebpf_parsing.specs.FileTypes.{btf_of, btf_fault, ext_of, ext_fault, ext_beside, ext_fault_beside, ext_names_beside, ext_in, ext_fault_in, ext_section, names_in, type_names, type_info_names, file_types_fault, externs_beside, externs_fault_beside};
-ghost use Rattle.ebpf_parsing.specs.Sections.{AreTablesOf, section_info_entry};
-ghost use Rattle.ebpf_parsing.specs.Symbols.{file_symbols, symbols_fault};
+ghost use Rattle.ebpf_sections.specs.Sections.{AreTablesOf, section_info_entry};
+ghost use Rattle.ebpf_sections.specs.Symbols.{file_symbols, symbols_fault};
 
-use crate::relocations::RelocationTable;
-use crate::sections::{Groups, read_section_of};
-use crate::symbols::weak_by_name;
 use ebpf_base::ByName;
 use ebpf_btf::{Btf, Endianness};
 use ebpf_declarations::{collect_externs, may_declare_externs, parse_error};
@@ -24,6 +21,9 @@ use ebpf_elf::{ElfFile, SectionIndex};
 use ebpf_ext::BtfExt;
 use ebpf_model::ExternDesc;
 use ebpf_parts::{ParseError, Section};
+use ebpf_sections::relocations::RelocationTable;
+use ebpf_sections::sections::{Groups, read_section_of};
+use ebpf_sections::symbols::weak_by_name;
 use std::alloc::Global;
 
 /// The types that some bytes are.
@@ -64,7 +64,7 @@ pub fn remember(
 }
 
 /// The types of a file, where it has a section `.BTF`, whose name is remembered.
-#[tactic(auto, using(crate::proofs::RelocationTables::found_from), unfolding(ebpf_parts::specs::Sections::section_of, ebpf_parts::specs::Sections::section_with, crate::specs::FileTypes::btf_of, crate::specs::FileTypes::btf_fault, crate::specs::FileTypes::type_names))]
+#[tactic(auto, using(ebpf_sections::proofs::RelocationTables::found_from), unfolding(ebpf_parts::specs::Sections::section_of, ebpf_parts::specs::Sections::section_with, crate::specs::FileTypes::btf_of, crate::specs::FileTypes::btf_fault, crate::specs::FileTypes::type_names))]
 fn read_types(
     alloc: Global,
     file: &ElfFile<'_>,
@@ -86,7 +86,7 @@ fn read_types(
 }
 
 /// What a file says of instructions, where it has a section `.BTF.ext`, whose name is remembered.
-#[tactic(auto, using(crate::proofs::RelocationTables::found_from), unfolding(ebpf_parts::specs::Sections::section_of, ebpf_parts::specs::Sections::section_with))]
+#[tactic(auto, using(ebpf_sections::proofs::RelocationTables::found_from), unfolding(ebpf_parts::specs::Sections::section_of, ebpf_parts::specs::Sections::section_with))]
 fn read_ext_section(
     alloc: Global,
     file: &ElfFile<'_>,

@@ -8,13 +8,13 @@ ghost use Rattle.ebpf_parts.specs.Memory.{is_parse_memory};
 ghost use Rattle.ebpf_parsing.specs.Maps.{data_bytes, data_flags, data_map, data_map_fault, word_at, legacy_pinning, definition_of, legacy_map, legacy_fault, legacy_maps, legacy_maps_fault, btf_defined_maps, btf_defined_maps_fault};
 ghost use Rattle.ebpf_parsing.specs.ObjectTables.{last_maps};
 
-use crate::sections::{SectionNames, is_index};
-use crate::symbols::{NamedSymbol, symbol_indices_by_name};
 use ebpf_base::{ByName, Items, Text};
 use ebpf_btf::Btf;
 use ebpf_declarations::{BtfDefinedMaps, parse_error};
 use ebpf_parts::maps::{LegacyMap, Map, PinningType, bpf_map_def};
 use ebpf_parts::{EbpfSectionKind, ParseError, Reading, Section};
+use ebpf_sections::sections::{SectionNames, is_index};
+use ebpf_sections::symbols::{NamedSymbol, symbol_indices_by_name};
 use std::alloc::Global;
 
 /// The type of an array map (`BPF_MAP_TYPE_ARRAY`).
@@ -124,7 +124,7 @@ fn byte_at(bytes: &[u8], offset: usize) -> u32
 }
 
 /// The number in the four bytes from an offset on.
-#[tactic(auto, using(crate::proofs::Bytes::word_by_bytes))]
+#[tactic(auto, using(crate::proofs::Words::word_by_bytes))]
 fn word_at(bytes: &[u8], offset: usize) -> u32
     requires { offset ≤ 24 }
     ensures { result ≡ word_at bytes.now offset }

@@ -14,22 +14,15 @@ ghost use Rattle.ebpf_parsing.specs.FileContents.{sections_fault};
 ghost use Rattle.ebpf_parsing.specs.Maps.{legacy_maps};
 ghost use Rattle.ebpf_parsing.specs.ObjectTables.{added_last, added, object_tables_of, object_tables_from};
 ghost use Rattle.ebpf_parsing.specs.OfSection.{fault_in, program_section_faults, relocations_in};
-ghost use Rattle.ebpf_parsing.specs.Programs.{programs_of, with_key, program_functions, programs_fault};
-ghost use Rattle.ebpf_parsing.specs.Records.{func_and_line_info_of};
-ghost use Rattle.ebpf_parsing.specs.Relocations.{AreOfOneFile, relocation_table_at};
-ghost use Rattle.ebpf_parsing.specs.Sections.{group_at, AreTablesOf, last_data, object_sections, with_relocations};
-ghost use Rattle.ebpf_parsing.specs.Symbols.{file_symbols, section_symbols};
-ghost use Rattle.ebpf_parsing.specs.Texts.{text_functions, text_fault};
+ghost use Rattle.ebpf_sections.specs.Programs.{programs_of, with_key, program_functions, programs_fault};
+ghost use Rattle.ebpf_sections.specs.Records.{func_and_line_info_of};
+ghost use Rattle.ebpf_sections.specs.Relocations.{AreOfOneFile, relocation_table_at};
+ghost use Rattle.ebpf_sections.specs.Sections.{group_at, AreTablesOf, last_data, object_sections, with_relocations};
+ghost use Rattle.ebpf_sections.specs.Symbols.{file_symbols, section_symbols};
+ghost use Rattle.ebpf_sections.specs.Texts.{text_functions, text_fault};
 
-use crate::file_contents::FileMetadata;
 use crate::file_types::remember;
 use crate::maps::{find_btf_defined_maps, put_btf_defined_maps, put_data_map, put_legacy_maps};
-use crate::programs::{put_functions, put_programs};
-use crate::relocations::{RelocationTable, by_offset};
-use crate::section_records::{RecordsByName, SectionRecords};
-use crate::sections::{Groups, SectionNames, is_type_information, read_section};
-use crate::symbols::NamedSymbol;
-use crate::text::put_text_functions;
 use ebpf_base::{ByKey, ByName, ByOffset, BySection, Text};
 use ebpf_declarations::BtfDefinedMaps;
 use ebpf_elf::{ElfFile, ElfSection, SectionIndex};
@@ -37,6 +30,13 @@ use ebpf_ext::BtfExt;
 use ebpf_model::{Function, Program};
 use ebpf_parts::maps::Map;
 use ebpf_parts::{EbpfSectionKind, ParseError, ProgramSection, Relocation, Section};
+use ebpf_sections::metadata::FileMetadata;
+use ebpf_sections::programs::{put_functions, put_programs};
+use ebpf_sections::relocations::{RelocationTable, by_offset};
+use ebpf_sections::section_records::{RecordsByName, SectionRecords};
+use ebpf_sections::sections::{Groups, SectionNames, is_type_information, read_section};
+use ebpf_sections::symbols::NamedSymbol;
+use ebpf_sections::text::put_text_functions;
 use std::alloc::Global;
 use std::marker::Model;
 
@@ -51,8 +51,8 @@ pub struct SectionInputs<'s> {
 }
 
 impl<'s> Model for SectionInputs<'s> {
-    ghost use Rattle.ebpf_parsing.specs.contracts.file_contents.FileMetadata as metadata_rows;
-    ghost use Rattle.ebpf_parsing.specs.declared.file_contents.FileMetadata.{FileMetadata};
+    ghost use Rattle.ebpf_sections.specs.contracts.metadata.FileMetadata as metadata_rows;
+    ghost use Rattle.ebpf_sections.specs.declared.metadata.FileMetadata.{FileMetadata};
     ghost use Rattle.std.specs.Coded.{codes};
 
     ghost Value = { FileMetadata };
@@ -73,7 +73,7 @@ pub struct ObjectTables {
 }
 
 /// Puts the relocations of a section that has some.
-#[tactic(auto, using(crate::proofs::RelocationTables::none_kept, crate::proofs::RelocationTables::some_kept))]
+#[tactic(auto, using(ebpf_sections::proofs::RelocationTables::none_kept, ebpf_sections::proofs::RelocationTables::some_kept))]
 fn put_table(
     alloc: Global,
     relocations: &mut BySection<ByOffset<Relocation>>,
@@ -227,7 +227,7 @@ impl ObjectTables {
     }
 
     /// Adds a section of a file.
-    #[tactic(auto, using(crate::proofs::Added::same_added, crate::proofs::Added::same_fault, crate::proofs::Added::section_patched, crate::proofs::RelocationTables::of_one_file))]
+    #[tactic(auto, using(crate::proofs::Added::same_added, crate::proofs::Added::same_fault, crate::proofs::Added::section_patched, ebpf_sections::proofs::RelocationTables::of_one_file))]
     fn add_section(
         &mut self,
         alloc: Global,

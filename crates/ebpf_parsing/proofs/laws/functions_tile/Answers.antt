@@ -1,4 +1,4 @@
-use Rattle.ebpf_parsing.proofs.Tiles as tiles
+use Rattle.ebpf_sections.proofs.Tiles as tiles
 use Rattle.ebpf_parsing.proofs.laws.functions_tile.Goals as goal
 
 pub returns : goal.returns

@@ -10,12 +10,14 @@ use Rattle.ebpf_parts.specs.declared.error.ParseError.{ParseError}
 use Rattle.ebpf_parsing.specs.FileContents.{read_fault, sections_fault, map_entries, program_entries, function_entries, relocation_entries, name_entries}
 use Rattle.ebpf_parsing.specs.ObjectTables.{all_added, added, object_tables_from, added_last}
 use Rattle.ebpf_parsing.specs.OfSection.{fault_in}
-use Rattle.ebpf_parsing.specs.Relocations.{AreOf}
-use Rattle.ebpf_parsing.specs.Sections.{is_type_information, data_row, last_data}
-use Rattle.ebpf_parsing.specs.Symbols.{file_symbols, section_symbols}
-use Rattle.ebpf_parsing.proofs.Added.{others, kept, one_more, fault_more, refused_first}
-use Rattle.ebpf_parsing.proofs.Lasts.{DataLasts, same_added, all_lasts, fewer_lasts}
-use Rattle.ebpf_parsing.proofs.RelocationTables.{all_from}
+use Rattle.ebpf_sections.specs.Relocations.{AreOf}
+use Rattle.ebpf_sections.specs.Sections.{is_type_information, data_row, last_data}
+use Rattle.ebpf_sections.specs.Symbols.{file_symbols, section_symbols}
+use Rattle.ebpf_sections.proofs.ReadSections.{others}
+use Rattle.ebpf_sections.proofs.Lasts.{all_lasts, fewer_lasts}
+use Rattle.ebpf_sections.proofs.RelocationTables.{all_from}
+use Rattle.ebpf_parsing.proofs.Added.{kept, one_more, fault_more, refused_first}
+use Rattle.ebpf_parsing.proofs.DataLasts.{DataLasts, same_added}
 use Rattle.ebpf_parsing.proofs.object_tables.read_by_last.Goals as goal
 
 pub loop-section-init : goal.loop-section-init

@@ -3,10 +3,10 @@ use Rattle.ebpf_base.specs.Faults.{first_some}
 use Rattle.ebpf_parts.specs.Sections.{section_of}
 use Rattle.ebpf_parsing.specs.FileContents.{read_fault, sections_fault}
 use Rattle.ebpf_parsing.specs.ObjectTables.{all_added, object_tables_of}
-use Rattle.ebpf_parsing.specs.Relocations.{AreOf}
-use Rattle.ebpf_parsing.specs.Symbols.{file_symbols}
-use Rattle.ebpf_parsing.proofs.Added.{others}
-use Rattle.ebpf_parsing.proofs.Lasts.{DataLasts}
+use Rattle.ebpf_sections.specs.Relocations.{AreOf}
+use Rattle.ebpf_sections.specs.Symbols.{file_symbols}
+use Rattle.ebpf_sections.proofs.ReadSections.{others}
+use Rattle.ebpf_parsing.proofs.DataLasts.{DataLasts}
 use Rattle.ebpf_parsing.proofs.object_tables.read_by_last.Given as goal
 
 -- what is left to do from here is what was to do from the start

@@ -1,4 +1,4 @@
-use Rattle.ebpf_parsing.proofs.RelocationTables.{of_one_file}
+use Rattle.ebpf_sections.proofs.RelocationTables.{of_one_file}
 use Rattle.ebpf_parsing.proofs.object_tables.ObjectTables.add_section.Goals as goal
 
 pub put_relocations-requires : goal.put_relocations-requires

@@ -1,7 +1,0 @@
-use Rattle.std.proofs.Common.{◌≡◌, take, map, filter}
-use Rattle.ebpf_parsing.specs.Texts.{is_defined_text}
-use Rattle.ebpf_parsing.proofs.text.defined.Given as goal
-
--- the symbols so far
-abbrev pub invariant-loop-symbol : goal.invariant-loop-symbol
-invariant-loop-symbol l = map (λ y. y.now) l.rows.items ≡ filter is_defined_text (take l.symbol-index l.symbols)

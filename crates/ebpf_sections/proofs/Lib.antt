@@ -1,0 +1,10 @@
+pub mod Entries
+pub mod InOrder
+pub mod Records
+pub mod NamedSymbols
+pub mod TextSymbols
+pub mod Bytes
+pub mod RelocationTables
+pub mod Lasts
+pub mod Tiles
+pub mod ReadSections

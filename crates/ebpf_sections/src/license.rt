@@ -1,0 +1,150 @@
+//! The license and the kernel version of a file.
+
+ghost use Rattle.std.specs.List.{before_first, position};
+ghost use Rattle.std.specs.Prelude.{◌≡◌, ◌==◌, ◌<◌, IfOk, IfSome, length};
+ghost use Rattle.ebpf_base.specs.Faults.{Refuses};
+ghost use Rattle.ebpf_parts.specs.Memory.{is_parse_memory};
+ghost use Rattle.ebpf_parts.specs.declared.reading.Reading.TheVariants.{Broad};
+ghost use Rattle.ebpf_sections.specs.LicenseAndVersion.{has_zero, front_of, stated_text_fault, license_text, license_text_fault, license_as, license_fault_as, version_number_fault, version_of, kernel_version_of, version_fault};
+ghost use Rattle.ebpf_sections.specs.Sections.{AreTablesOf};
+
+use crate::relocations::RelocationTable;
+use crate::sections::{Groups, read_section_of};
+use ebpf_base::Items;
+use ebpf_base::numbers::read_u32;
+use ebpf_btf::Endianness;
+use ebpf_elf::ElfFile;
+use ebpf_parts::{ParseError, Reading};
+use std::alloc::Global;
+
+fn has_zero(bytes: &[u8]) -> bool
+    ensures { result ≡ has_zero bytes.now }
+{
+    bytes.iter().any(|byte| *byte == 0)
+}
+
+/// Where the first zero stands.
+fn zero_at(bytes: &[u8]) -> Option<usize>
+    ensures place { result ≡ position (λ b. b == 0) bytes.now }
+    ensures inside { IfSome result (λ at. at < length bytes.now) }
+{
+    bytes.iter().position(|byte| *byte == 0)
+}
+
+/// The bytes before the first zero.
+#[tactic(auto, using(crate::proofs::Bytes::before_place, crate::proofs::Bytes::before_none))]
+fn before_zero(bytes: &[u8]) -> &[u8]
+    ensures { result.now ≡ before_first (λ b. b == 0) bytes.now }
+{
+    match zero_at(bytes) {
+        Some(end) => &bytes[..end],
+        None => bytes,
+    }
+}
+
+/// The license that a section's bytes are, without the zero byte at its end.
+#[tactic(auto, unfolding(crate::specs::LicenseAndVersion::stated_text_fault))]
+fn stated_license(alloc: Global, bytes: &[u8]) -> Result<Items<u8>, ParseError>
+    ensures license { IfOk result (λ license. license ≡ front_of bytes.now) }
+    ensures fault { Refuses is_parse_memory result (stated_text_fault bytes.now) }
+{
+    if bytes.len() < 2 {
+        return Err(ParseError::InvalidLicense {
+            bytes: Items::from_vec(Vec::from_slice(alloc, bytes)?),
+        });
+    }
+    if !has_zero(bytes) {
+        return Err(ParseError::MissingLicenseNullTerminator {
+            bytes: Items::from_vec(Vec::from_slice(alloc, bytes)?),
+        });
+    }
+    let front = &bytes[..bytes.len() - 1];
+    if has_zero(front) {
+        return Err(ParseError::InvalidLicense {
+            bytes: Items::from_vec(Vec::from_slice(alloc, bytes)?),
+        });
+    }
+    Ok(Items::from_vec(Vec::from_slice(alloc, front)?))
+}
+
+/// The license that a section's bytes are in the broad reading: those before the first zero, or none.
+#[tactic(auto, unfolding(crate::specs::LicenseAndVersion::license_text, crate::specs::LicenseAndVersion::license_text_fault, crate::specs::LicenseAndVersion::stated_text_fault))]
+fn broad_license(alloc: Global, bytes: &[u8]) -> Result<Items<u8>, ParseError>
+    ensures license { IfOk result (λ license. license ≡ license_text Broad bytes.now) }
+    ensures fault { Refuses is_parse_memory result (license_text_fault Broad bytes.now) }
+{
+    if !bytes.is_empty() && !has_zero(bytes) {
+        return stated_license(alloc, bytes);
+    }
+    Ok(Items::from_vec(Vec::from_slice(alloc, before_zero(bytes))?))
+}
+
+/// The license that a section's bytes are in a reading.
+#[tactic(auto, unfolding(crate::specs::LicenseAndVersion::license_text, crate::specs::LicenseAndVersion::license_text_fault))]
+fn license_in(alloc: Global, bytes: &[u8], reading: Reading) -> Result<Items<u8>, ParseError>
+    ensures license { IfOk result (λ license. license ≡ license_text reading bytes.now) }
+    ensures fault { Refuses is_parse_memory result (license_text_fault reading bytes.now) }
+{
+    match reading {
+        Reading::Stated => stated_license(alloc, bytes),
+        Reading::Broad => broad_license(alloc, bytes),
+    }
+}
+
+/// The license of a file, `GPL` where it has no section `license`.
+#[tactic(auto, using(crate::proofs::RelocationTables::found_from), unfolding(ebpf_parts::specs::Sections::section_of, ebpf_parts::specs::Sections::section_with, crate::specs::LicenseAndVersion::license_as, crate::specs::LicenseAndVersion::license_fault_as))]
+pub fn read_license(
+    alloc: Global,
+    file: &ElfFile<'_>,
+    tables: &Groups<RelocationTable<'_>>,
+    reading: Reading,
+) -> Result<Items<u8>, ParseError>
+    requires tables { AreTablesOf file.now tables.now.groups }
+    ensures license { IfOk result (λ license. license ≡ license_as reading file.now) }
+    ensures fault { Refuses is_parse_memory result (license_fault_as reading file.now) }
+{
+    let Some(section) = file.section_by_name("license") else {
+        return Ok(Items::from_vec(Vec::from_slice(alloc, b"GPL")?));
+    };
+    let section = read_section_of(alloc, file, tables, &section)?;
+    license_in(alloc, section.bytes, reading)
+}
+
+/// The version that stands for all kernels.
+const ANY_KERNEL: u32 = 0xffff_fffe;
+
+/// The version that a section's bytes are.
+#[tactic(auto, unfolding(crate::specs::LicenseAndVersion::version_number_fault, crate::specs::LicenseAndVersion::version_of))]
+fn version_in(alloc: Global, order: Endianness, bytes: &[u8]) -> Result<Option<u32>, ParseError>
+    ensures version { IfOk result (λ version. version ≡ version_of order bytes.now) }
+    ensures fault { Refuses is_parse_memory result (version_number_fault bytes.now) }
+{
+    if bytes.len() != 4 {
+        return Err(ParseError::InvalidKernelVersion {
+            bytes: Items::from_vec(Vec::from_slice(alloc, bytes)?),
+        });
+    }
+    let version = read_u32(order, bytes, 0);
+    if version == ANY_KERNEL {
+        return Ok(None);
+    }
+    Ok(Some(version))
+}
+
+/// The kernel version of a file, none where it has no section `version`.
+#[tactic(auto, using(crate::proofs::RelocationTables::found_from), unfolding(ebpf_parts::specs::Sections::section_of, ebpf_parts::specs::Sections::section_with, crate::specs::LicenseAndVersion::kernel_version_of, crate::specs::LicenseAndVersion::version_fault))]
+pub fn read_version(
+    alloc: Global,
+    file: &ElfFile<'_>,
+    tables: &Groups<RelocationTable<'_>>,
+) -> Result<Option<u32>, ParseError>
+    requires tables { AreTablesOf file.now tables.now.groups }
+    ensures version { IfOk result (λ version. version ≡ kernel_version_of file.now) }
+    ensures fault { Refuses is_parse_memory result (version_fault file.now) }
+{
+    let Some(section) = file.section_by_name("version") else {
+        return Ok(None);
+    };
+    let section = read_section_of(alloc, file, tables, &section)?;
+    version_in(alloc, file.endianness(), section.bytes)
+}
