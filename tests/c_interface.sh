@@ -1,7 +1,7 @@
 #!/usr/bin/env bash
 # Builds examples/out/libebpf.a, which is the static library with the functions by which it takes memory, and on it the
 # test programs of c_interface/ and the examples, with gcc and clang; runs them, under the address and
-# undefined-behaviour sanitizers too, and with each growth of memory refused; builds and tests the wrapper where Rust is
+# undefined-behaviour sanitizers too, and with each allocation failing; builds and tests the wrapper where Rust is
 # there, and runs the Python of docs/C.md; loads examples/counter.bpf.c into the running kernel where that is allowed.
 # Ends with 'N passed, M failed'.
 # usage: c_interface.sh [--no-kernel | --build]      --build: makes libebpf.a and runs nothing

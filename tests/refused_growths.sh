@@ -1,6 +1,6 @@
 #!/usr/bin/env bash
-# Refuses each growth of memory in turn: of each public call that takes memory, between two marks of crates/test_alloc_failures,
-# and of the programs over their whole run. The programs have to be built (`rt ci` leaves them in crates/*/out). What is asked
+# Lets each allocation fail in turn: of each public call that allocates, in tests/drivers/test_alloc_failures, and of the
+# programs over their whole run. The programs have to be built (`rt ci` leaves them in crates/*/out). What is asked
 # of each run stands in growths/. Ends with 'N passed, M failed'.
 # usage: refused_growths.sh [-v] [WORD..]     -v prints each row; WORD: only rows whose name has it
 set -euo pipefail

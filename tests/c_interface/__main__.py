@@ -37,7 +37,7 @@ class Count:
 def all_rows():
     objects = make_rows.cases_of(make_rows.OBJECTS)
     core = make_rows.cases_of(make_rows.CORE)
-    limits = core_limits.cases() + core_limits.searched()
+    limits = core_limits.cases() + core_limits.long_cases()
     for held in (objects, core, limits):
         printed.add_to(held)
     rows = [row for case in [*objects, *core, *limits] for row in rows_of_objects.rows_of(case)]

@@ -1,4 +1,7 @@
-"""Builds libebpf_c.a over the libraries below it that the gate has proved: only ebpf_c itself is proved once more."""
+"""Builds libebpf_c.a over the libraries that the gate proved.
+
+`rt ci` proves ebpf_c and keeps nothing of it, so the build proves it once more. It takes what the checks of its mutants
+kept, and keeps the rest for them."""
 import os
 import subprocess
 import sys
@@ -17,11 +20,12 @@ def left_by_the_gate(crates):
 
 
 def words(named):
-    """What rattle is told: the libraries by their paths, and what the archive is built with."""
+    """The words for rattle: the libraries by their paths, what builds the archive, and the work that is kept."""
     return [
         *over_libraries.words(NAME, named),
         *["--crate-type", "staticlib", "--jobs", str(min(os.cpu_count() or 1, 4))],
         *["--toolchain", over_libraries.KIT / "toolchain", "--backend", "llvm"],
+        *["--incremental", over_libraries.kept_work(NAME, named)],
     ]
 
 

@@ -1,6 +1,6 @@
-"""Calls of the C interface with each growth of memory refused in turn."""
+"""Calls of the C interface with each allocation failing in turn."""
 from c_interface import loader_rows
-from growths import inputs
+from growths import inputs, rows_of_files
 from growths.call_row import Parts
 from growths.inputs import COUNTER, KERNEL, LINES, REFERENCES, SMALL, TASKS
 from growths.run import Row
@@ -13,16 +13,19 @@ ALL = REFERENCES, KERNEL, LINES
 
 
 class GrowthRow(Row):
-    """Actions of `calls` on files; the last is refused memory. With memory its answer is `answer`."""
+    """Actions of `calls` on files; the last has failing allocations. With memory its answer is `answer`; None: whatever it is,
+    and then each allocation fails alone."""
 
     def __init__(self, program, name, files, *actions, answer="0"):
         super().__init__(f"growths: {name}", program, "-m", *files, *actions)
         self.answer = answer
+        if answer is None:
+            self.endings = ("",)
         self.may_do_without = actions[-1].split("=")[0] in ("open", "open_broad", "open_within", "prepare", "prepare_handle")
 
     def ample_fault(self, ample):
         parts = Parts(ample.out)
-        if ample.status != 0 or ample.err or not parts.is_whole or parts.answer != self.answer:
+        if ample.status != 0 or ample.err or not parts.is_whole or parts.answer == MEMORY or parts.answer != (self.answer or parts.answer):
             return f"status {ample.status}, {ample.err[:200]!r}, {parts.answer[:200]!r}"
         return None
 
@@ -30,7 +33,7 @@ class GrowthRow(Row):
         parts, with_memory = Parts(run.out), Parts(ample.out)
         if run.status != 0 or run.err or not parts.is_whole:
             return f"status {run.status}, {run.err[:200]!r}, {run.out[-300:]!r}"
-        if parts.answer != MEMORY and (self.answer == "0" or parts.answer != self.answer):
+        if parts.answer != MEMORY and (with_memory.answer == "0" or parts.answer != with_memory.answer):
             return f"answers {parts.answer[:300]!r}"
         if parts.front != with_memory.front:
             return "another object before the call"
@@ -104,4 +107,8 @@ def rows(program):
     asked = ["programs", "maps", "externs", "sections", "license", "map_data:.data", "slots:on_enter", "program_section:on_enter"]
     for call in [*asked, "func_infos:on_enter", "line_infos:on_exit"]:
         found.append(GrowthRow(program, f"ebpf_{call}, references.o", ALL, "open", f"ask={call}"))
+    found += [
+        GrowthRow(program, f"rows: {name}, prepared", files, "prepare", answer=None)
+        for name, files in rows_of_files.objects().items()
+    ]
     return found

@@ -1,7 +1,7 @@
 """What a loader asks for beside relocation: the types for the kernel, the types that programs are attached to, externs of
 the kernel's configuration, and initial values of maps."""
 from c_interface.runs import CallsRow
-from growths.inputs import CRATES, SMALL
+from growths.inputs import DRIVERS, SMALL
 from rows.btf import ARRAY, DATASEC, ENUM, INT, array, btf, datasec, function, integer, pointer, prototype, struct_of, ty, typedef, variable
 from rows import values
 from rows.elf import OBJECT, PROGBITS, File
@@ -260,7 +260,7 @@ def without_symbol():
 
 
 def for_kernel():
-    crate = CRATES / "test_kernel_types"
+    crate = DRIVERS / "test_kernel_types"
     digits = (crate / "stdout").read_text().split("\n")[0]
     yield CallsRow("types for the kernel", (crate / "data/memdrop.o", b"", b""), ["kernel_types"], [f"bytes {digits}", "kernel_types 0"])
 

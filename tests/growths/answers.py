@@ -1,4 +1,4 @@
-"""What the calls answer for want of memory, as crates/test_alloc_failures prints it."""
+"""What the calls answer when out of memory, as tests/drivers/test_alloc_failures prints it."""
 
 NO_MEMORY = "OutOfMemory"
 

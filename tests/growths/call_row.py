@@ -1,6 +1,6 @@
 """Rows of one call between two marks."""
 from growths.answers import ANSWERS
-from growths.run import GROWTHS, Row
+from growths.driver import DriverRow
 
 
 class Parts:
@@ -19,19 +19,21 @@ class Parts:
         self.after = after if has_after else None
 
 
-class CallRow(Row):
+class CallRow(DriverRow):
     """A call on three files: an object, a kernel's types and its symbols. `subject` and `calls` are the words behind
     them. With memory the answer begins with `starts`; None: whatever it is, and then each growth is refused alone."""
 
     def __init__(self, name, files, subject, *calls, starts="Ok"):
-        object_file, types, lines = files
-        super().__init__(name, GROWTHS, object_file, types, lines, subject, *calls)
+        super().__init__(name, files, subject, *calls)
         key = subject if subject in ANSWERS else f"{subject} {calls[-1].partition('=')[0]}"
         self.memory_answers = ANSWERS[key]
         self.starts = starts
         self.may_do_without = subject in ("parse", "prepare", "inspect")
         if starts is None:
             self.endings = ("",)
+
+    def counted_fault(self, counted):
+        return "no allocation was met" if self.starts == "Ok" and counted.met == 0 else None
 
     def ample_fault(self, ample):
         parts = Parts(ample.out)

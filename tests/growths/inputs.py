@@ -8,11 +8,12 @@ from rows.elf import CALL, CALL32, EXIT
 from rows.linked import program
 from rows.records import NAMES, PROGRAM, TEXT, table
 
-CRATES = Path(__file__).parents[2] / "crates"
+TOP = Path(__file__).parents[2]
+CRATES, DRIVERS = TOP / "crates", TOP / "tests/drivers"
 
 SMALL = CRATES / "ebpf_link/data/call.o"
-COUNTER = CRATES / "test_rows/data/counter.o"
-REFERENCES = CRATES / "test_rows/data/references.o"
+COUNTER = DRIVERS / "test_rows/data/counter.o"
+REFERENCES = DRIVERS / "test_rows/data/references.o"
 
 KERNEL, LINES = references.KERNEL, references.KALLSYMS
 

@@ -4,19 +4,19 @@ import re
 from checked.kconfig import BYTE, CONFIG, VERSION, pair, wanting
 from checked.objects import object_of, program
 from growths.call_row import CallRow
-from growths.inputs import CRATES
+from growths.inputs import DRIVERS, TOP
 from rows.btf import datasec, integer, variable, words
 from rows.elf import EXIT, changed
 
-TYPES = CRATES / "test_kernel_types/data"
-PARTS = CRATES.parent / "tests/objects/kernel_parts_19.o"
+TYPES = DRIVERS / "test_kernel_types/data"
+PARTS = TOP / "tests/objects/kernel_parts_19.o"
 
 # Version 6.12 as the value of an extern of four bytes, and a text of the configuration.
 SIX_TWELVE = words([0x60C00])
 NAMED = b'CONFIG_DEFAULT_HOSTNAME="(none)"\n'
 
 # The object of test_object_calls, as its source has it; where the key's size of its hash of maps stands.
-SOURCE = CRATES / "test_object_calls/src/initial_slots.rt"
+SOURCE = DRIVERS / "test_object_calls/src/initial_slots.rs"
 SLOTS = bytes.fromhex("".join(re.findall(r'^    "([0-9a-f]+)",$', SOURCE.read_text(), re.MULTILINE)))
 KEY_SIZE = 364
 

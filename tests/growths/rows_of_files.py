@@ -1,4 +1,5 @@
-"""The small files of the test programs' rows: each is parsed and prepared, whatever it answers."""
+"""The small files of the test programs' rows: objects are prepared by the library for C, types are parsed by the driver,
+whatever the answer."""
 import make_rows
 from growths.call_row import CallRow
 from rows.elf import File
@@ -7,22 +8,20 @@ from rows.elf import File
 LARGEST = 6000
 
 
-def prepared(case):
-    files = case.files
-    types = files.get("kernel", files.get("types", b""))
-    return files.get("object"), types, files.get("kallsyms", b"")
-
-
 def is_small(files):
     return all(data is not None and len(data) <= LARGEST for data in files)
 
 
 def objects():
-    """Each is prepared with all passes."""
+    """The different files of rows of objects, each an object, a kernel's types and its symbols, by the row's name."""
+    found = {}
     for case in make_rows.cases_of(make_rows.OBJECTS + make_rows.CORE):
-        files = prepared(case)
-        if is_small(files):
-            yield files, CallRow(f"rows: {case.name}, prepared", files, "prepare", "tmec", starts=None)
+        files = case.files
+        types = files.get("kernel", files.get("types", b""))
+        held = files.get("object"), types, files.get("kallsyms", b"")
+        if is_small(held):
+            found.setdefault(held, case.name)
+    return {name: held for held, name in found.items()}
 
 
 def types():
@@ -38,8 +37,8 @@ def types():
 
 
 def rows():
-    """A row for each different file."""
+    """A row for each different file of types."""
     found = {}
-    for key, row in [*objects(), *types()]:
+    for key, row in types():
         found.setdefault(key, row)
     return list(found.values())

@@ -5,8 +5,6 @@ from pathlib import Path
 
 CRATES = Path(__file__).parents[2] / "crates"
 
-GROWTHS = CRATES / "test_alloc_failures/out/test_alloc_failures"
-
 # A run takes milliseconds.
 SECONDS = 20
 
@@ -141,15 +139,24 @@ class Row:
             return None
         return self.refused_fault(ample, run)
 
+    def counted_fault(self, _counted):
+        """What is wrong with the number of growths that the run met which counts them, or None."""
+        return None
+
+    def missing(self, runner, words):
+        """Why the program can't be run, or None."""
+        return None if os.access(words[0], os.X_OK) else f"{words[0]} is not built"
+
     def judge(self, runner):
         """Runs all, and counts."""
         tally, words = Tally(self.name), self.words(runner)
-        if not os.access(words[0], os.X_OK):
-            tally.count("the program", f"{words[0]} is not built")
+        missing = self.missing(runner, words)
+        if missing:
+            tally.count("the program", missing)
             return tally
         ample = runner.run(words)
         counted = runner.run(words, 0, self.is_marked)
-        tally.count("with memory", self.ample_fault(ample) or self.plain_fault(ample, counted))
+        tally.count("with memory", self.ample_fault(ample) or self.plain_fault(ample, counted) or self.counted_fault(counted))
         for ending in self.endings:
             for number in range(1, counted.met + 2):
                 run = runner.run(words, f"{number}{ending}", self.is_marked)

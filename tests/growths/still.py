@@ -1,11 +1,12 @@
 """Calls that take no memory: with every growth refused they answer what they answer with memory, and meet none."""
 from growths import inputs
-from growths.run import GROWTHS, Row, Tally
+from growths.driver import DriverRow
+from growths.run import Tally
 
 
-class StillRow(Row):
+class StillRow(DriverRow):
     def __init__(self, name, object_file, types, *calls):
-        super().__init__(name, GROWTHS, object_file, types, b"", *calls)
+        super().__init__(name, (object_file, types, b""), *calls)
 
     def ample_fault(self, ample):
         if ample.status != 0 or ample.err or b"\nanswer: " not in ample.out:
@@ -13,7 +14,12 @@ class StillRow(Row):
         return None
 
     def judge(self, runner):
+        runner.row = self
         tally, words = Tally(self.name), self.words(runner)
+        missing = self.missing(runner, words)
+        if missing:
+            tally.count("the program", missing)
+            return tally
         ample = runner.run(words)
         run = runner.run(words, "1-")
         fault = self.ample_fault(ample) or self.plain_fault(ample, run)
