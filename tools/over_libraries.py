@@ -1,6 +1,7 @@
 """What `rattle` is told of a crate, over libraries below it that stand built, as `rt ci` leaves them too.
 
 `rt check` and `rt lib` take no library that `rt ci` left, since it keeps no stamp of it, and would prove all of them again."""
+import shutil
 import subprocess
 from pathlib import Path
 
@@ -33,16 +34,29 @@ def stamped(crate):
     return (TOP / "crates" / crate / "out/rlib/stamp").exists()
 
 
-def work(crate):
-    """The folder in which the checks of a crate's edits keep what they proved."""
-    return TOP / "crates" / crate / "out/edits"
+def is_later(crate):
+    """Whether a crate's library is later than each of its sources."""
+    sources = (it for part in ("src", "specs", "proofs") for it in (TOP / "crates" / crate / part).rglob("*"))
+    return built(crate).is_dir() and all(it.stat().st_mtime <= built(crate).stat().st_mtime for it in sources)
 
 
-def kept(crate, named):
-    """That folder, where it is later than the libraries that it was proved over."""
-    folder = work(crate)
-    is_later = folder.is_dir() and all(built(it).stat().st_mtime < folder.stat().st_mtime for it in below(crate, named))
-    return folder if is_later else None
+def unbuilt(crate, named):
+    """The libraries below a crate that `rt check` has to build, or to look at, before they are used."""
+    return [it for it in below(crate, named) if not built(it).is_dir() or (stamped(it) and not is_later(it))]
+
+
+def outdated(crate, named):
+    """The libraries below a crate that may be of other sources than those here. `rt check` knows of one with a stamp."""
+    return [it for it in below(crate, named) if not stamped(it) and not is_later(it)]
+
+
+def kept_work(crate, named):
+    """The folder in which checks over these libraries keep what they prove of a crate; emptied where it is older than one."""
+    folder = TOP / "crates" / crate / "out/mutants"
+    if not folder.is_dir() or any(folder.stat().st_mtime <= built(it).stat().st_mtime for it in below(crate, named)):
+        shutil.rmtree(folder, ignore_errors=True)
+        folder.mkdir(parents=True)
+    return folder
 
 
 def words(crate, named):
