@@ -6,31 +6,23 @@ use ebpf_object::prepare::{PrepareError, Steps, prepare};
 use std::alloc::Global;
 use std::{env, fs, io};
 
-/// The object of a file, each of its programs linked. Given a kernel's types and descriptors, the passes for these run
-/// too.
+/// Returns the object of a file, with each program linked with the functions that it calls.
 fn linked(alloc: Global, file: &[u8]) -> Result<Object, PrepareError> {
-    let steps = Steps {
-        target_btf: None,
-        map_fds: None,
-        externs: None,
-        calls: true,
-    };
     let no_symbols: &[u8] = &[];
-    prepare(alloc, file, &steps, no_symbols)
+    prepare(alloc, file, &Steps::none().with_calls(), no_symbols)
 }
 
-/// How many slots the linked program of a name has.
-fn size_of(object: &Object, name: &str) -> Option<usize> {
-    let program = object.programs.get(name)?;
-    let function = object.functions.get(program.function_key())?;
+/// Returns the number of slots of the program with this name.
+fn slot_count(object: &Object, name: &str) -> Option<usize> {
+    let function = object.program_function(name)?;
     Some(function.instructions.len())
 }
 
 /// Prints each program's name and number of slots, in byte order of the names.
 fn print_programs(rt: &HostRuntime, object: &Object) -> io::Result<()> {
     for name in &object.programs.names(rt.alloc())? {
-        if let Some(size) = size_of(object, name) {
-            println!(rt; "{name}: {size} slots")?;
+        if let Some(slots) = slot_count(object, name) {
+            println!(rt; "{name}: {slots} slots")?;
         }
     }
     Ok(())
