@@ -3,10 +3,10 @@
 by phase, and the processor seconds of each part of the command. It looks at the prover's processes as they run, so that
 what it tells is what the gate itself does, to some tenths of a second for each process.
 
-The phases: reading libraries (a check of an empty crate over the same libraries, run behind the command, which is part of
-each other column), the proof, the tests (their proof, and compiling them), the edits (the functions that they turn and
+The phases: with --reading, reading libraries (a check of an empty crate over the same libraries, run behind the command,
+which is part of each other column); the proof, the tests (their proof, and compiling them), the mutants (the functions that they turn and
 what these call), the library for C, the program as LLVM and as Rattle's own compiler build it.
-usage: gate_times.py [--out FILE] [COMMAND ..]
+usage: gate_times.py [--out FILE] [--reading] [COMMAND ..]
 """
 import argparse
 import os
@@ -25,7 +25,7 @@ CRATES = TOP / "crates"
 TICKS = os.sysconf("SC_CLK_TCK")
 PAGE = os.sysconf("SC_PAGE_SIZE")
 PAUSE = 0.15
-PHASES = ("reading", "proof", "tests", "edits", "library for C", "LLVM", "Rattle")
+PHASES = ("reading", "proof", "tests", "mutants", "library for C", "LLVM", "Rattle")
 
 
 @dataclass
@@ -87,8 +87,8 @@ def look(seen, parts, command):
 
 def phase_of(it):
     """The phase that a process of the prover belongs to."""
-    if f"/{it.after('--crate-name')}-edits-" in it.folder:
-        return "edits"
+    if f"/{it.after('--crate-name')}-mutants-" in it.folder:
+        return "mutants"
     if "--test" in it.words:
         return "tests"
     if it.after("--crate-type") == "staticlib" and it.after("-o") and not it.words[-1].endswith(".rlib"):
@@ -186,10 +186,10 @@ def memory_table(most):
         yield f"| `{name}` | " + " | ".join(f"{most[name][phase] // 1_000_000}" if most[name][phase] else "" for phase in phases) + " |"
 
 
-def report(seen, parts, whole):
-    """The lines of the report: crates, parts, the longest chain. The whole is the command's line of the table of parts."""
+def report(seen, parts, whole, reading):
+    """The lines of the report: crates, parts, the longest chain. `reading` has the seconds of that phase. The whole is the command's line of the table of parts."""
     seconds, most, spans = by_crate(seen)
-    yield from table(seconds, reading_seconds(seen))
+    yield from table(seconds, reading)
     yield ""
     yield from memory_table(most)
     yield ""
@@ -207,6 +207,7 @@ def report(seen, parts, whole):
 def main():
     words = argparse.ArgumentParser(usage=__doc__.rpartition("usage: ")[2])
     words.add_argument("--out")
+    words.add_argument("--reading", action="store_true")
     words.add_argument("command", nargs=argparse.REMAINDER)
     given = words.parse_args()
     seen, parts, began = {}, {}, time.time()
@@ -216,7 +217,7 @@ def main():
         time.sleep(PAUSE)
     used, status = resource.getrusage(resource.RUSAGE_CHILDREN), running.returncode
     whole = f"| all, status {status} | {(used.ru_utime + used.ru_stime) / 60:.1f} | {(time.time() - began) / 60:.1f} |"
-    text = "\n".join(report(seen, parts, whole)) + "\n"
+    text = "\n".join(report(seen, parts, whole, reading_seconds(seen) if given.reading else {})) + "\n"
     if given.out:
         Path(given.out).write_text(text)
     print(text, end="")
