@@ -1,0 +1,97 @@
+#!/usr/bin/env python3
+"""Checks the form of the documents: no line above 120 columns and no paragraph above 12 lines, tables and code aside, and no
+commit id; no date outside the tables of measurements. Ends with 'N passed, M failed', and with status 1 where one failed.
+
+usage: documents.py [FILE ..]      FILE: only these; none: README.md, CONTRIBUTING.md, and the pages of docs/, tests/, bench/
+"""
+import re
+import sys
+from pathlib import Path
+
+TOP = Path(__file__).parents[1]
+COLUMNS, LINES = 120, 12
+# Pages that a tool writes, and a page of one table.
+EXCEPTIONS = {"docs/API.md", "docs/ERRORS.md", "docs/DEFINITIONS.md"}
+# Pages with tables of measurements, each of which has its date.
+MEASURED = {"docs/PERFORMANCE.md", "docs/TESTING.md"}
+
+DATE = re.compile(r"\b20\d\d-\d\d-\d\d\b")
+COMMIT = re.compile(r"\b(?=[0-9a-f]*\d)(?=[0-9a-f]*[a-f])[0-9a-f]{7,12}\b")
+
+
+def pages():
+    """The documents, by their paths from the top."""
+    found = [TOP / "README.md", TOP / "CONTRIBUTING.md"]
+    found += sorted(it for folder in ("docs", "tests", "bench") for it in (TOP / folder).glob("*.md"))
+    return [it for it in found if str(it.relative_to(TOP)) not in EXCEPTIONS]
+
+
+def prose_of(text):
+    """The lines outside code and tables, each with its number; None where a paragraph ends."""
+    is_code = False
+    for number, line in enumerate(text.split("\n"), 1):
+        if line.startswith("```"):
+            is_code = not is_code
+            yield None
+        elif is_code or line.startswith(("    ", "|", "#")) or not line.strip():
+            yield None
+        else:
+            yield number, line
+
+
+def paragraphs(lines):
+    """The lengths of paragraphs, each with the number of its first line; a list's item begins one."""
+    first, length = 0, 0
+    for line in [*lines, None]:
+        begins = line and re.match(r"\s*(?:[-*]|\d+\.) ", line[1])
+        if length and (line is None or begins):
+            yield first, length
+            length = 0
+        if line:
+            first, length = (line[0], 1) if not length else (first, length + 1)
+
+
+def faults(name, text):
+    """What is wrong with a document, line by line."""
+    lines = list(prose_of(text))
+    for line in filter(None, lines):
+        if len(line[1]) > COLUMNS:
+            yield f"{name}:{line[0]}: {len(line[1])} columns"
+        if COMMIT.search(line[1]):
+            yield f"{name}:{line[0]}: the commit id {COMMIT.search(line[1])[0]}"
+        if name not in MEASURED and DATE.search(line[1]):
+            yield f"{name}:{line[0]}: the date {DATE.search(line[1])[0]}"
+    for first, length in paragraphs(lines):
+        if length > LINES:
+            yield f"{name}:{first}: a paragraph of {length} lines"
+
+
+def self_test():
+    """Whether a bad line of each kind is found."""
+    long, many = "word " * 30, "\n".join(["a line of a paragraph"] * 13)
+    bad = [long, many, "as of aaeb28ae", "on 2026-11-30"]
+    good = [f"    {long}", f"```\n{many}\n```", f"| {long} |"]
+    return [f"documents.py finds nothing in: {it[:40]}" for it in bad if not list(faults("page.md", it))] + [
+        f"documents.py finds a fault in: {it[:40]}" for it in good if list(faults("page.md", it))
+    ]
+
+
+def misfits():
+    """How many documents there are, and what is wrong with them."""
+    found = pages()
+    wrong = [fault for it in found for fault in faults(str(it.relative_to(TOP)), it.read_text())]
+    return len(found), [*self_test(), *wrong]
+
+
+def main():
+    if sys.argv[1:]:
+        wrong = [fault for it in sys.argv[1:] for fault in faults(it, Path(it).read_text())]
+        print("\n".join([*wrong, f"{len(sys.argv) - 1} passed, {len(wrong)} failed"]))
+        return 1 if wrong else 0
+    count, wrong = misfits()
+    print("\n".join([*wrong, f"{max(count - len(wrong), 0)} passed, {len(wrong)} failed"]))
+    return 1 if wrong else 0
+
+
+if __name__ == "__main__":
+    sys.exit(main())
