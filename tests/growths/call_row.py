@@ -2,6 +2,9 @@
 from growths.answers import ANSWERS
 from growths.driver import DriverRow
 
+# Subjects and calls that allocate in each of their rows that ends in Ok.
+ALLOCATING = ("parse", "prepare", "inspect", "clone", "relocate_btf", "relocate_calls", "parse_types")
+
 
 class Parts:
     """What a run of test_alloc_failures printed: what stood before the call, its answer, and what stood behind it."""
@@ -28,12 +31,13 @@ class CallRow(DriverRow):
         key = subject if subject in ANSWERS else f"{subject} {calls[-1].partition('=')[0]}"
         self.memory_answers = ANSWERS[key]
         self.starts = starts
+        self.allocates = starts == "Ok" and (subject in ALLOCATING or calls and calls[-1] in ALLOCATING)
         self.may_do_without = subject in ("parse", "prepare", "inspect")
         if starts is None:
             self.endings = ("",)
 
     def counted_fault(self, counted):
-        return "no allocation was met" if self.starts == "Ok" and counted.met == 0 else None
+        return "no allocation was met" if self.allocates and counted.met == 0 else None
 
     def ample_fault(self, ample):
         parts = Parts(ample.out)
