@@ -84,5 +84,6 @@ if __name__ == "__main__":
     for held in [objects, *core.values()]:
         printed.add_to(held)
     write_cases(DRIVERS / "test_rows", objects, **core)
-    write_cases(DRIVERS / "test_btf_rows", cases_of(TYPES))
+    pairs = {"most_pairs": btf_fits.most_pairs(), "too_many_pairs": btf_fits.too_many_pairs()}
+    write_cases(DRIVERS / "test_btf_rows", cases_of(TYPES), **pairs)
     (TOP / "bench/drivers/bench_prepare/stdout").write_text("".join(line + "\n" for line in many_types.expected_lines()))

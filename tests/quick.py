@@ -40,7 +40,7 @@ from unproved import rt_try  # noqa: E402
 
 CRATES = listed()
 # Programs whose rows take as long as building them does: each of their words is run by itself, these beside all others.
-LONG = {"test_rows": ["core_relo.txt"], "test_btf_rows": ["cases.txt"]}
+LONG = {"test_rows": ["core_relo.txt"], "test_btf_rows": ["most_pairs.txt", "too_many_pairs.txt", "cases.txt"]}
 # What is looked at once for the whole repository: what is counted, and what gives the count and the failures.
 CHECKS = {
     "mutants that apply": mutants.misfits,
@@ -182,7 +182,10 @@ def tasks(names):
     runs = [Run(crate.name, words) for crate in crates if (crate.folder / "stdout").exists() for words in runs_of(crate.name)]
     long = [run for run in runs if set(run.words) & set(LONG.get(run.crate, []))]
     others = [run for run in runs if run not in long]
-    parts = [(run_programs, [run]) for run in long] + [(run_programs, others)] * bool(others)
+    # Drivers and the programs of crates are built apart: one build of both would be the longest part.
+    drivers = [run for run in others if CRATES[run.crate].is_driver]
+    programs = [run for run in others if run not in drivers]
+    parts = [(run_programs, held) for held in [drivers, *([run] for run in long), programs] if held]
     tests = [crate.name for crate in crates if crate.has_tests()]
     driver = [crate.name for crate in crates if crate.name == alloc_failures.NAME]
     return runs, parts + [(run_tests, tests)] * bool(tests) + [(run_alloc_failures, driver)] * bool(driver)

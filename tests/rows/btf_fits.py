@@ -174,12 +174,15 @@ def many_pairs(numbers):
     return btf(NUMBER, prototype(0, *[1] * 1022), prototype(0, *[2] * 1023, *[1] * numbers))
 
 
-def limits():
-    return [
-        Case("1,048,576 pairs", {"types": many_pairs(1022)}, pairs("types", [(3, 3, "true")])),
-        Case("1,048,577 pairs", {"types": many_pairs(1023)}, pairs("types", [(3, 3, depth(3))])),
-    ]
+def most_pairs():
+    """The most pairs that one comparison takes. It lasts minutes in a run with checks."""
+    return [Case("1,048,576 pairs", {"types": many_pairs(1022)}, pairs("types", [(3, 3, "true")]))]
+
+
+def too_many_pairs():
+    """One pair more. It lasts as long."""
+    return [Case("1,048,577 pairs", {"types": many_pairs(1023)}, pairs("types", [(3, 3, depth(3))]))]
 
 
 def cases():
-    return kinds() + names() + faults() + levels() + parameters() + limits()
+    return kinds() + names() + faults() + levels() + parameters()
