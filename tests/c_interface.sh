@@ -7,8 +7,8 @@
 # usage: c_interface.sh [--no-kernel | --build]      --build: makes libebpf.a and runs nothing
 set -euo pipefail
 cd "$(dirname "$0")/.."
-crate=crates/ebpf_c
-archive=$crate/out/libebpf_c.a
+crate=crates/capi_exports
+archive=$crate/out/libcapi_exports.a
 if [ ! -e $archive ] || [ -n "$(find crates/*/src -name '*.rt' -newer $archive -print -quit)" ]; then
     python3 -B tests/c_interface/archive.py
 fi

@@ -34,7 +34,7 @@ test_interruption() {
     judge 'a prefix after an interruption' "$([ -e "$prefix" ] && echo there || echo none)" none
     judge 'the crates before the interruption' "$(xargs <"$RT_LOG")" 'low mid'
     ends 'an install after an interruption' 0 "$repository/tools/install.sh" "$prefix"
-    judge 'the crates after it' "$(xargs <"$RT_LOG")" 'low mid high side ebpf ebpf_link ebpf_inspect_program ebpf_c'
+    judge 'the crates after it' "$(xargs <"$RT_LOG")" 'low mid high side ebpf ebpf_link cli_inspect_program capi_exports'
     touch "$repository/crates/mid/src/lib.rt"
     ends 'the time after a change' 0 "$repository/tools/build.sh" --time
     judge 'what is built then' "$(cut -d, -f1 "$room/said")" 'build.sh: 6 crates to prove'
@@ -137,7 +137,7 @@ test_package() {
     # strip takes no script
     cp "$(type -P true)" "$repository/crates/ebpf/out/ebpf"
     cp "$(type -P true)" "$repository/crates/ebpf_link/out/ebpf_link"
-    cp "$(type -P true)" "$repository/crates/ebpf_inspect_program/out/ebpf_inspect_program"
+    cp "$(type -P true)" "$repository/crates/cli_inspect_program/out/cli_inspect_program"
     ends 'a Debian package' 0 "$repository/tools/release.sh" --trial --deb side
     judge 'its version' "$(dpkg-deb -f "$repository/dist/ebpf_7.8.9_amd64.deb" Version)" 7.8.9
     judge 'its program' "$(dpkg-deb -c "$repository/dist/ebpf_7.8.9_amd64.deb" | grep -c ' ./usr/bin/ebpf$')" 1
@@ -242,7 +242,7 @@ test_texts() {
         ends "bash completes $option" 0 grep -w -- "$option" "$top/share/completions/ebpf.bash"
         ends "zsh completes $option" 0 grep -w -- "$option" "$top/share/completions/_ebpf"
         ends "fish completes $option" 0 grep -w -- "-l ${option#--}" "$top/share/completions/ebpf.fish"
-    done < <(grep -oh -- '--[a-z][a-z]*' "$top/crates/ebpf_tool/src/help.rt" | sort -u)
+    done < <(grep -oh -- '--[a-z][a-z]*' "$top/crates/ebpf/src/help.rt" | sort -u)
     if command -v groff >/dev/null; then
         for page in "$room"/package/usr/share/man/man?/*; do
             judge "${page##*/}" "$(groff -man -ww -Tutf8 -z "$page" 2>&1)" ''

@@ -16,7 +16,7 @@ stop() {
 
 # Prints the file that a crate is built for.
 product() {
-    if [ "$1" = ebpf_c ]; then
+    if [ "$1" = capi_exports ]; then
         echo "$top/examples/out/libebpf.a"
     else
         echo "$top/crates/$1/out/$1"
@@ -26,7 +26,7 @@ product() {
 # Prints the crates whose product is not there, or older than a source of it.
 lacking() {
     local crate below
-    for crate in ebpf ebpf_link ebpf_inspect_program ebpf_c; do
+    for crate in ebpf ebpf_link cli_inspect_program capi_exports; do
         mapfile -t below < <(closure "$top" "$crate")
         is_current "$top" "$(product "$crate")" "${below[@]}" || echo "$crate"
     done
@@ -47,8 +47,8 @@ minutes() {
 # Proves a crate, and builds what it is for.
 build() {
     case $1 in
-    ebpf_c) "$top/tests/c_interface.sh" --build ;;
-    ebpf | ebpf_link | ebpf_inspect_program)
+    capi_exports) "$top/tests/c_interface.sh" --build ;;
+    ebpf | ebpf_link | cli_inspect_program)
         # rt run ends with the program's own status: the stamp says whether it was proved and built
         (cd "$top/crates/$1" && rt run -- --version </dev/null) || [ -e "$top/crates/$1/out/$1.stamp" ]
         ;;

@@ -20,7 +20,7 @@ umask 022
 # What a reader of the sources needs beside them.
 readonly FILES=(README.md CHANGELOG.md LICENSE VERSION HANDLES docs/{LIBRARY,API,ERRORS,BEHAVIOUR,PROOFS,DEFINITIONS}.md
     tools/{vendor.sh,crates.sh,proved.py})
-readonly BUILT=(crates/ebpf/out/ebpf crates/ebpf_link/out/ebpf_link crates/ebpf_inspect_program/out/ebpf_inspect_program
+readonly BUILT=(crates/ebpf/out/ebpf crates/ebpf_link/out/ebpf_link crates/cli_inspect_program/out/cli_inspect_program
     examples/out/libebpf.a)
 
 stop() {

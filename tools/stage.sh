@@ -20,7 +20,7 @@ put() {
 put_programs() {
     local crate
     mkdir -p "$folder/bin"
-    for crate in ebpf ebpf_link ebpf_inspect_program; do
+    for crate in ebpf ebpf_link cli_inspect_program; do
         local name=${crate%_program}
         install -m 755 "$top/crates/$crate/out/$crate" "$folder/bin/${name//_/-}"
     done

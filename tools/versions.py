@@ -16,9 +16,9 @@ TEXT = r"(\d+\.\d+\.\d+)"
 PLACES = [
     ("include/ebpf.h", r"#define EBPF_VERSION_NUMBER (\d+)\b"),
     ("include/ebpf.h", rf"version of this interface, {TEXT},"),
-    ("crates/ebpf_c/src/version.rt", r"VERSION_NUMBER: u32 = (\d+);"),
-    ("crates/ebpf_c/src/version.rt", rf"The version {TEXT} of"),
-    ("crates/ebpf_tool/src/help.rt", rf'VERSION: &str = "ebpf {TEXT}"'),
+    ("crates/capi_exports/src/version.rt", r"VERSION_NUMBER: u32 = (\d+);"),
+    ("crates/capi_exports/src/version.rt", rf"The version {TEXT} of"),
+    ("crates/ebpf/src/help.rt", rf'VERSION: &str = "ebpf {TEXT}"'),
 ]
 INSTALLED = [
     ("include/ebpf.h", r"#define EBPF_VERSION_NUMBER (\d+)\b"),

@@ -1,6 +1,6 @@
-"""Builds libebpf_c.a over the libraries that the gate proved.
+"""Builds libcapi_exports.a over the libraries that the gate proved.
 
-`rt ci` proves ebpf_c and keeps nothing of it, so the build proves it once more. It takes what the checks of its mutants
+`rt ci` proves capi_exports and keeps nothing of it, so the build proves it once more. It takes what the checks of its mutants
 kept, and keeps the rest for them."""
 import os
 import subprocess
@@ -8,7 +8,7 @@ import sys
 from pathlib import Path
 
 TOP = Path(__file__).parents[2]
-NAME = "ebpf_c"
+NAME = "capi_exports"
 sys.path.append(str(TOP / "tools"))
 
 import over_libraries  # noqa: E402

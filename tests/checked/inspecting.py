@@ -61,7 +61,7 @@ def beside(rows):
         TOP / "tests/drivers" / "test_rows" / "data" / "counter.o": [],
         TOP / "tests/drivers" / "test_rows" / "data" / "references.o": ["--btf", str(rows.folder / "queue"), *symbols],
         DATA / "watch.o": ["--btf", str(DATA / "kernel.btf"), *symbols],
-        TOP / "crates" / "ebpf_inspect_program" / "data" / "call.o": [],
+        TOP / "crates" / "cli_inspect_program" / "data" / "call.o": [],
     }
     for kernel in ["5.18", "6.18"]:
         compare(rows, f"memdrop.o {kernel}", [str(CHECK / "memdrop.o"), "--btf", str(CHECK / "btf" / kernel)])

@@ -3,7 +3,7 @@ from growths import inputs
 from growths.run import CRATES, Row
 
 # The crates of programs with one command line and one set of texts.
-PROGRAMS = ["ebpf_link", "ebpf_inspect_program"]
+PROGRAMS = ["ebpf_link", "cli_inspect_program"]
 
 STAGES = ["btf", "parse", "types", "maps", "ksyms", "externs", "calls"]
 

@@ -30,11 +30,11 @@ sum_of() {
         find . -type f -print0 | LC_ALL=C sort -z | xargs -0r md5sum)
 }
 
-# Makes a crate. A name that begins with 'ebpf' is that of a program, but for ebpf_c.
+# Makes a crate. A name that begins with 'ebpf' is that of a program, but for capi_exports.
 # usage: make_crate REPOSITORY NAME
 make_crate() {
     local folder=$1/crates/$2 root=lib.rt
-    case $2 in ebpf | ebpf_link | ebpf_inspect_program) root=main.rt ;; esac
+    case $2 in ebpf | ebpf_link | cli_inspect_program) root=main.rt ;; esac
     mkdir -p "$folder/src" "$folder/proofs"
     echo "//! The crate $2." >"$folder/src/$root"
     echo "-- of $2" >"$folder/proofs/Lib.antt"
@@ -44,22 +44,22 @@ make_crate() {
 # usage: make_repository FOLDER
 make_repository() {
     local crate
-    mkdir -p "$1/tests/c_interface" "$1/crates/ebpf_c/src" "$1/crates/ebpf_tool/src" "$1/examples/loader" "$1/examples/check"
+    mkdir -p "$1/tests/c_interface" "$1/crates/capi_exports/src" "$1/crates/ebpf/src" "$1/examples/loader" "$1/examples/check"
     cp -r "$top"/{tools,share,include,LICENSE,HANDLES} "$1"
     cp "$top/tests/c_interface.sh" "$1/tests"
     cp "$top/tests/c_interface/archive.py" "$1/tests/c_interface"
     cp -r "$top/docs" "$top/README.md" "$1"
     echo "int main(void) { return 0; }" >"$1/examples/loader/main.c"
     printf '%s\n' '# base' 'low: byteorder' 'mid: low' 'high: low mid' 'side: low' 'ebpf: high' 'ebpf_link: mid' \
-        'ebpf_inspect_program: mid' 'ebpf_c staticlib: core side' >"$1/crates.txt"
-    for crate in low mid high side ebpf ebpf_link ebpf_inspect_program ebpf_c; do
+        'cli_inspect_program: mid' 'capi_exports staticlib: core side' >"$1/crates.txt"
+    for crate in low mid high side ebpf ebpf_link cli_inspect_program capi_exports; do
         make_crate "$1" $crate
     done
     echo "$RT_VERSION" >"$1/VERSION"
     sed -i "s/EBPF_VERSION_NUMBER [0-9]*/EBPF_VERSION_NUMBER 7008009/; s/this interface, [0-9.]*,/this interface, $RT_VERSION,/" \
         "$1/include/ebpf.h"
-    printf '%s\n' "/// The version $RT_VERSION of" 'VERSION_NUMBER: u32 = 7008009;' >"$1/crates/ebpf_c/src/version.rt"
-    echo "VERSION: &str = \"ebpf $RT_VERSION\"" >"$1/crates/ebpf_tool/src/help.rt"
+    printf '%s\n' "/// The version $RT_VERSION of" 'VERSION_NUMBER: u32 = 7008009;' >"$1/crates/capi_exports/src/version.rt"
+    echo "VERSION: &str = \"ebpf $RT_VERSION\"" >"$1/crates/ebpf/src/help.rt"
     printf '%s\n' '# Changelog' '' "## [$RT_VERSION] - 2026-01-01" >"$1/CHANGELOG.md"
     find "$1" -name out -prune -exec rm -rf '{}' +
 }

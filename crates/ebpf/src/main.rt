@@ -1,8 +1,12 @@
 //! `ebpf`: what object files have, what their linked programs are, and on which kernels they run.
 #![tactic(auto)]
 
+mod help;
+mod run;
+mod words;
+
 use std::process::ExitCode;
 
 fn main(rt: HostRuntime) -> ExitCode {
-    ebpf_tool::start(&rt)
+    run::start(&rt)
 }

@@ -1,7 +1,7 @@
 //! `ebpf-link`: reads an ELF64 object with eBPF programs and prints the slots of each program.
 #![tactic(auto)]
 
-use ebpf_commands::{Command, Words, run_link, start};
+use cli_plain::{Command, Words, run_link, start};
 use std::alloc::Global;
 use std::io::{BufRead, Write};
 use std::process::ExitCode;

@@ -3,7 +3,7 @@
 use crate::words::Sources;
 use bench_types::{BenchError, read_bytes};
 use ebpf_btf::{Btf, Endianness};
-use ebpf_commands::{Failure, prepare_all};
+use cli_plain::{Failure, prepare_all};
 use ebpf_object::Object;
 use ebpf_object::prepare::SymbolSource;
 use std::fs::{self, File};

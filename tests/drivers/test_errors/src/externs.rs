@@ -3,7 +3,7 @@
 use crate::lines::{Lines, Sample};
 use ebpf_btf::BtfError;
 use ebpf_ksyms::KsymsError;
-use ebpf_variants::variant_of_resolving;
+use cli_common::variants::variant_of_resolving;
 use std::io::{self, ErrorKind};
 
 impl Sample for KsymsError {

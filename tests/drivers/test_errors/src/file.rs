@@ -2,7 +2,7 @@
 
 use crate::lines::{Lines, Sample};
 use ebpf_elf::ElfReadError;
-use ebpf_variants::variant_name;
+use cli_common::variant_name;
 
 impl Sample for ElfReadError {
     const TYPE: &'static str = "elf::ElfReadError";

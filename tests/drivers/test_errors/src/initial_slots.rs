@@ -3,7 +3,7 @@
 use crate::lines::{Lines, Sample};
 use ebpf_elf::ElfReadError;
 use ebpf_initial_slots::InitialSlotError;
-use ebpf_variants::variant_name;
+use cli_common::variant_name;
 
 impl Sample for InitialSlotError {
     const TYPE: &'static str = "ebpf_initial_slots::InitialSlotError";

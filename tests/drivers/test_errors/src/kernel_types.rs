@@ -4,7 +4,7 @@ use crate::lines::{Lines, Sample};
 use ebpf_btf::BtfError;
 use ebpf_elf::ElfReadError;
 use ebpf_kernel_types::KernelTypesError;
-use ebpf_variants::variant_name;
+use cli_common::variant_name;
 
 impl Sample for KernelTypesError {
     const TYPE: &'static str = "ebpf_kernel_types::KernelTypesError";

@@ -5,7 +5,7 @@ use ebpf_btf::BtfError;
 use ebpf_elf::ElfReadError;
 use ebpf_parts::ParseError;
 use ebpf_parts::maps::PinningError;
-use ebpf_variants::variant_of_parsing;
+use cli_common::variants::variant_of_parsing;
 
 impl Sample for ParseError {
     const TYPE: &'static str = "obj::ParseError";

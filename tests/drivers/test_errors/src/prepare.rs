@@ -7,7 +7,7 @@ use ebpf_ksyms::KsymsError;
 use ebpf_model::{EbpfRelocationError, RelocationError};
 use ebpf_object::obj::ParseError;
 use ebpf_object::prepare::PrepareError;
-use ebpf_variants::variant_name;
+use cli_common::variant_name;
 
 impl Sample for PrepareError {
     const TYPE: &'static str = "prepare::PrepareError";

@@ -6,7 +6,7 @@ use ebpf_btf::BtfError;
 use ebpf_core::RelocationError;
 use ebpf_core_relo::BtfRelocationError;
 use ebpf_ext::RelocationKind;
-use ebpf_variants::variant_of_type_relocation;
+use cli_common::variants::variant_of_type_relocation;
 use std::alloc::{AllocError, Global};
 
 impl Sample for RelocationError {

@@ -2,7 +2,7 @@
 
 use crate::lines::{Lines, Sample};
 use ebpf_model::{EbpfRelocationError, RelocationError};
-use ebpf_variants::variant_of_relocation;
+use cli_common::variants::variant_of_relocation;
 
 impl Sample for RelocationError {
     const TYPE: &'static str = "relocation::RelocationError";

@@ -2,7 +2,7 @@
 
 use crate::lines::{Lines, Sample};
 use ebpf_btf::BtfError;
-use ebpf_variants::variant_of_types;
+use cli_common::variants::variant_of_types;
 
 impl Sample for BtfError {
     const TYPE: &'static str = "obj::BtfError";

@@ -1,7 +1,7 @@
 //! The words of a command line, and what is said where a file can't be read or a writer fails.
 
 use ebpf_base::Text;
-use ebpf_commands::{Words, WordsError, cannot_read, read_words, run_link};
+use cli_plain::{Words, WordsError, cannot_read, read_words, run_link};
 use std::alloc::{AllocError, Global};
 use std::io::{self, ErrorKind, Write};
 use std::test::Fail;

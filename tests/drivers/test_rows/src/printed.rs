@@ -1,7 +1,7 @@
 //! What the programs of the command line print of a file.
 
 use ebpf_base::Text;
-use ebpf_commands::{Words, run_inspect, run_link};
+use cli_plain::{Words, run_inspect, run_link};
 use std::alloc::{AllocError, Global};
 use test_cases::{Action, Files};
 

@@ -1,0 +1,38 @@
+-- What a handle owns.
+use Rattle.std.specs.Prelude.{Option, Some, None, ℕ, ◌==◌, List, if◌then◌else◌}
+use Rattle.std.specs.Box.Ownership.{box_owns}
+use Rattle.std.specs.declared.alloc.Global.{Global}
+use Rattle.std.specs.contracts.impls.GlobalAllocator.TheImpl.{ghosts}
+use base.Fml.{Fml, feq}
+use denote.RawPtr.{Ptr, null_ptr}
+use Rattle.capi_rows.specs.declared.refusal.Refusal.{Refusal}
+use Rattle.ebpf_limits.specs.Within.{within_fault}
+use Rattle.ebpf_object.specs.Objects.{parse_fault_as}
+use Rattle.ebpf_object.specs.contracts.object.Object.{the_row}
+use Rattle.ebpf_object.specs.declared.object.Object.{Object}
+use Rattle.ebpf_parts.specs.declared.reading.Reading.{Reading}
+use Rattle.ebpf_parts.specs.declared.reading.Reading.TheVariants.{Stated, Broad}
+use Rattle.capi_rows.specs.Handles.{CannotParse}
+
+-- the right to take and free memory; any two free the same blocks
+abbrev pub heap : Global
+heap = record { memory = record { seal = tt } }
+
+-- an object in a block of its own, or no block: the pointer is null
+abbrev pub handle_owns : Ptr → Option Object → Fml
+handle_owns p None = feq Ptr p null_ptr
+handle_owns p (Some x) = box_owns (ghosts.dealloc_token heap) the_row p x
+
+-- ---- why a file can't be opened, and not within a limit
+
+-- the fault of a file by a reading
+abbrev pub CannotOpen : Reading → List ℕ → Refusal → Type 0
+CannotOpen reading file = CannotParse (parse_fault_as reading file)
+
+-- the reading of a flag
+abbrev pub reading_of : ℕ → Reading
+reading_of broad = if broad == 0 then Stated else Broad
+
+-- its fault by a reading and within so many bytes
+abbrev pub CannotOpenWithin : Reading → ℕ → List ℕ → Refusal → Type 0
+CannotOpenWithin reading most file = CannotParse (within_fault reading most file)

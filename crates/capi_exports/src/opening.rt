@@ -1,0 +1,192 @@
+//! Objects that C opens, also within a limit, copies and closes.
+
+ghost use Rattle.std.specs.Prelude.{◌≡◌, ◌⊎◌, ◌<◌, IfOk, IfErr, None, Some, MatchOption};
+ghost use Rattle.capi_rows.specs.Handles.{IsRefused};
+ghost use Rattle.capi_exports.specs.Handles.{CannotOpen, CannotOpenWithin, reading_of};
+ghost use Rattle.ebpf_object.specs.Objects.{object_as, object_of, parse_fault, parse_fault_as};
+ghost use Rattle.ebpf_parts.specs.declared.reading.Reading.TheVariants.{Broad, Stated};
+ghost use Rattle.ebpf_limits.specs.Within.{within_fault};
+
+use crate::handle::ebpf_handle;
+use capi_rows::codes::{CLOSED, DONE, MEMORY};
+use capi_rows::faults::parse_refusal;
+use capi_rows::refusal::{Refusal, ebpf_refusal, tell};
+use ebpf_limits::{Limits, parse_within};
+use ebpf_object::Object;
+use ebpf_object::obj::Reading;
+use std::alloc::{AllocError, Global};
+
+/// The object of a file by a reading, in a box.
+fn open_object(alloc: Global, file: &[u8], reading: Reading) -> Result<Box<Object>, Refusal>
+    ensures object { IfOk result (λ b. b.value ≡ object_as reading file.now) }
+    ensures sound { IfOk result (λ _. parse_fault_as reading file.now ≡ None) }
+    ensures why { IfErr result (CannotOpen reading file.now) }
+    ensures refuses { IfErr result (λ r. 0 < r.number) }
+{
+    match Object::parse_as(alloc, file, reading) {
+        Ok(object) => Ok(Box::new(alloc, object)?),
+        Err(error) => Err(parse_refusal(error)),
+    }
+}
+
+/// Puts the object of a file by a reading into a handle. What this held before is closed.
+fn open(
+    alloc: Global,
+    file: &[u8],
+    reading: Reading,
+    handle: &mut ebpf_handle,
+    about: &mut [u8],
+    report: &mut ebpf_refusal,
+) -> u32
+    ensures opened { result ≡ DONE → (handle.new.object ≡ Some (object_as reading file.now)) × (parse_fault_as reading file.now ≡ None) }
+    ensures quiet { result ≡ DONE → (about.new ≡ about.old) × (report.new ≡ report.old) }
+    ensures refused { ¬ (result ≡ DONE) → IsRefused (CannotOpen reading file.now) result handle.old.object handle.new.object about.old about.new report.new }
+{
+    match open_object(alloc, file, reading) {
+        Ok(object) => {
+            handle.put(alloc, object);
+            DONE
+        }
+        Err(refusal) => tell(&refusal, about, report),
+    }
+}
+
+/// Opens the object of a file. What the handle held before is closed.
+///
+/// # Answers
+///
+/// 0; 2, and 100 to 199 for the fault of the file. The handle is then as it was.
+#[unsafe(no_mangle)]
+pub extern "C" fn ebpf_open(
+    alloc: Global,
+    file: &[u8],
+    handle: &mut ebpf_handle,
+    about: &mut [u8],
+    report: &mut ebpf_refusal,
+) -> u32
+    ensures opened { result ≡ DONE → (handle.new.object ≡ Some (object_of file.now)) × (parse_fault file.now ≡ None) }
+    ensures quiet { result ≡ DONE → (about.new ≡ about.old) × (report.new ≡ report.old) }
+    ensures refused { ¬ (result ≡ DONE) → IsRefused (CannotOpen Stated file.now) result handle.old.object handle.new.object about.old about.new report.new }
+{
+    open(alloc, file, Reading::Stated, handle, about, report)
+}
+
+/// Opens the object of a file that is read broadly, where every section of code is a program's, whatever its name. What the
+/// handle held before is closed.
+///
+/// # Answers
+///
+/// 0; 2, and 100 to 199 for the fault of the file. The handle is then as it was.
+#[unsafe(no_mangle)]
+pub extern "C" fn ebpf_open_broad(
+    alloc: Global,
+    file: &[u8],
+    handle: &mut ebpf_handle,
+    about: &mut [u8],
+    report: &mut ebpf_refusal,
+) -> u32
+    ensures opened { result ≡ DONE → (handle.new.object ≡ Some (object_as Broad file.now)) × (parse_fault_as Broad file.now ≡ None) }
+    ensures quiet { result ≡ DONE → (about.new ≡ about.old) × (report.new ≡ report.old) }
+    ensures refused { ¬ (result ≡ DONE) → IsRefused (CannotOpen Broad file.now) result handle.old.object handle.new.object about.old about.new report.new }
+{
+    open(alloc, file, Reading::Broad, handle, about, report)
+}
+
+/// A copy of an object, in a box of its own.
+fn copy_of(object: &Box<Object>) -> Result<Box<Object>, AllocError>
+    ensures { IfOk result (λ copy. copy.value ≡ object.now.value) }
+{
+    object.clone()
+}
+
+/// Makes `copy` hold a copy of what `handle` holds. What `copy` held before is closed.
+///
+/// # Answers
+///
+/// 0; 2; 3 where `handle` is closed. `copy` is then as it was.
+#[unsafe(no_mangle)]
+pub extern "C" fn ebpf_clone(alloc: Global, handle: &mut ebpf_handle, copy: &mut ebpf_handle) -> u32
+    ensures stays { handle.new.object ≡ handle.old.object }
+    ensures copied { result ≡ DONE → copy.new.object ≡ handle.old.object }
+    ensures refused { ¬ (result ≡ DONE) → copy.new.object ≡ copy.old.object }
+    ensures why { MatchOption handle.old.object (result ≡ CLOSED) (λ _. (result ≡ DONE) ⊎ (result ≡ MEMORY)) }
+{
+    let Some(object) = handle.take(alloc) else {
+        return CLOSED;
+    };
+    let copied = copy_of(&object);
+    handle.put(alloc, object);
+    match copied {
+        Ok(object) => {
+            copy.put(alloc, object);
+            DONE
+        }
+        Err(_) => MEMORY,
+    }
+}
+
+/// Frees what a handle holds, and leaves it closed.
+#[unsafe(no_mangle)]
+pub extern "C" fn ebpf_close(alloc: Global, handle: &mut ebpf_handle)
+    ensures { handle.new.object ≡ None }
+{
+    let _object = handle.take(alloc);
+}
+
+/// The reading that a flag asks for.
+fn reading_of(broad: u32) -> Reading
+    ensures { result ≡ reading_of broad }
+{
+    if broad == 0 {
+        Reading::Stated
+    } else {
+        Reading::Broad
+    }
+}
+
+/// The object of a file by a reading within a limit, in a box.
+fn open_object_within(
+    alloc: Global,
+    file: &[u8],
+    reading: Reading,
+    most_bytes: u64,
+) -> Result<Box<Object>, Refusal>
+    ensures object { IfOk result (λ b. b.value ≡ object_as reading file.now) }
+    ensures sound { IfOk result (λ _. within_fault reading most_bytes file.now ≡ None) }
+    ensures why { IfErr result (CannotOpenWithin reading most_bytes file.now) }
+    ensures refuses { IfErr result (λ r. 0 < r.number) }
+{
+    match parse_within(alloc, file, reading, Limits { most_bytes }) {
+        Ok(object) => Ok(Box::new(alloc, object)?),
+        Err(error) => Err(parse_refusal(error)),
+    }
+}
+
+/// Opens the object of a file, read broadly where `broad` is not 0, where what is made of the file owns at most `most_bytes`
+/// bytes; that is counted before it is made. What the handle held before is closed.
+///
+/// # Answers
+///
+/// 0; 2, and 100 to 199 for the fault of the file, 157 where more would be made. The handle is then as it was.
+#[unsafe(no_mangle)]
+pub extern "C" fn ebpf_open_within(
+    alloc: Global,
+    file: &[u8],
+    broad: u32,
+    most_bytes: u64,
+    handle: &mut ebpf_handle,
+    about: &mut [u8],
+    report: &mut ebpf_refusal,
+) -> u32
+    ensures opened { result ≡ DONE → (handle.new.object ≡ Some (object_as (reading_of broad) file.now)) × (within_fault (reading_of broad) most_bytes file.now ≡ None) }
+    ensures quiet { result ≡ DONE → (about.new ≡ about.old) × (report.new ≡ report.old) }
+    ensures refused { ¬ (result ≡ DONE) → IsRefused (CannotOpenWithin (reading_of broad) most_bytes file.now) result handle.old.object handle.new.object about.old about.new report.new }
+{
+    match open_object_within(alloc, file, reading_of(broad), most_bytes) {
+        Ok(object) => {
+            handle.put(alloc, object);
+            DONE
+        }
+        Err(refusal) => tell(&refusal, about, report),
+    }
+}

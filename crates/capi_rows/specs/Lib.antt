@@ -1,0 +1,16 @@
+pub mod Descriptors
+pub mod FileTypes
+pub mod Handles
+pub mod InitialSlotRows
+pub mod Kconfig
+pub mod Records
+pub mod Numbers
+pub mod MapRows
+pub mod Reads
+pub mod ProgramRows
+pub mod Variables
+pub mod Answers
+pub mod Refusals
+pub mod Listings
+pub mod Loading
+pub mod FaultNumbers

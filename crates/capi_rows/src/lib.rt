@@ -1,0 +1,16 @@
+//! C structs of an object's parts, numbers of refusals, and lists and texts in the caller's buffers.
+#![tactic(auto)]
+
+pub mod buffers;
+pub mod codes;
+pub mod entries;
+pub mod faults;
+pub mod info;
+pub mod loading;
+pub mod maps;
+pub mod programs;
+pub mod reads;
+pub mod record_rows;
+pub mod refusal;
+pub mod refusals;
+pub mod variables;

@@ -1,0 +1,209 @@
+//! An object over the kernels that words name.
+
+use crate::json::write_json;
+use crate::kernel_files::{KernelFile, kernel_files};
+use crate::printing::{write_findings, write_kernel};
+use crate::session::{Judgement, Session};
+use crate::verdict::loaded::{Loaded, Needs};
+use cli_common::kernel_types::read_kernel;
+use cli_common::object_file::{parsed_object, read_object};
+use cli_common::programs::ObjectProgram;
+use cli_common::refusal::{READING, Refusal};
+use cli_common::refuse::{Stop, chosen_programs, tell};
+use ebpf_base::{Items, Text};
+use ebpf_object::Object;
+use std::alloc::{AllocError, Global};
+use std::io::{self, BufWriter, Stdout, Write};
+
+/// Programs without those that are loaded only where someone asks for them.
+fn without_optional(
+    alloc: Global,
+    programs: Vec<ObjectProgram>,
+) -> Result<Vec<ObjectProgram>, AllocError> {
+    let mut counted = Vec::new(alloc);
+    for program in programs {
+        if program.is_optional() {
+            continue;
+        }
+        counted.push(program)?;
+    }
+    Ok(counted)
+}
+
+/// What `ebpf check` is to do.
+#[derive(Drop)]
+pub struct CheckWords {
+    /// The object's file.
+    pub file: Text,
+    /// Which of the objects in the file, where it holds several.
+    pub object: Option<usize>,
+    /// The kernels: files and folders.
+    pub kernels: Items<Text>,
+    /// The programs that count, where they are named.
+    pub programs: Items<Text>,
+    /// Whether all is told: every kernel by name, and each value that moved.
+    pub all: bool,
+    /// Whether it is told as JSON.
+    pub json: bool,
+}
+
+/// The programs of an object that count: those of the names or, without a name, those that are loaded unasked; a name that
+/// no program has is told.
+fn counting(
+    rt: &HostRuntime,
+    words: &CheckWords,
+    file: &[u8],
+    object: &Object,
+) -> Result<Vec<ObjectProgram>, Stop> {
+    let (path, names) = (words.file.as_str(), words.programs.as_slice());
+    let programs = chosen_programs(rt, words.json, path, file, object, names)?;
+    if names.is_empty() {
+        return Ok(without_optional(rt.alloc(), programs)?);
+    }
+    Ok(programs)
+}
+
+/// What is asked of the object of a file's bytes, with the programs that count.
+fn needs_of(
+    rt: &HostRuntime,
+    words: &CheckWords,
+    file: &[u8],
+    object: &Object,
+) -> Result<Needs, Stop> {
+    let programs = counting(rt, words, file, object)?;
+    Ok(Needs::of(rt.alloc(), object, programs, words.all)?)
+}
+
+/// An object with what is asked of it.
+fn with_needs(object: Object, needs: Result<Needs, Stop>) -> Result<Loaded, Stop> {
+    match needs {
+        Ok(needs) => Ok(Loaded { object, needs }),
+        Err(stop) => {
+            drop(object);
+            Err(stop)
+        }
+    }
+}
+
+/// Reads the object's file, with the programs that count.
+fn load(rt: &HostRuntime, words: &CheckWords) -> Result<Loaded, Stop> {
+    let path = words.file.as_str();
+    let file = read_object(rt, words.json, path, words.object)?;
+    let object = parsed_object(rt, words.json, path, &file)?;
+    let needs = needs_of(rt, words, &file, &object);
+    with_needs(object, needs)
+}
+
+/// Judges the programs over the kernel of a file.
+fn judge_file(rt: &HostRuntime, session: &mut Session, name: Text) -> Result<(), Stop> {
+    let order = session.loaded.object.endianness;
+    match read_kernel(rt, name.as_str(), order)? {
+        Ok(kernel) => Ok(session.judge(rt.alloc(), name, &kernel)?),
+        Err(refusal) => Ok(session.note_unread(name, refusal)?),
+    }
+}
+
+/// That a folder gives no file.
+fn folder_refusal(alloc: Global, fault: &Text) -> Result<Refusal, AllocError> {
+    Ok(Refusal {
+        stage: READING,
+        variant: "CannotRead",
+        text: String::from_str(alloc, fault.as_str())?,
+        help: None,
+    })
+}
+
+/// Judges the programs over a kernel; notes a folder that gives no file.
+fn judge_kernel_file(
+    rt: &HostRuntime,
+    session: &mut Session,
+    kernel: &KernelFile,
+) -> Result<(), Stop> {
+    let name = kernel.path.clone()?;
+    match &kernel.fault {
+        Some(fault) => Ok(session.note_unread(name, folder_refusal(rt.alloc(), fault)?)?),
+        None => judge_file(rt, session, name),
+    }
+}
+
+/// Tells a kernel's types that can't be read.
+fn tell_unread(rt: &HostRuntime, session: &Session) {
+    let Some(kernel) = session.kernels.last() else {
+        return;
+    };
+    if let Judgement::Unread(refusal) = &kernel.answer {
+        tell(rt, kernel.name.as_str(), refusal);
+    }
+}
+
+/// Tells a kernel that is done.
+fn tell_kernel(out: &mut BufWriter<Stdout>, session: &Session) -> io::Result<()> {
+    let programs = session.loaded.needs.programs.len();
+    match session.kernels.last() {
+        Some(kernel) => {
+            write_kernel(out, kernel, programs)?;
+            out.flush()
+        }
+        None => Ok(()),
+    }
+}
+
+/// Judges the programs over each kernel, and tells it when it is done.
+fn judge_kernels(
+    rt: &HostRuntime,
+    words: &CheckWords,
+    session: &mut Session,
+    kernels: &[KernelFile],
+    out: &mut BufWriter<Stdout>,
+) -> Result<(), Stop> {
+    for kernel in kernels {
+        judge_kernel_file(rt, session, kernel)?;
+        tell_unread(rt, session);
+        if !words.json {
+            tell_kernel(out, session)?;
+        }
+    }
+    Ok(())
+}
+
+/// Tells what was found on all kernels.
+fn tell_findings(
+    words: &CheckWords,
+    session: &Session,
+    out: &mut BufWriter<Stdout>,
+) -> io::Result<()> {
+    if words.json {
+        write_json(out, session)?;
+    } else {
+        write_findings(out, session)?;
+    }
+    out.flush()
+}
+
+/// Judges the programs over these kernels, tells what was found, and gives the status.
+fn check_files(
+    rt: &HostRuntime,
+    words: &CheckWords,
+    session: &mut Session,
+    kernels: &[KernelFile],
+) -> Result<u8, Stop> {
+    let mut out = BufWriter::new(rt.alloc(), rt.stdout())?;
+    judge_kernels(rt, words, session, kernels, &mut out)?;
+    tell_findings(words, session, &mut out)?;
+    Ok(session.status())
+}
+
+/// Judges the programs over the kernels that the words name, tells what was found, and gives the status.
+fn check_kernels(rt: &HostRuntime, words: &CheckWords, session: &mut Session) -> Result<u8, Stop> {
+    let kernels = kernel_files(rt, words.kernels.as_slice())?;
+    check_files(rt, words, session, kernels.as_slice())
+}
+
+/// Does what `ebpf check` is asked. It alone holds the object, and leaves early nowhere while it does: each way out of a
+/// function is proved to let go of what it holds.
+pub fn check(rt: &HostRuntime, words: &CheckWords) -> Result<u8, Stop> {
+    let name = words.file.clone()?;
+    let loaded = load(rt, words)?;
+    let mut session = Session::new(rt.alloc(), name, loaded, words.all);
+    check_kernels(rt, words, &mut session)
+}

@@ -1,0 +1,156 @@
+//! An object over kernels, one after the other.
+
+ghost use Rattle.std.specs.Prelude.{◌≡◌};
+ghost use Rattle.cli_check.specs.Statuses.{status_of};
+
+use crate::verdict::findings::{Findings, Rank};
+use crate::verdict::judge_kernel;
+use crate::verdict::loaded::Loaded;
+use cli_common::refusal::Refusal;
+use ebpf_base::Text;
+use ebpf_btf::Btf;
+use std::alloc::{AllocError, Global};
+
+/// The status by how many kernels' types can't be read, and on how many kernels some program breaks.
+fn status_of(unread: usize, broken: usize) -> u8
+    ensures { result ≡ status_of unread broken }
+{
+    if unread > 0 {
+        return 2;
+    }
+    if broken > 0 { 1 } else { 0 }
+}
+
+/// What is known of a kernel.
+#[derive(Drop)]
+pub enum Judgement {
+    /// Whether each program that counts breaks on it.
+    Judged(Vec<bool>),
+    /// Why its types can't be read.
+    Unread(Refusal),
+}
+
+/// A kernel with what is known of it.
+#[derive(Drop)]
+pub struct KernelAnswer {
+    /// Its name.
+    pub name: Text,
+    /// What is known.
+    pub answer: Judgement,
+}
+
+impl KernelAnswer {
+    /// How many programs break; none where nothing is known.
+    pub fn breaking(&self) -> usize {
+        match &self.answer {
+            Judgement::Judged(programs) => programs.iter().filter(|breaks| **breaks).count(),
+            Judgement::Unread(_) => 0,
+        }
+    }
+
+    /// Whether its types were read.
+    pub fn is_judged(&self) -> bool {
+        matches!(self.answer, Judgement::Judged(_))
+    }
+
+    /// Whether the program of a number breaks on it.
+    pub fn breaks(&self, program: usize) -> bool {
+        match &self.answer {
+            Judgement::Judged(programs) => programs.get(program).copied().unwrap_or(false),
+            Judgement::Unread(_) => false,
+        }
+    }
+}
+
+/// An object over the kernels so far.
+#[derive(Drop)]
+pub struct Session {
+    /// The name of the object's file.
+    pub file: Text,
+    /// Whether every kernel is named.
+    pub all: bool,
+    /// The object.
+    pub loaded: Loaded,
+    /// The kernels so far.
+    pub kernels: Vec<KernelAnswer>,
+    /// What was found over them.
+    pub findings: Findings,
+}
+
+impl Session {
+    /// An object, over no kernel yet.
+    pub fn new(alloc: Global, file: Text, loaded: Loaded, all: bool) -> Session {
+        Session {
+            file,
+            all,
+            loaded,
+            kernels: Vec::new(alloc),
+            findings: Findings::new(alloc),
+        }
+    }
+
+    /// Judges the programs over a kernel's types.
+    pub fn judge(&mut self, alloc: Global, name: Text, kernel: &Btf) -> Result<(), AllocError> {
+        let number = self.kernels.len();
+        let programs = judge_kernel(alloc, &mut self.findings, &self.loaded, kernel, number)?;
+        self.kernels.push(KernelAnswer {
+            name,
+            answer: Judgement::Judged(programs),
+        })?;
+        Ok(())
+    }
+
+    /// Notes a kernel whose types can't be read.
+    pub fn note_unread(&mut self, name: Text, refusal: Refusal) -> Result<(), AllocError> {
+        self.kernels.push(KernelAnswer {
+            name,
+            answer: Judgement::Unread(refusal),
+        })?;
+        Ok(())
+    }
+
+    /// How many kernels' types were read.
+    pub fn judged(&self) -> usize {
+        self.kernels
+            .iter()
+            .filter(|kernel| kernel.is_judged())
+            .count()
+    }
+
+    /// How many kernels' types can't be read.
+    pub fn unread(&self) -> usize {
+        self.kernels.len().saturating_sub(self.judged())
+    }
+
+    /// On how many kernels some program breaks.
+    pub fn broken(&self) -> usize {
+        self.kernels
+            .iter()
+            .filter(|kernel| kernel.breaking() > 0)
+            .count()
+    }
+
+    /// Whether the program of a number breaks on some kernel.
+    fn breaks_somewhere(&self, program: usize) -> bool {
+        self.kernels.iter().any(|kernel| kernel.breaks(program))
+    }
+
+    /// How many programs break on some kernel.
+    pub fn breaking_programs(&self) -> usize {
+        let count = self.loaded.needs.programs.len();
+        (0..count)
+            .filter(|program| self.breaks_somewhere(*program))
+            .count()
+    }
+
+    /// The status that the programs and kernels give: 2 where the types of a kernel can't be read, else 1 where some
+    /// program breaks on some kernel, else 0.
+    pub fn status(&self) -> u8 {
+        status_of(self.unread(), self.broken())
+    }
+
+    /// Whether something of a rank was found.
+    pub fn has(&self, rank: Rank) -> bool {
+        self.findings.topics.keys().any(|topic| topic.rank == rank)
+    }
+}

@@ -1,0 +1,110 @@
+//! An object, read once for all kernels.
+
+use crate::verdict::own_values::own_value;
+use cli_common::map_uses::{MapUse, map_uses};
+use cli_common::programs::ObjectProgram;
+use cli_common::settings::object_settings;
+use ebpf_base::{ByKey, ByName, Items, Text};
+use ebpf_btf::Btf;
+use ebpf_ext::Relocation;
+use ebpf_model::ExternDesc;
+use ebpf_object::Object;
+use std::alloc::{AllocError, Global};
+
+/// A CO-RE relocation.
+#[derive(Clone, Copy)]
+pub struct Record {
+    /// What is asked.
+    pub relocation: Relocation,
+    /// What the object's own types answer, where it is told that a kernel answers otherwise.
+    pub own: Option<u64>,
+}
+
+/// Adds the records of a section.
+fn add_records(
+    alloc: Global,
+    records: &mut Vec<Record>,
+    local: &Btf,
+    relocations: &[Relocation],
+    all: bool,
+) -> Result<(), AllocError> {
+    for relocation in relocations {
+        let own = own_value(alloc, local, relocation, all)?;
+        records.push(Record {
+            relocation: *relocation,
+            own,
+        })?;
+    }
+    Ok(())
+}
+
+/// The records of an object; none of one without types.
+fn records_of(alloc: Global, object: &Object, all: bool) -> Result<Vec<Record>, AllocError> {
+    let mut records = Vec::new(alloc);
+    let (Some(local), Some(said)) = (&object.btf, &object.btf_ext) else {
+        return Ok(records);
+    };
+    for section in said.relocations() {
+        add_records(alloc, &mut records, local, section.1.as_slice(), all)?;
+    }
+    Ok(records)
+}
+
+/// The externs with a type.
+fn typed_externs(alloc: Global, object: &Object) -> Result<ByName<ExternDesc>, AllocError> {
+    let mut typed = ByName::new(alloc);
+    for (name, known) in object.externs.iter() {
+        if !known.is_typed {
+            continue;
+        }
+        typed.insert(name.clone()?, *known)?;
+    }
+    Ok(typed)
+}
+
+/// What is asked of an object.
+#[derive(Drop)]
+pub struct Needs {
+    /// The programs that count, in byte order of their names.
+    pub programs: Vec<ObjectProgram>,
+    /// Its records, section by section and in order.
+    pub records: Vec<Record>,
+    /// The maps that functions use, by the functions' keys.
+    pub map_uses: ByKey<Items<MapUse>>,
+    /// The externs with a type.
+    pub typed: ByName<ExternDesc>,
+    /// The names of the externs that the kernel's configuration gives.
+    pub settings: Items<Text>,
+}
+
+impl Needs {
+    /// What is asked of an object, of which these programs count; `all` says whether each value that a kernel may change
+    /// is told. It borrows the object: each way out of a function is proved to let go of what it holds.
+    pub fn of(
+        alloc: Global,
+        object: &Object,
+        programs: Vec<ObjectProgram>,
+        all: bool,
+    ) -> Result<Needs, AllocError> {
+        let records = records_of(alloc, object, all)?;
+        let map_uses = map_uses(alloc, object)?;
+        let typed = typed_externs(alloc, object)?;
+        let settings = object_settings(alloc, object)?;
+        Ok(Needs {
+            programs,
+            records,
+            map_uses,
+            typed,
+            settings,
+        })
+    }
+}
+
+/// An object, with what is asked of it.
+#[derive(Drop)]
+pub struct Loaded {
+    /// The object, read broadly.
+    pub object: Object,
+    /// What is asked of it.
+    pub needs: Needs,
+}

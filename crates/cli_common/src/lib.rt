@@ -1,0 +1,23 @@
+//! Shared parts of the commands of `ebpf`: files, vmlinux BTF, names, tables, source lines, refusals.
+#![tactic(auto)]
+
+pub mod compressed;
+pub mod embedded;
+pub mod helper_calls;
+pub mod kernel_types;
+pub mod kinds;
+mod machines;
+pub mod map_uses;
+pub mod names;
+pub mod object_file;
+mod parse_help;
+pub mod programs;
+pub mod record_names;
+pub mod refusal;
+pub mod refuse;
+pub mod settings;
+pub mod source_lines;
+pub mod table;
+pub mod types;
+pub mod unknown_externs;
+pub mod variants;

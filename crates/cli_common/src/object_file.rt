@@ -1,0 +1,176 @@
+//! The object of a file: the file itself, or one that a program for another machine holds.
+
+ghost use Rattle.std.specs.Prelude.{IfOk};
+ghost use Rattle.ebpf_object.specs.Prepared.{IsParsed};
+ghost use Rattle.ebpf_parts.specs.declared.reading.Reading.TheVariants.{Broad};
+
+use crate::embedded::{ObjectRange, embedded_objects};
+use crate::machines::{machine_name, other_machine};
+use crate::refusal::{READING, Refusal};
+use crate::refuse::{Stop, read_given, refuse_parsing, refused};
+use ebpf_object::Object;
+use ebpf_parts::{ParseError, Reading};
+use std::alloc::{AllocError, Global};
+use std::io::{self, Read};
+use std::{env, fs};
+
+/// For which machine a file is.
+fn machine_text(alloc: Global, machine: u16) -> Result<String, AllocError> {
+    match machine_name(machine) {
+        Some(name) => format!(in alloc; "is for {name} (machine {machine})"),
+        None => format!(in alloc; "is for machine {machine}"),
+    }
+}
+
+/// A refusal of a choice among the objects of a file.
+fn no_choice(variant: &'static str, text: String, help: Option<String>) -> Refusal {
+    Refusal {
+        stage: READING,
+        variant,
+        text,
+        help,
+    }
+}
+
+/// That a file of another machine holds no object.
+fn without_object(alloc: Global, machine: u16) -> Result<Refusal, AllocError> {
+    let mut text = machine_text(alloc, machine)?;
+    text.push_str(" and holds no eBPF object")?;
+    Ok(no_choice("NoObject", text, None))
+}
+
+/// The objects that can be chosen, with where they stand.
+fn choices(alloc: Global, found: &[ObjectRange]) -> Result<String, AllocError> {
+    let mut text = String::new(alloc);
+    for (at, range) in found.iter().enumerate() {
+        let front = if at == 0 { "" } else { ", " };
+        let number = at.saturating_add(1);
+        let bytes = range.end.saturating_sub(range.start);
+        write!(
+            text,
+            "{front}--object {number} ({bytes} bytes at {:#x})",
+            range.start
+        )?;
+    }
+    Ok(text)
+}
+
+/// That none of several objects is chosen, or one that isn't there.
+fn without_choice(
+    alloc: Global,
+    machine: u16,
+    found: &[ObjectRange],
+    number: Option<usize>,
+) -> Result<Refusal, AllocError> {
+    let mut text = machine_text(alloc, machine)?;
+    let count = found.len();
+    write!(text, " and holds {count} eBPF objects")?;
+    if let Some(number) = number {
+        write!(text, ", no object {number}")?;
+    }
+    let variant = if number.is_some() {
+        "NoObject"
+    } else {
+        "SeveralObjects"
+    };
+    Ok(no_choice(variant, text, Some(choices(alloc, found)?)))
+}
+
+/// That a file that is an object is asked for another one.
+fn without_other(alloc: Global, number: usize) -> Result<Refusal, AllocError> {
+    let text = format!(in alloc; "is one eBPF object, no object {number}")?;
+    Ok(no_choice("NoObject", text, None))
+}
+
+/// The range of the object that is chosen among several, the first of which has the number 1; of one alone that one.
+fn chosen(found: &[ObjectRange], number: Option<usize>) -> Option<ObjectRange> {
+    match (number, found) {
+        (None, [only]) => Some(*only),
+        (Some(number), _) if number > 0 => found.get(number - 1).copied(),
+        _ => None,
+    }
+}
+
+/// The bytes of the object in a file for another machine, or why there are none, with the status.
+fn taken(
+    alloc: Global,
+    file: &[u8],
+    machine: u16,
+    number: Option<usize>,
+) -> Result<Result<Vec<u8>, (Refusal, u8)>, AllocError> {
+    let found = embedded_objects(alloc, file)?;
+    if found.is_empty() {
+        return Ok(Err((without_object(alloc, machine)?, 1)));
+    }
+    let bytes = match chosen(&found, number) {
+        Some(range) => file.get(range.start..range.end),
+        None => None,
+    };
+    match bytes {
+        Some(bytes) => Ok(Ok(bytes.to_vec(alloc)?)),
+        None => Ok(Err((without_choice(alloc, machine, &found, number)?, 2))),
+    }
+}
+
+/// The bytes of the object in a file: all of it, or of a program for another machine the object that it holds, the one of
+/// a number where it holds several. A file that can't be read, or where no object is chosen so, is told.
+pub fn read_object(
+    rt: &HostRuntime,
+    json: bool,
+    path: &str,
+    number: Option<usize>,
+) -> Result<Vec<u8>, Stop> {
+    let file = read_given(rt, json, path)?;
+    let alloc = rt.alloc();
+    let Some(machine) = other_machine(&file) else {
+        let Some(number) = number.filter(|number| *number != 1) else {
+            return Ok(file);
+        };
+        let refusal = without_other(alloc, number)?;
+        return Err(refused(rt, json, path, &refusal, 2));
+    };
+    match taken(alloc, &file, machine, number)? {
+        Ok(bytes) => Ok(bytes),
+        Err((refusal, status)) => Err(refused(rt, json, path, &refusal, status)),
+    }
+}
+
+/// The object of a file's bytes, read broadly. Little is stated of it, so that what calls this isn't proved over all that
+/// is stated of parsing.
+fn parsed(alloc: Global, file: &[u8]) -> Result<Object, ParseError>
+    ensures { IfOk result (IsParsed Broad file.now) }
+{
+    Object::parse_as(alloc, file, Reading::Broad)
+}
+
+/// The object of a file's bytes, read broadly; one that can't be parsed is told.
+pub fn parsed_object(rt: &HostRuntime, json: bool, path: &str, file: &[u8]) -> Result<Object, Stop>
+    ensures { IfOk result (IsParsed Broad file.now) }
+{
+    match parsed(rt.alloc(), file) {
+        Ok(object) => Ok(object),
+        Err(error) => {
+            let stop = refuse_parsing(rt, json, path, file, &error);
+            drop(error);
+            Err(stop)
+        }
+    }
+}
+
+/// The words of the command line after the program's own name.
+pub fn gather_words(rt: &HostRuntime) -> io::Result<Vec<String>> {
+    let mut words = Vec::new(rt.alloc());
+    for word in env::args(rt)?.skip(1) {
+        words.push(word)?;
+    }
+    Ok(words)
+}
+
+/// The bytes of a file up to its end, whatever size it states: files of /sys and /proc state others.
+pub fn read_file(rt: &HostRuntime, path: &str) -> io::Result<Vec<u8>> {
+    let mut file = fs::open(rt, path)?;
+    let size = file.metadata()?.len().min(1 << 40) as usize;
+    let mut bytes = Vec::with_capacity(rt.alloc(), size.saturating_add(1))?;
+    file.read_to_end(&mut bytes)?;
+    Ok(bytes)
+}

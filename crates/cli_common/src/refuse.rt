@@ -1,0 +1,238 @@
+//! Refusals, told.
+
+use crate::compressed::Compression;
+use crate::object_file::read_file;
+use crate::parse_help::parse_help;
+use crate::programs::{ObjectProgram, object_programs};
+use crate::refusal::{READING, Refusal, RefusalLines, RefusalObject, help_of};
+use crate::variants::variant_of_parsing;
+use ebpf_base::Text;
+use ebpf_object::Object;
+use ebpf_object::obj::ExplainedParse;
+use ebpf_parts::ParseError;
+use std::alloc::{AllocError, Global};
+use std::io::{self, ErrorKind};
+
+/// Tells a refusal of a file on standard error.
+pub fn tell(rt: &HostRuntime, path: &str, refusal: &Refusal) {
+    let lines = RefusalLines { path, refusal };
+    let _ = eprintln!(rt; "{lines}");
+}
+
+/// Tells a refusal of a file, as JSON on standard output too where that is asked for; why the work ends, with this status.
+pub fn refused(rt: &HostRuntime, json: bool, path: &str, refusal: &Refusal, status: u8) -> Stop {
+    tell(rt, path, refusal);
+    if !json {
+        return Stop::Told(status);
+    }
+    let object = RefusalObject { path, refusal };
+    match println!(rt; "{object}") {
+        Ok(()) => Stop::Told(status),
+        Err(error) => Stop::Output(error),
+    }
+}
+
+/// Why a file can't be read, as the system has it.
+fn unreadable(alloc: Global, error: &io::Error) -> Result<Refusal, AllocError> {
+    if matches!(error.kind(), ErrorKind::OutOfMemory) {
+        return Err(AllocError);
+    }
+    Ok(Refusal {
+        stage: READING,
+        variant: "CannotRead",
+        text: format!(in alloc; "{error}")?,
+        help: None,
+    })
+}
+
+/// That a file is compressed.
+fn compressed(alloc: Global, path: &str, by: Compression) -> Result<Refusal, AllocError> {
+    let program = by.program();
+    Ok(Refusal {
+        stage: READING,
+        variant: "Compressed",
+        text: format!(in alloc; "compressed ({program})")?,
+        help: Some(by.command(alloc, path)?),
+    })
+}
+
+/// The bytes of a file, or why it is refused: it can't be read, or is compressed.
+///
+/// # Errors
+///
+/// The outer one where memory is refused.
+pub fn read_plain(rt: &HostRuntime, path: &str) -> Result<Result<Vec<u8>, Refusal>, AllocError> {
+    let alloc = rt.alloc();
+    let bytes = match read_file(rt, path) {
+        Ok(bytes) => bytes,
+        Err(error) => return Ok(Err(unreadable(alloc, &error)?)),
+    };
+    match Compression::of(&bytes) {
+        Some(by) => Ok(Err(compressed(alloc, path, by)?)),
+        None => Ok(Ok(bytes)),
+    }
+}
+
+/// The bytes of a file that words name; one that is refused is told.
+pub fn read_given(rt: &HostRuntime, json: bool, path: &str) -> Result<Vec<u8>, Stop> {
+    match read_plain(rt, path)? {
+        Ok(bytes) => Ok(bytes),
+        Err(refusal) => Err(refused(rt, json, path, &refusal, 2)),
+    }
+}
+
+/// Why an object can't be parsed.
+fn unparsed(alloc: Global, file: &[u8], error: &ParseError) -> Result<Refusal, AllocError> {
+    let explained = ExplainedParse::new(file, error);
+    Ok(Refusal {
+        stage: "parse",
+        variant: variant_of_parsing(error),
+        text: format!(in alloc; "{explained}")?,
+        help: help_of(alloc, parse_help(error))?,
+    })
+}
+
+/// Says why an object can't be parsed.
+pub fn refuse_parsing(
+    rt: &HostRuntime,
+    json: bool,
+    path: &str,
+    file: &[u8],
+    error: &ParseError,
+) -> Stop {
+    if matches!(error, ParseError::OutOfMemory) {
+        return Stop::Memory;
+    }
+    match unparsed(rt.alloc(), file, error) {
+        Ok(refusal) => refused(rt, json, path, &refusal, 1),
+        Err(_) => Stop::Memory,
+    }
+}
+
+/// The names of programs, one behind the other.
+fn known_names(alloc: Global, programs: &[ObjectProgram]) -> Result<String, AllocError> {
+    let mut names = String::from_str(alloc, "its programs:")?;
+    let mut between = " ";
+    for program in programs {
+        names.push_str(between)?;
+        names.push_str(program.name.as_str())?;
+        between = ", ";
+    }
+    Ok(names)
+}
+
+/// That an object has no program of a name.
+fn no_program(
+    alloc: Global,
+    programs: &[ObjectProgram],
+    name: &str,
+) -> Result<Refusal, AllocError> {
+    let help = if programs.is_empty() {
+        String::from_str(alloc, "it has no program")?
+    } else {
+        known_names(alloc, programs)?
+    };
+    Ok(Refusal {
+        stage: READING,
+        variant: "NoProgram",
+        text: format!(in alloc; "no program {name}")?,
+        help: Some(help),
+    })
+}
+
+/// Whether a program has a name.
+fn has_name(programs: &[ObjectProgram], name: &Text) -> bool {
+    programs
+        .iter()
+        .any(|program| program.name.is(name.as_str()))
+}
+
+/// Refuses names that no program of an object has.
+fn check_names(
+    rt: &HostRuntime,
+    json: bool,
+    path: &str,
+    programs: &[ObjectProgram],
+    names: &[Text],
+) -> Result<(), Stop> {
+    for name in names {
+        if has_name(programs, name) {
+            continue;
+        }
+        let refusal = no_program(rt.alloc(), programs, name.as_str())?;
+        return Err(refused(rt, json, path, &refusal, 2));
+    }
+    Ok(())
+}
+
+/// The programs of these names.
+fn of_names(
+    alloc: Global,
+    programs: Vec<ObjectProgram>,
+    names: &[Text],
+) -> Result<Vec<ObjectProgram>, AllocError> {
+    let mut chosen = Vec::new(alloc);
+    for program in programs {
+        if !names.iter().any(|name| name.is(program.name.as_str())) {
+            continue;
+        }
+        chosen.push(program)?;
+    }
+    Ok(chosen)
+}
+
+/// The programs of an object that have these names, or all without a name; a name that no program has is told.
+pub fn chosen_programs(
+    rt: &HostRuntime,
+    json: bool,
+    path: &str,
+    file: &[u8],
+    object: &Object,
+    names: &[Text],
+) -> Result<Vec<ObjectProgram>, Stop> {
+    let programs = object_programs(rt.alloc(), file, object)?;
+    if names.is_empty() {
+        return Ok(programs);
+    }
+    check_names(rt, json, path, &programs, names)?;
+    Ok(of_names(rt.alloc(), programs, names)?)
+}
+
+/// Why the work ends before its end.
+#[derive(Drop)]
+pub enum Stop {
+    /// What was told already; with the status.
+    Told(u8),
+    /// The output can't be written.
+    Output(io::Error),
+    /// No memory was found.
+    Memory,
+}
+
+impl From<AllocError> for Stop {
+    fn from(_error: AllocError) -> Stop {
+        Stop::Memory
+    }
+}
+
+impl From<io::Error> for Stop {
+    fn from(error: io::Error) -> Stop {
+        Stop::Output(error)
+    }
+}
+
+/// Says why nothing more is done, and gives the status. An output whose reader is gone ends without a word.
+pub fn stopped(rt: &HostRuntime, stop: Stop) -> u8 {
+    match stop {
+        Stop::Told(status) => status,
+        Stop::Output(error) if matches!(error.kind(), ErrorKind::BrokenPipe) => 2,
+        Stop::Output(error) => {
+            let _ = eprintln!(rt; "ebpf: cannot write: {error}");
+            2
+        }
+        Stop::Memory => {
+            let _ = eprintln!(rt; "ebpf: out of memory");
+            2
+        }
+    }
+}

@@ -1,0 +1,44 @@
+-- What `ebpf link --bytes` writes: the lines of `ebpf-link`, but for names as they are shown.
+use Rattle.std.specs.Prelude.{ℕ, List, [], Option, Some, None}
+use Rattle.std.specs.Io.KnownBytes.{Appends}
+use Rattle.std.specs.List.{flat_map}
+use Rattle.ebpf_btf.specs.TypeInfo.{TypeInfo}
+use Rattle.cli_plain.specs.Linked.{default_passes}
+use Rattle.cli_plain.specs.Printed.{function_named, program_text}
+use Rattle.ebpf_ksyms.specs.Sources.{Source}
+use Rattle.ebpf_model.specs.declared.function.Function.{Function}
+use Rattle.ebpf_object.specs.Headline.{Headline}
+use Rattle.ebpf_object.specs.Objects.{object_as}
+use Rattle.ebpf_object.specs.Prepared.{Stages}
+use Rattle.ebpf_object.specs.Stages.{Chosen}
+use Rattle.ebpf_object.specs.declared.object.Object.{Object}
+use Rattle.ebpf_parts.specs.declared.reading.Reading.TheVariants.{Broad}
+use Rattle.cli_common.specs.Shown.{shown}
+use Rattle.cli_common.specs.declared.programs.ObjectProgram.{ObjectProgram}
+
+abbrev pub program_name : ObjectProgram → List ℕ
+program_name program = program.name
+
+abbrev pub shown_text_if : List ℕ → Option Function → List ℕ
+shown_text_if name None = []
+shown_text_if name (Some f) = program_text (shown name) f.instructions
+
+-- the lines of the program of a name, none where there is none
+abbrev pub shown_lines : Object → List ℕ → List ℕ
+shown_lines o name = shown_text_if name (function_named o name)
+
+-- the lines of programs, one after the other
+abbrev pub shown_programs : Object → List (List ℕ) → List ℕ
+shown_programs o names = flat_map (shown_lines o) names
+
+-- the writer has got the lines of these programs of what all stages leave of an object
+pub record WritesFinished (steps : Chosen) (lines : Source) (parsed : Object) (names : List (List ℕ)) (before now : Option (List ℕ)) : Type 0 where
+  pub object : Object
+  pub stages : Stages steps lines parsed object
+  pub text : Appends before now (shown_programs object names)
+
+-- the file, read broadly, is linked, and the writer has got the lines of these of its programs
+pub record HasWritten (file : List ℕ) (types : Option TypeInfo) (lines : Source) (names : List (List ℕ)) (before now : Option (List ℕ)) : Type 0 where
+  pub object : Object
+  pub headline : Headline (default_passes types (object_as Broad file).maps) lines Broad file object
+  pub text : Appends before now (shown_programs object names)

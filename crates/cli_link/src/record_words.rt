@@ -1,0 +1,122 @@
+//! CO-RE records in words.
+
+use crate::notes::{Note, Written};
+use cli_common::kinds::Kind;
+use cli_common::names::{Shown, write_value};
+use cli_common::record_names::{Asked, absence_words, has_sign};
+use cli_common::refuse::Stop;
+use ebpf_btf::Btf;
+use ebpf_ext::{Relocation, RelocationKind};
+use std::alloc::{AllocError, Global};
+use std::io::{self, Write};
+
+/// What a record asks: its type, its access string and its kind.
+#[derive(Clone, Copy, PartialEq, Eq)]
+struct Question {
+    type_id: u32,
+    access_str_off: u32,
+    kind: RelocationKind,
+}
+
+/// What a record asks, in words.
+#[derive(Drop)]
+struct RecordWords {
+    question: Question,
+    /// What the record is about, as text shows it.
+    name: String,
+    /// The value that the object's own types give it. None where they give none.
+    own: Option<u64>,
+    /// Whether its values have a sign.
+    is_signed: bool,
+}
+
+/// The records of an object's types, in words: those of the last one stay for others that ask the same.
+#[derive(Drop)]
+pub struct RecordTeller<'a> {
+    alloc: Global,
+    local: Option<&'a Btf>,
+    last: Option<RecordWords>,
+}
+
+impl Question {
+    fn of(relocation: &Relocation) -> Question {
+        Question {
+            type_id: relocation.type_id,
+            access_str_off: relocation.access_str_off,
+            kind: relocation.kind,
+        }
+    }
+}
+
+impl RecordWords {
+    /// The words of a record.
+    fn of(alloc: Global, local: &Btf, relocation: &Relocation) -> Result<RecordWords, AllocError> {
+        let asked = Asked::of(alloc, local, relocation)?;
+        let name = Shown(asked.name.as_str());
+        Ok(RecordWords {
+            question: Question::of(relocation),
+            name: format!(in alloc; "{name}")?,
+            own: asked.own,
+            is_signed: has_sign(local, relocation),
+        })
+    }
+
+    /// Writes a value behind that of the object's own types, where they give one.
+    fn write_values<W: Write>(&self, out: &mut W, value: u64) -> io::Result<()> {
+        if let Some(own) = self.own {
+            write_value(out, self.is_signed, own)?;
+            out.write_all(b" -> ")?;
+        }
+        write_value(out, self.is_signed, value)
+    }
+
+    /// Writes what a record came to.
+    fn write_written<W: Write>(&self, out: &mut W, written: Written) -> io::Result<()> {
+        match written {
+            Written::Value(value) => self.write_values(out, value),
+            Written::NoValue => out.write_all(b"no value"),
+            Written::Absent(absence) => out.write_all(absence_words(absence).as_bytes()),
+        }
+    }
+
+    /// Writes what a record asked and what it came to.
+    fn write<W: Write>(&self, out: &mut W, written: Written) -> io::Result<()> {
+        let kind = Kind::of(self.question.kind).word();
+        write!(out, "CO-RE <{kind}> ")?;
+        out.write_all(self.name.as_bytes())?;
+        out.write_all(b": ")?;
+        self.write_written(out, written)
+    }
+}
+
+impl<'a> RecordTeller<'a> {
+    /// Records of these types.
+    pub fn new(alloc: Global, local: Option<&'a Btf>) -> RecordTeller<'a> {
+        RecordTeller {
+            alloc,
+            local,
+            last: None,
+        }
+    }
+
+    /// Reads the words of a record, where they aren't those of the last one.
+    fn read(&mut self, relocation: &Relocation) -> Result<(), AllocError> {
+        let (Some(local), question) = (self.local, Question::of(relocation)) else {
+            return Ok(());
+        };
+        if matches!(&self.last, Some(last) if last.question == question) {
+            return Ok(());
+        }
+        self.last = Some(RecordWords::of(self.alloc, local, relocation)?);
+        Ok(())
+    }
+
+    /// Writes what a record asked and what it came to.
+    pub fn write<W: Write>(&mut self, out: &mut W, note: &Note) -> Result<(), Stop> {
+        self.read(&note.relocation)?;
+        match &self.last {
+            Some(words) => Ok(words.write(out, note.written)?),
+            None => Ok(()),
+        }
+    }
+}

@@ -1,0 +1,184 @@
+-- What `ebpf list` writes from: the object's tables, row by row, in their order. The maps are read of the object itself.
+use Rattle.std.specs.Prelude.{ℕ, Bool, true, false, List, map, Option, Some, None, slice_get, ◌≡◌, MatchBool, ◌⊎◌, ◌-◌, ◌^◌, min, [], ◌∷◌, not}
+use Rattle.std.specs.FinMap.{entries, get, FinMap}
+use Rattle.std.specs.List.{AllZip, filter, list_any, enumerate_from}
+use Rattle.std.specs.Map.{keys_of}
+use Rattle.std.specs.Ordering.{eq_by_cmp}
+use Rattle.std.specs.declared.cmp.Ordering.{Ordering}
+use Rattle.ebpf_btf.specs.TypeInfo.{TypeInfo}
+use Rattle.ebpf_btf.specs.declared.types.BtfType.{BtfType}
+use Rattle.ebpf_btf.specs.declared.types.BtfType.TheVariants.{Func}
+use Rattle.ebpf_model.specs.declared.error.EbpfRelocationError.{EbpfRelocationError}
+use Rattle.ebpf_model.specs.declared.symbol.ExternDesc.{ExternDesc}
+use Rattle.ebpf_object.specs.WrittenSlots.{with_externs, externs_fault}
+use Rattle.ebpf_object.specs.declared.object.Object.{Object}
+use Rattle.cli_common.specs.ObjectPrograms.{known_externs, program_row, program_rows, object_settings}
+use Rattle.ebpf_linker.specs.LinkMap.{copied_slot_count}
+use Rattle.ebpf_model.specs.declared.function.Program.{Program}
+use Rattle.ebpf_object.specs.Headline.{linkable}
+use Rattle.ebpf_object.specs.LinkedPrograms.{program_value}
+use Rattle.ebpf_reloc.specs.Laws.{copy_of}
+use Rattle.ebpf_reloc.specs.Linking.{IsLinkMapAt, key_of, IsProgramRefusal}
+use Rattle.ebpf_reloc.specs.declared.link_map.CodeCopy.{CodeCopy}
+use Rattle.ebpf_reloc.specs.declared.link_map.LinkMap.{LinkMap}
+use Rattle.cli_common.specs.declared.programs.ObjectProgram.{ObjectProgram}
+use Rattle.ebpf_base.specs.Maps.{key_cmp, text_cmp}
+use Rattle.ebpf_model.specs.Symbols.{FunctionKey}
+use Rattle.cli_common.specs.HelperCalls.{calls_helper}
+use Rattle.cli_common.specs.declared.map_uses.MapUse.{MapUse}
+use Rattle.cli_common.specs.FunctionMaps.{function_maps}
+use Rattle.cli_list.specs.declared.listing.Extern.{Extern}
+use Rattle.cli_list.specs.declared.layout.Layout.{Layout}
+use Rattle.cli_list.specs.declared.listing.Listing.{Listing}
+use Rattle.cli_list.specs.declared.listing.Wanted.{Wanted}
+
+-- ---- the externs of an object, row by row.
+
+abbrev pub is_func_type : Option BtfType → Bool
+is_func_type (Some (Func _ _)) = true
+is_func_type _ = false
+
+-- whether the type with an id is a FUNC
+unfoldable pub is_func : TypeInfo → ℕ → Bool
+is_func types id = is_func_type (slice_get types.types id)
+
+abbrev pub is_function : Option TypeInfo → ℕ → Bool
+is_function None id = false
+is_function (Some types) id = is_func types id
+
+-- an extern by its name
+abbrev pub extern_row : Option TypeInfo → List ℕ → ExternDesc → Extern
+extern_row types name x = record { name = name; is_function = is_function types x.btf_id; is_typed = x.is_typed; is_weak = x.is_weak }
+
+-- those of an object, in byte order of their names
+abbrev pub extern_rows : Object → List Extern
+extern_rows o = map (λ e. extern_row o.btf e.0 e.1) (entries o.externs)
+
+-- ---- an object whose externs are written as if a kernel had them all, so that what calls them is no reference to a function
+
+-- the object with all its externs known, and those that the kernel's configuration gives
+abbrev pub with_known : Object → List (List ℕ) → Object
+with_known o settings = record o { externs = known_externs o.externs settings }
+
+-- They are written, or one of them can't be.
+abbrev pub WritesExterns : Object → List (List ℕ) → Object → Bool → Type 0
+WritesExterns before settings after is_written =
+    MatchBool is_written
+    (after ≡ with_externs (with_known before settings))
+    ((after ≡ with_known before settings) × ((e : EbpfRelocationError) × (externs_fault (with_known before settings) ≡ Some e)))
+
+-- ---- what the programs of an object are made of.
+
+-- the slots of these copies, which are those of the linked program (`MatchesLinked`), and their functions
+pub record IsOfCopies (copies : List CodeCopy) (l : Layout) : Type 0 where
+  pub slots : l.slots ≡ Some (min (copied_slot_count (map copy_of copies)) (2 ^ 64 - 1))
+  pub functions : l.functions.items ≡ map (λ c. c.key) copies
+
+-- the program's own function alone
+pub record IsOfOne (p : ObjectProgram) (l : Layout) : Type 0 where
+  pub slots : l.slots ≡ None
+  pub functions : l.functions.items ≡ p.key ∷ []
+
+-- a program that can be linked: the copies of its link map, its own function first
+pub record IsLinkedLayout (o : Object) (p : ObjectProgram) (l : Layout) : Type 0 where
+  pub program : Program
+  pub stands : get o.programs p.name ≡ Some program
+  pub link_map : LinkMap
+  pub mapped : IsLinkMapAt (linkable o) (key_of (program_value p.name program)) link_map
+  pub copies : IsOfCopies link_map.copies l
+
+-- one that linking refuses
+pub record IsRefusedLayout (o : Object) (p : ObjectProgram) (l : Layout) : Type 0 where
+  pub program : Program
+  pub stands : get o.programs p.name ≡ Some program
+  pub error : EbpfRelocationError
+  pub refused : IsProgramRefusal (linkable o) (program_value p.name program) error
+  pub own : IsOfOne p l
+
+-- one that the object lacks
+pub record IsLackingLayout (o : Object) (p : ObjectProgram) (l : Layout) : Type 0 where
+  pub lacks : get o.programs p.name ≡ None
+  pub own : IsOfOne p l
+
+abbrev pub IsLayout : Object → ObjectProgram → Layout → Type 0
+IsLayout o p l = IsLinkedLayout o p l ⊎ (IsRefusedLayout o p l ⊎ IsLackingLayout o p l)
+
+-- a layout of each program, in their order
+abbrev pub AreLayouts : Object → List ObjectProgram → List Layout → Type 0
+AreLayouts o programs layouts = AllZip (IsLayout o) programs layouts
+
+-- ---- the functions that programs reach, by their layouts.
+
+-- whether a program reaches the function at a key
+abbrev pub reaches : Layout → FunctionKey → Bool
+reaches layout key = list_any (eq_by_cmp key_cmp key) layout.functions.items
+
+-- whether some program does
+abbrev pub is_reached : List Layout → FunctionKey → Bool
+is_reached layouts key = list_any (λ layout. reaches layout key) layouts
+
+-- the keys of the functions that none reaches, in their order
+abbrev pub unreached_keys : Object → List Layout → List FunctionKey
+unreached_keys o layouts = filter (λ key. not (is_reached layouts key)) (keys_of (entries o.functions))
+
+-- ---- which programs use what: those of which some function that they reach does.
+
+-- the numbers of the programs whose layouts pass a test, from 0 on, rising
+abbrev pub numbers_of : (Layout → Bool) → List Layout → List ℕ
+numbers_of uses layouts = map (λ e. e.0) (filter (λ e. uses e.1) (enumerate_from 0 layouts))
+
+abbrev pub if_any : List ℕ → Option (List ℕ)
+if_any [] = None
+if_any (n ∷ ns) = Some (n ∷ ns)
+
+-- at each thing the numbers of the programs that use it, where some does
+abbrev pub AreUsers : {K : Type 0} {R : K → K → Ordering} → (K → Layout → Bool) → List Layout → FinMap R (List ℕ) → Type 0
+AreUsers {K} uses layouts users = (used : K) → get users used ≡ if_any (numbers_of (uses used) layouts)
+
+-- whether some function that a program reaches calls a helper function
+abbrev pub calls : Object → ℕ → Layout → Bool
+calls o helper layout = list_any (λ key. calls_helper (get o.functions key) helper) layout.functions.items
+
+-- whether the map of a name is among those that a function uses
+abbrev pub has_use : Option (List MapUse) → List ℕ → Bool
+has_use None name = false
+has_use (Some uses) name = list_any (λ u. eq_by_cmp text_cmp name u.name) uses
+
+-- whether some function that a program reaches uses a map, by the maps that each function uses
+abbrev pub uses_map : FinMap key_cmp (List MapUse) → List ℕ → Layout → Bool
+uses_map uses name layout = list_any (λ key. has_use (get uses key) name) layout.functions.items
+
+-- ---- what `ebpf list` writes from: the object's tables, row by row, in their order. The maps are read of the object itself.
+
+-- what stands in an object as it was parsed: its programs, its externs, those that the kernel's configuration gives, and the
+-- maps that its functions use
+pub record IsWanted (o : Object) (w : Wanted) : Type 0 where
+  pub programs : map program_row w.programs.items ≡ program_rows o.programs
+  pub externs : w.externs ≡ extern_rows o
+  pub settings : w.settings ≡ object_settings o.btf
+  pub map_uses : w.map_uses ≡ function_maps o
+
+-- what each of its programs is made of, once its externs are written as if a kernel had them all; a program alone where one
+-- of them can't be written
+pub record AreObjectLayouts (before : Object) (w : Wanted) (after : Object) (made : List Layout) : Type 0 where
+  pub is_written : Bool
+  pub written : WritesExterns before w.settings after is_written
+  pub each : MatchBool is_written (AreLayouts after w.programs.items made) (AllZip IsOfOne w.programs.items made)
+
+-- what is told of an object with these layouts: which of its programs use which maps and helper functions, and the functions
+-- that none of them reaches
+pub record IsListing (o : Object) (w : Wanted) (made : List Layout) (l : Listing) : Type 0 where
+  pub object : l.object.now ≡ o
+  pub wanted : l.wanted.now ≡ w
+  pub layouts : l.layouts.now ≡ made
+  pub map_users : AreUsers (uses_map w.map_uses) made l.map_users
+  pub helper_users : AreUsers (calls o) made l.helper_users
+  pub unreached : l.unreached.items ≡ unreached_keys o made
+
+-- Of a parsed object: all that is told, where the layouts are those of its programs. But for its externs and the slots of its
+-- functions the object is as it was parsed, its maps among the rest.
+pub record IsListed (parsed : Object) (l : Listing) : Type 0 where
+  pub object : l.object.now ≡ record parsed { externs = l.object.now.externs; functions = l.object.now.functions }
+  pub wanted : IsWanted parsed l.wanted.now
+  pub layouts : AreObjectLayouts parsed l.wanted.now l.object.now l.layouts.now
+  pub listing : IsListing l.object.now l.wanted.now l.layouts.now l

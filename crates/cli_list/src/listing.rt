@@ -1,0 +1,287 @@
+//! What an object has.
+
+ghost use Rattle.std.specs.Prelude.{◌≡◌, IfOk};
+ghost use Rattle.std.specs.Option.{option_copied};
+ghost use Rattle.cli_list.specs.Listings.{extern_row, extern_rows, is_func, is_function, AreObjectLayouts, IsListed, IsListing, IsWanted};
+ghost use Rattle.ebpf_object.specs.declared.object.Object.{Object};
+
+use crate::layout::{Layout, layouts_if, unreached, write_externs};
+use crate::records::{Asked, counted_records};
+use crate::users::{helper_users, map_users};
+use cli_common::map_uses::{MapUse, map_uses};
+use cli_common::names::{Quoted, Shown};
+use cli_common::programs::{ObjectProgram, object_programs};
+use cli_common::settings::object_settings;
+use ebpf_base::{ByKey, ByName, ByNumber, Items, Text};
+use ebpf_btf::{Btf, BtfError, BtfType};
+use ebpf_elf::ElfFile;
+use ebpf_model::ExternDesc;
+use ebpf_object::Object;
+use std::alloc::{AllocError, Global};
+use std::collections::BTreeMap;
+use std::{fmt, str};
+
+/// Bytes as text shows them: a text as a name is shown, and other bytes one by one, `\xNN` where they aren't printable
+/// ASCII.
+#[derive(Clone, Copy)]
+pub struct ShownBytes<'a>(pub &'a [u8]);
+
+/// Bytes as JSON has them, between quotes; of bytes that are no text each beyond ASCII is U+FFFD.
+#[derive(Clone, Copy)]
+pub struct QuotedBytes<'a>(pub &'a [u8]);
+
+/// Writes a byte of what is no text.
+fn write_byte<W: fmt::Write>(f: &mut fmt::Formatter<W>, byte: u8) -> fmt::Result {
+    if byte == b'\\' || !matches!(byte, b' '..=b'~') {
+        return write!(f, "\\x{byte:02x}");
+    }
+    f.write_char(char::from(byte))
+}
+
+impl fmt::Display for ShownBytes<'_> {
+    fn fmt<W: fmt::Write>(&self, f: &mut fmt::Formatter<W>) -> fmt::Result {
+        if let Ok(text) = str::from_utf8(self.0) {
+            let text = Shown(text);
+            return write!(f, "{text}");
+        }
+        for byte in self.0 {
+            write_byte(f, *byte)?;
+        }
+        Ok(())
+    }
+}
+
+/// Writes a byte of what is no text as JSON has it.
+fn write_quoted_byte<W: fmt::Write>(f: &mut fmt::Formatter<W>, byte: u8) -> fmt::Result {
+    if byte >= 0x80 {
+        return f.write_char('\u{fffd}');
+    }
+    if byte == b'"' || byte == b'\\' {
+        f.write_char('\\')?;
+    }
+    if byte < b' ' || byte == 0x7f {
+        return write!(f, "\\u{byte:04x}");
+    }
+    f.write_char(char::from(byte))
+}
+
+impl fmt::Display for QuotedBytes<'_> {
+    fn fmt<W: fmt::Write>(&self, f: &mut fmt::Formatter<W>) -> fmt::Result {
+        if let Ok(text) = str::from_utf8(self.0) {
+            let text = Quoted(text);
+            return write!(f, "{text}");
+        }
+        f.write_char('"')?;
+        for byte in self.0 {
+            write_quoted_byte(f, *byte)?;
+        }
+        f.write_char('"')
+    }
+}
+
+/// An extern.
+#[derive(Drop)]
+pub struct Extern {
+    /// Its name.
+    pub name: Text,
+    /// Whether it is a function; else it is a variable.
+    pub is_function: bool,
+    /// Whether its type is compared with the kernel's.
+    pub is_typed: bool,
+    /// Whether it may be absent.
+    pub is_weak: bool,
+}
+
+/// What stands in an object before its externs are written.
+#[derive(Drop)]
+pub struct Wanted {
+    /// The programs, in byte order of their names.
+    pub programs: Vec<ObjectProgram>,
+    /// The externs, in byte order of their names.
+    pub externs: Items<Extern>,
+    /// The names of the externs that the kernel's configuration gives.
+    pub settings: Items<Text>,
+    /// The maps that functions use.
+    pub map_uses: ByKey<Items<MapUse>>,
+    /// How many types the file has, where it has some.
+    pub types: Option<usize>,
+}
+
+/// What an object has, table by table.
+#[derive(Drop)]
+pub struct Listing<'a> {
+    /// The object.
+    pub object: &'a Object,
+    /// What stood in it.
+    pub wanted: &'a Wanted,
+    /// What each program is made of, in the order of the programs.
+    pub layouts: &'a Items<Layout>,
+    /// The programs that use a map, by the map's name.
+    pub map_users: ByName<Items<usize>>,
+    /// The programs that call a helper function, by its number.
+    pub helper_users: ByNumber<Items<usize>>,
+    /// How many CO-RE records ask what of which type.
+    pub records: BTreeMap<Asked, usize>,
+    /// The functions that no program reaches.
+    pub unreached: Vec<(usize, u64)>,
+}
+
+/// Whether the type of an id is a function.
+#[tactic(auto, unfolding(crate::specs::Listings::is_func))]
+fn is_func(types: &Btf, id: u32) -> bool
+    ensures { result ≡ is_func types.now id }
+{
+    match types.type_by_id(id) {
+        Ok(BtfType::Func { .. }) => true,
+        _ => false,
+    }
+}
+
+/// Whether the type of an id is a function; without types none is.
+fn is_function(types: Option<&Btf>, id: u32) -> bool
+    ensures { result ≡ is_function (option_copied types.entry) id }
+{
+    match types {
+        Some(types) => is_func(types, id),
+        None => false,
+    }
+}
+
+/// An extern of a name.
+fn extern_of(
+    alloc: Global,
+    types: Option<&Btf>,
+    name: &str,
+    known: &ExternDesc,
+) -> Result<Extern, AllocError>
+    ensures { IfOk result (λ row. row ≡ extern_row (option_copied types.entry) name.now known.now) }
+{
+    Ok(Extern {
+        name: Text::from_str(alloc, name)?,
+        is_function: is_function(types, known.btf_id),
+        is_typed: known.is_typed,
+        is_weak: known.is_weak,
+    })
+}
+
+/// The externs of an object.
+fn externs(alloc: Global, object: &Object) -> Result<Items<Extern>, AllocError>
+    ensures { IfOk result (λ rows. rows ≡ extern_rows object.now) }
+{
+    let mut all = Items::new(alloc);
+    for (name, known) in object.externs.iter() {
+        all.push(extern_of(alloc, object.btf.as_ref(), name.as_str(), known)?)?;
+    }
+    Ok(all)
+}
+
+/// How many types a file has, without void; None where it has none. To those of its object the variable is added that
+/// stands for the kernel's functions.
+fn file_types(alloc: Global, file: &[u8], object: &Object) -> Result<Option<usize>, AllocError> {
+    let Ok(file) = ElfFile::parse(file) else {
+        return Ok(None);
+    };
+    let Some(section) = file.section_by_name(".BTF") else {
+        return Ok(None);
+    };
+    let Ok(bytes) = section.data() else {
+        return Ok(None);
+    };
+    match Btf::parse(alloc, bytes, object.endianness) {
+        Ok(types) => Ok(Some(types.len().saturating_sub(1))),
+        Err(BtfError::OutOfMemory) => Err(AllocError),
+        Err(_) => Ok(None),
+    }
+}
+
+/// What stands in an object.
+pub fn wanted_by(alloc: Global, file: &[u8], object: &Object) -> Result<Wanted, AllocError>
+    ensures { IfOk result (λ wanted. IsWanted object.now wanted) }
+{
+    let programs = object_programs(alloc, file, object)?;
+    let externs = externs(alloc, object)?;
+    let settings = object_settings(alloc, object)?;
+    let map_uses = map_uses(alloc, object)?;
+    let types = file_types(alloc, file, object)?;
+    Ok(Wanted {
+        programs,
+        externs,
+        settings,
+        map_uses,
+        types,
+    })
+}
+
+/// What each program of an object is made of. Its externs are written meanwhile.
+pub fn layouts_of(
+    alloc: Global,
+    object: &mut Object,
+    wanted: &Wanted,
+) -> Result<Items<Layout>, AllocError>
+    ensures { IfOk result (λ layouts. AreObjectLayouts object.old wanted.now object.new layouts) }
+{
+    let is_written = write_externs(alloc, object, wanted.settings.as_slice())?;
+    layouts_if(alloc, object, wanted.programs.as_slice(), is_written)
+}
+
+/// What an object has, whose externs are written.
+pub fn listing_of<'a>(
+    alloc: Global,
+    object: &'a Object,
+    wanted: &'a Wanted,
+    layouts: &'a Items<Layout>,
+) -> Result<Listing<'a>, AllocError>
+    ensures tables { IfOk result (λ listing. IsListing object.now wanted.now layouts.now listing) }
+    ensures listed { (parsed : Object) → IsWanted parsed wanted.now → AreObjectLayouts parsed wanted.now object.now layouts.now → IfOk result (λ listing. IsListed parsed listing) }
+{
+    let made = layouts.as_slice();
+    let map_users = map_users(alloc, &wanted.map_uses, made)?;
+    let helper_users = helper_users(alloc, object, made)?;
+    let records = counted_records(alloc, object)?;
+    let unreached = unreached(alloc, object, made)?;
+    Ok(Listing {
+        object,
+        wanted,
+        layouts,
+        map_users,
+        helper_users,
+        records,
+        unreached,
+    })
+}
+
+impl<'a> Listing<'a> {
+    /// The license, where the file states one.
+    pub fn license(&self) -> Option<&[u8]> {
+        if self.object.states_license() {
+            Some(self.object.license.as_slice())
+        } else {
+            None
+        }
+    }
+
+    /// How many CO-RE records there are.
+    pub fn record_count(&self) -> usize {
+        let mut all: usize = 0;
+        for (_, count) in self.records.iter() {
+            all = all.saturating_add(*count);
+        }
+        all
+    }
+
+    /// How many slots the function of a key has.
+    pub fn slots_of(&self, key: (usize, u64)) -> usize {
+        match self.object.functions.get(key) {
+            Some(function) => function.instructions.len(),
+            None => 0,
+        }
+    }
+
+    /// The numbers of the programs that use the map of a name.
+    pub fn users_of_map(&self, name: &str) -> &[usize] {
+        match self.map_users.get(name) {
+            Some(numbers) => numbers.as_slice(),
+            None => &[],
+        }
+    }
+}

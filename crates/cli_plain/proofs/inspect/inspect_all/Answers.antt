@@ -1,0 +1,16 @@
+use Rattle.std.proofs.Common.{ap, ◌∙◌, map, subst}
+use Rattle.std.specs.Prelude.{pos}
+use Rattle.std.specs.Option.{option_copied}
+use Rattle.cli_plain.proofs.Appending.{all_default_passes}
+use Rattle.cli_plain.specs.Linked.{numbered_descriptors}
+use Rattle.ebpf_inspect.specs.Inspected.{IsInspected}
+use Rattle.ebpf_object.specs.Stages.{chosen, descriptor_of}
+use Rattle.cli_plain.proofs.inspect.inspect_all.Goals as goal
+use Rattle.ebpf_parts.specs.declared.reading.Reading.TheVariants.{Stated}
+
+pub returns-in-Ok-inspect_object-clause-inspected : goal.returns-in-Ok-inspect_object-clause-inspected
+returns-in-Ok-inspect_object-clause-inspected g c file parsed =
+    let all = all_default_passes (option_copied c.args.types) c.args.object.maps (chosen c.all_with.result) (map descriptor_of c.deref.result.now) c.all_with.ensures
+    (ap (map descriptor_of) c.deref.ensures.value ∙ c.in-Ok-numbered_descriptors.ensures ∙ ap (numbered_descriptors (pos 0)) (c.as_slice.ensures ∙ c.in-Ok.ensures))
+    in
+    subst (λ steps. IsInspected steps (g.K.SymbolSource.source c.args.kallsyms) Stated file c.in-Ok-inspect_object.reports) all (c.in-Ok-inspect_object.ensures.inspected Stated file parsed)

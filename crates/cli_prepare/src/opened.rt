@@ -1,0 +1,101 @@
+//! An object's file, read, with what words give of a kernel.
+
+ghost use Rattle.std.specs.Prelude.{◌≡◌, [], IfOk, OnOk};
+ghost use Rattle.ebpf_kconfig.specs.KconfigExterns.{kconfig_externs};
+ghost use Rattle.cli_prepare.specs.Opened.{IsOpened};
+
+use crate::kernel::{Kernel, given_kernel};
+use crate::prepared::PrepareWords;
+use crate::settings::define_settings;
+use crate::settings_help::refuse_settings;
+use cli_common::object_file::{parsed_object, read_object};
+use cli_common::programs::ObjectProgram;
+use cli_common::refuse::{Stop, chosen_programs};
+use ebpf_object::Object;
+
+/// An object that was parsed, with what words choose of it and give of a kernel. No pass was made over it.
+#[derive(Drop)]
+pub struct Opened {
+    /// The bytes of its file.
+    pub file: Vec<u8>,
+    /// The object as it was parsed, with the externs defined that the kernel's configuration gives.
+    pub parsed: Object,
+    /// The programs that are chosen, or all, in byte order of their names.
+    pub programs: Vec<ObjectProgram>,
+    /// What is known of a kernel.
+    pub kernel: Kernel,
+}
+
+/// What words choose and give.
+#[derive(Drop)]
+struct Chosen {
+    programs: Vec<ObjectProgram>,
+    kernel: Kernel,
+}
+
+/// Defines the externs of an object that the kernel's configuration gives; where they can't be, it is told.
+fn define(
+    rt: &HostRuntime,
+    words: &PrepareWords,
+    parsed: &mut Object,
+    kernel: &Kernel,
+) -> Result<(), Stop>
+    ensures same { OnOk result (kconfig_externs parsed.old.btf parsed.old.symbol_table ≡ [] → parsed.new ≡ parsed.old) }
+{
+    match define_settings(rt.alloc(), parsed, kernel) {
+        Ok(()) => Ok(()),
+        Err(error) => {
+            let stop = refuse_settings(rt, words, &error);
+            drop(error);
+            Err(stop)
+        }
+    }
+}
+
+/// What words choose of an object that was parsed and give of a kernel; the externs are defined that its configuration gives.
+fn chosen_of(
+    rt: &HostRuntime,
+    words: &PrepareWords,
+    file: &[u8],
+    parsed: &mut Object,
+) -> Result<Chosen, Stop>
+    ensures same { OnOk result (kconfig_externs parsed.old.btf parsed.old.symbol_table ≡ [] → parsed.new ≡ parsed.old) }
+{
+    let (path, names) = (words.file.as_str(), words.programs.as_slice());
+    let programs = chosen_programs(rt, words.json, path, file, parsed, names)?;
+    let kernel = given_kernel(rt, words, parsed.endianness)?;
+    define(rt, words, parsed, &kernel)?;
+    Ok(Chosen { programs, kernel })
+}
+
+/// An object with what was chosen of it.
+fn with_chosen(file: Vec<u8>, parsed: Object, chosen: Chosen) -> Opened
+    ensures file { result.file ≡ file }
+    ensures parsed { result.parsed ≡ parsed }
+{
+    let Chosen { programs, kernel } = chosen;
+    Opened {
+        file,
+        parsed,
+        programs,
+        kernel,
+    }
+}
+
+/// Reads the object's file, broadly, then the kernel's types, symbols and configuration that words give, and defines the
+/// externs that the configuration gives. What is refused is told: with status 2 where a file can't be read or a name is no
+/// program's, with status 1 where the object is refused.
+#[tactic(auto, using(crate::proofs::OpenedObjects::still_parsed))]
+pub fn open_file(rt: &HostRuntime, words: &PrepareWords) -> Result<Opened, Stop>
+    ensures { IfOk result IsOpened }
+{
+    let file = read_object(rt, words.json, words.file.as_str(), words.object)?;
+    let mut parsed = parsed_object(rt, words.json, words.file.as_str(), &file)?;
+    match chosen_of(rt, words, &file, &mut parsed) {
+        Ok(chosen) => Ok(with_chosen(file, parsed, chosen)),
+        Err(stop) => {
+            drop(parsed);
+            Err(stop)
+        }
+    }
+}

@@ -1,0 +1,409 @@
+//! The words of a command line of `ebpf`.
+
+use cli_check::CheckWords;
+use cli_link::LinkWords;
+use cli_list::ListWords;
+use cli_prepare::{PrepareWords, version_number};
+use ebpf_base::{Items, Text};
+use std::alloc::{AllocError, AllocFailed, Global};
+use thiserror::Error;
+
+/// What a command line asks for.
+#[derive(Drop)]
+pub enum Command {
+    /// What `ebpf` does, in general.
+    Help,
+    /// What `ebpf check` does.
+    CheckHelp,
+    /// What `ebpf list` does.
+    ListHelp,
+    /// What `ebpf inspect` does.
+    InspectHelp,
+    /// What `ebpf link` does.
+    LinkHelp,
+    /// The program's version.
+    Version,
+    /// An object's programs over kernels.
+    Check(CheckWords),
+    /// What an object has.
+    List(ListWords),
+    /// What an object's linked programs are made of.
+    Inspect(PrepareWords),
+    /// An object's linked programs.
+    Link(LinkWords),
+}
+
+/// Why words can't be read.
+#[derive(Clone, Copy, Debug, Error)]
+pub enum WordsError<'a> {
+    /// There is no word.
+    #[error("no command")]
+    NoCommand,
+    /// The first word is no command.
+    #[error("no command {0}")]
+    UnknownCommand(&'a str),
+    /// A word is no option that the command has.
+    #[error("no option {0}")]
+    UnknownOption(&'a str),
+    /// An option is without its value.
+    #[error("{0} needs a value")]
+    NoValue(&'a str),
+    /// An option has a value that it doesn't take.
+    #[error("{0} takes no value")]
+    NeedlessValue(&'a str),
+    /// An option that is given once has a second value.
+    #[error("{0} is given twice")]
+    SecondValue(&'a str),
+    /// An option has a value that is no number.
+    #[error("{name} takes a number, and not {value}")]
+    NoNumber { name: &'a str, value: &'a str },
+    /// An option has a value that is no version of a kernel.
+    #[error("{name} takes a version, as 6.12 or 6.12.3, and not {value}")]
+    NoVersion { name: &'a str, value: &'a str },
+    /// No file is named.
+    #[error("no FILE")]
+    NoFile,
+    /// A second file is named, of a command that takes one.
+    #[error("one FILE, and not {0}")]
+    SecondFile(&'a str),
+    /// No memory was found.
+    #[error("out of memory")]
+    OutOfMemory,
+}
+
+impl From<AllocError> for WordsError<'_> {
+    fn from(_error: AllocError) -> Self {
+        WordsError::OutOfMemory
+    }
+}
+
+impl<T: Drop> From<AllocFailed<T>> for WordsError<'_> {
+    fn from(_error: AllocFailed<T>) -> Self {
+        WordsError::OutOfMemory
+    }
+}
+
+/// A command that reads an object.
+#[derive(Clone, Copy, PartialEq, Eq)]
+enum Verb {
+    Check,
+    List,
+    Inspect,
+    Link,
+}
+
+impl Verb {
+    /// Whether it links programs, for a kernel that options may name.
+    fn links(self) -> bool {
+        matches!(self, Verb::Inspect | Verb::Link)
+    }
+}
+
+/// An option of a command.
+#[derive(Clone, Copy, PartialEq, Eq)]
+enum Choice {
+    Program,
+    Object,
+    Btf,
+    Kallsyms,
+    Kconfig,
+    Kernel,
+    All,
+    Bytes,
+    Lines,
+    Json,
+    Help,
+    Version,
+}
+
+/// The option of a name that a command has.
+fn choice_of(verb: Verb, name: &str) -> Option<Choice> {
+    match name {
+        "--program" if verb != Verb::List => Some(Choice::Program),
+        "--object" => Some(Choice::Object),
+        "--btf" if verb.links() => Some(Choice::Btf),
+        "--kallsyms" if verb.links() => Some(Choice::Kallsyms),
+        "--kconfig" if verb.links() => Some(Choice::Kconfig),
+        "--kernel" if verb.links() => Some(Choice::Kernel),
+        "--all" if verb == Verb::Check => Some(Choice::All),
+        "--bytes" if verb == Verb::Link => Some(Choice::Bytes),
+        "--lines" if verb == Verb::Link => Some(Choice::Lines),
+        "-j" | "--json" if verb != Verb::Link => Some(Choice::Json),
+        "-h" | "--help" => Some(Choice::Help),
+        "-V" | "--version" => Some(Choice::Version),
+        _ => None,
+    }
+}
+
+/// Whether a word is an option where options may stand. A single dash is a file's name.
+fn is_option(word: &str) -> bool {
+    word.starts_with('-') && word != "-"
+}
+
+/// An option's name, and what stands behind the first `=` of a word that begins with two dashes.
+fn parted(word: &str) -> (&str, Option<&str>) {
+    if !word.starts_with("--") {
+        return (word, None);
+    }
+    match word.split_once('=') {
+        Some((name, value)) => (name, Some(value)),
+        None => (word, None),
+    }
+}
+
+/// What words have said so far: options without a value, and the values of those that are given once, as they are or as
+/// the numbers that they say.
+#[derive(Drop)]
+struct Options<'a> {
+    files: Vec<&'a str>,
+    programs: Vec<&'a str>,
+    chosen: Vec<Choice>,
+    values: Vec<(Choice, &'a str)>,
+    object: Option<usize>,
+    kernel: Option<u32>,
+}
+
+/// Copies of words.
+fn copies(alloc: Global, words: &[&str]) -> Result<Items<Text>, AllocError> {
+    let mut texts = Items::new(alloc);
+    for word in words {
+        texts.push(Text::from_str(alloc, word)?)?;
+    }
+    Ok(texts)
+}
+
+/// A copy of a word that may be absent.
+fn copy(alloc: Global, word: Option<&str>) -> Result<Option<Text>, AllocError> {
+    match word {
+        Some(word) => Ok(Some(Text::from_str(alloc, word)?)),
+        None => Ok(None),
+    }
+}
+
+/// The number that is an option's value.
+fn number_of<'a>(name: &'a str, value: &'a str) -> Result<usize, WordsError<'a>> {
+    match value.parse() {
+        Ok(number) => Ok(number),
+        Err(_) => Err(WordsError::NoNumber { name, value }),
+    }
+}
+
+/// The version that is an option's value.
+fn version_of<'a>(name: &'a str, value: &'a str) -> Result<u32, WordsError<'a>> {
+    match version_number(value) {
+        Some(version) => Ok(version),
+        None => Err(WordsError::NoVersion { name, value }),
+    }
+}
+
+/// Whether an option has a value.
+fn has_value(choice: Choice) -> bool {
+    matches!(
+        choice,
+        Choice::Program
+            | Choice::Object
+            | Choice::Btf
+            | Choice::Kallsyms
+            | Choice::Kconfig
+            | Choice::Kernel
+    )
+}
+
+impl<'a> Options<'a> {
+    fn new(alloc: Global) -> Options<'a> {
+        Options {
+            files: Vec::new(alloc),
+            programs: Vec::new(alloc),
+            chosen: Vec::new(alloc),
+            values: Vec::new(alloc),
+            object: None,
+            kernel: None,
+        }
+    }
+
+    /// Whether an option without a value was given.
+    fn has(&self, choice: Choice) -> bool {
+        self.chosen.contains(&choice)
+    }
+
+    /// The value of an option that is given once.
+    fn value(&self, choice: Choice) -> Option<&'a str> {
+        let (_, value) = self.values.iter().find(|(of, _)| *of == choice)?;
+        Some(*value)
+    }
+
+    /// Notes the value of an option of a name.
+    fn take(
+        &mut self,
+        choice: Choice,
+        name: &'a str,
+        value: &'a str,
+    ) -> Result<(), WordsError<'a>> {
+        match choice {
+            Choice::Program => return Ok(self.programs.push(value)?),
+            _ if self.value(choice).is_some() => return Err(WordsError::SecondValue(name)),
+            Choice::Object => self.object = Some(number_of(name, value)?),
+            Choice::Kernel => self.kernel = Some(version_of(name, value)?),
+            _ => {}
+        }
+        self.values.push((choice, value))?;
+        Ok(())
+    }
+
+    /// The one file that is named.
+    fn one_file(&self) -> Result<&'a str, WordsError<'a>> {
+        let Some((file, others)) = self.files.split_first() else {
+            return Err(WordsError::NoFile);
+        };
+        match others.first() {
+            Some(other) => Err(WordsError::SecondFile(other)),
+            None => Ok(file),
+        }
+    }
+
+    /// What `ebpf check` is asked for.
+    fn check(&self, alloc: Global) -> Result<Command, WordsError<'a>> {
+        let Some((file, kernels)) = self.files.split_first() else {
+            return Err(WordsError::NoFile);
+        };
+        Ok(Command::Check(CheckWords {
+            file: Text::from_str(alloc, file)?,
+            object: self.object,
+            kernels: copies(alloc, kernels)?,
+            programs: copies(alloc, &self.programs)?,
+            all: self.has(Choice::All),
+            json: self.has(Choice::Json),
+        }))
+    }
+
+    /// What `ebpf list` is asked for.
+    fn list(&self, alloc: Global) -> Result<Command, WordsError<'a>> {
+        let file = self.one_file()?;
+        Ok(Command::List(ListWords {
+            file: Text::from_str(alloc, file)?,
+            object: self.object,
+            json: self.has(Choice::Json),
+        }))
+    }
+
+    /// What is to be prepared.
+    fn prepare(&self, alloc: Global) -> Result<PrepareWords, WordsError<'a>> {
+        let file = self.one_file()?;
+        Ok(PrepareWords {
+            file: Text::from_str(alloc, file)?,
+            object: self.object,
+            btf: copy(alloc, self.value(Choice::Btf))?,
+            kallsyms: copy(alloc, self.value(Choice::Kallsyms))?,
+            kconfig: copy(alloc, self.value(Choice::Kconfig))?,
+            kernel: self.kernel,
+            programs: copies(alloc, &self.programs)?,
+            json: self.has(Choice::Json),
+        })
+    }
+
+    /// What `ebpf inspect` is asked for.
+    fn inspect(&self, alloc: Global) -> Result<Command, WordsError<'a>> {
+        Ok(Command::Inspect(self.prepare(alloc)?))
+    }
+
+    /// What `ebpf link` is asked for.
+    fn link(&self, alloc: Global) -> Result<Command, WordsError<'a>> {
+        Ok(Command::Link(LinkWords {
+            prepare: self.prepare(alloc)?,
+            bytes: self.has(Choice::Bytes),
+            lines: self.has(Choice::Lines),
+        }))
+    }
+
+    /// What a command is asked for.
+    fn command(&self, alloc: Global, verb: Verb) -> Result<Command, WordsError<'a>> {
+        if self.has(Choice::Version) && !self.has(Choice::Help) {
+            return Ok(Command::Version);
+        }
+        match verb {
+            Verb::Check if self.has(Choice::Help) => Ok(Command::CheckHelp),
+            Verb::List if self.has(Choice::Help) => Ok(Command::ListHelp),
+            Verb::Inspect if self.has(Choice::Help) => Ok(Command::InspectHelp),
+            Verb::Link if self.has(Choice::Help) => Ok(Command::LinkHelp),
+            Verb::Check => self.check(alloc),
+            Verb::List => self.list(alloc),
+            Verb::Inspect => self.inspect(alloc),
+            Verb::Link => self.link(alloc),
+        }
+    }
+}
+
+/// Reads an option; itself with its name, where the next word is its value.
+fn read_option<'a>(
+    verb: Verb,
+    options: &mut Options<'a>,
+    word: &'a str,
+) -> Result<Option<(Choice, &'a str)>, WordsError<'a>> {
+    let (name, value) = parted(word);
+    let Some(choice) = choice_of(verb, name) else {
+        return Err(WordsError::UnknownOption(word));
+    };
+    match value {
+        Some(value) if has_value(choice) => {
+            options.take(choice, name, value)?;
+            Ok(None)
+        }
+        Some(_) => Err(WordsError::NeedlessValue(name)),
+        None if has_value(choice) => Ok(Some((choice, name))),
+        None => {
+            options.chosen.push(choice)?;
+            Ok(None)
+        }
+    }
+}
+
+/// Reads the words behind a command.
+fn read_options<'a>(
+    alloc: Global,
+    verb: Verb,
+    words: &'a [String],
+) -> Result<Command, WordsError<'a>> {
+    let mut options = Options::new(alloc);
+    let mut waits = None;
+    let mut only_files = false;
+    for word in words {
+        let word = word.as_str();
+        if let Some((choice, name)) = waits {
+            options.take(choice, name, word)?;
+            waits = None;
+        } else if only_files || !is_option(word) {
+            options.files.push(word)?;
+        } else if word == "--" {
+            only_files = true;
+        } else {
+            waits = read_option(verb, &mut options, word)?;
+        }
+    }
+    match waits {
+        Some((_, name)) => Err(WordsError::NoValue(name)),
+        None => options.command(alloc, verb),
+    }
+}
+
+/// What the words of a command line ask for: a command with its words, `--help` or `--version`. An option may stand
+/// anywhere before `--`, with `=` and its value or with its value as the next word.
+///
+/// # Errors
+///
+/// `NoCommand`, `UnknownCommand`, and of a command the first word that can't be read, in their order, also a second value; `NoValue`
+/// where the last option lacks its value; `NoFile`, `SecondFile`. `OutOfMemory` where memory is refused.
+pub fn read_words<'a>(alloc: Global, words: &'a [String]) -> Result<Command, WordsError<'a>> {
+    let Some((first, rest)) = words.split_first() else {
+        return Err(WordsError::NoCommand);
+    };
+    match first.as_str() {
+        "check" => read_options(alloc, Verb::Check, rest),
+        "list" => read_options(alloc, Verb::List, rest),
+        "inspect" => read_options(alloc, Verb::Inspect, rest),
+        "link" => read_options(alloc, Verb::Link, rest),
+        "-h" | "--help" | "help" => Ok(Command::Help),
+        "-V" | "--version" => Ok(Command::Version),
+        word if is_option(word) => Err(WordsError::UnknownOption(word)),
+        word => Err(WordsError::UnknownCommand(word)),
+    }
+}

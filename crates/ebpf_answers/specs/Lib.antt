@@ -1,5 +1,0 @@
-pub mod Answers
-pub mod Refusals
-pub mod Listing
-pub mod Loading
-pub mod Numbers

@@ -1,6 +1,0 @@
-use Rattle.std.proofs.Common.{◌≡◌, ◌<◌, ◌≤◌, ℕ, false, drop}
-use Rattle.ebpf_embedded.specs.Objects.{is_object}
-use Rattle.ebpf_embedded.proofs.objects.next_object.Given as goal
-
-abbrev pub invariant-loop-start : goal.invariant-loop-start
-invariant-loop-start l = (place : ℕ) → l.from ≤ place → place < l.start → is_object (drop place l.file) ≡ false

@@ -1,7 +1,0 @@
-use Rattle.ebpf_list.proofs.Using.{Completes}
-use Rattle.ebpf_list.specs.Listings.{IsLayout}
-use Rattle.ebpf_list.proofs.layout.layouts_in.Given as goal
-
--- with the layouts of the programs that are left, all are there
-abbrev pub invariant-loop-program : goal.invariant-loop-program
-invariant-loop-program l = Completes (IsLayout l.maps.object.now) l.programs l.program-index l.all

@@ -1,7 +1,0 @@
-use Rattle.ebpf_list.proofs.Using.{Completes}
-use Rattle.ebpf_list.specs.Listings.{IsOfOne}
-use Rattle.ebpf_list.proofs.layout.unlinked_layouts.Given as goal
-
--- with the layouts of the programs that are left, all are there
-abbrev pub invariant-loop-program : goal.invariant-loop-program
-invariant-loop-program l = Completes IsOfOne l.programs l.program-index l.all

@@ -1,9 +1,0 @@
-use Rattle.ebpf_list.proofs.listing.wanted_by.Goals as goal
-
-pub returns : goal.returns
-returns c = record {
-  programs = c.in_ok-programs.ensures;
-  externs = c.in_ok-externs.ensures;
-  settings = c.in_ok-settings.ensures;
-  map_uses = c.in_ok-map_uses.ensures;
-}

@@ -1,8 +1,0 @@
-use Rattle.ebpf_list.proofs.Counted.{record_more}
-use Rattle.ebpf_list.proofs.records.count_section.Goals as goal
-
-pub loop-record-preserved : goal.loop-record-preserved
-loop-record-preserved c = λ asked low.
-    let before = c.loop-record.invariant asked low in
-    record_more c.args.records.now c.loop-record.record-index _ c.loop-record.counts c.count_record.new.counts asked _ c.loop-record-test.true
-    (c.in_ok-count_record.ensures asked) before.0 before.1

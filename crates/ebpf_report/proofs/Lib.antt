@@ -1,4 +1,0 @@
-pub mod FirstEntries
-pub mod LentNames
-pub mod Ranges
-pub mod SortedKeys

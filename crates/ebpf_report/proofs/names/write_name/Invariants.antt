@@ -1,7 +1,0 @@
-use Rattle.std.proofs.Common.{flat_map}
-use Rattle.std.specs.Fmt.{HasWritten, IsPlainFormatter}
-use Rattle.ebpf_report.specs.Shown.{shown_char}
-use Rattle.ebpf_report.proofs.names.write_name.Given as goal
-
-abbrev pub invariant-loop-c : goal.invariant-loop-c
-invariant-loop-c g l = IsPlainFormatter l.initial.f → HasWritten g.W.Write.write_str_gives l.initial.f (flat_map shown_char l.yielded) l.f

@@ -1,4 +1,0 @@
-use Rattle.ebpf_report.proofs.programs.with_section.Goals as goal
-
-pub returns : goal.returns
-returns c = λ i. (c.in_ok-name.ensures i, c.function_key-key.ensures i)

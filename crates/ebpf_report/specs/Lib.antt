@@ -1,6 +1,0 @@
-pub mod Shown
-pub mod ObjectPrograms
-pub mod HelperCalls
-pub mod FunctionMaps
-pub mod RecordKinds
-pub mod PrivateContracts

@@ -1,5 +1,0 @@
-use Rattle.ebpf_rows.proofs.Rows.{put_over as put_over_entries}
-use Rattle.ebpf_rows.proofs.variables.put_over.Goals as goal
-
-pub returns : goal.returns
-returns c = put_over_entries c.args.globals.now c.insert.new.self c.args.name c.args.value c.in_ok-insert.ensures.updates
