@@ -43,8 +43,8 @@
 extern "C" {
 #endif
 
-/* The version of this interface, 0.3.0, as major * 1000000 + minor * 1000 + patch; ebpf_version_number gives the library's. */
-#define EBPF_VERSION_NUMBER 3000
+/* The version of this interface, 0.4.0, as major * 1000000 + minor * 1000 + patch; ebpf_version_number gives the library's. */
+#define EBPF_VERSION_NUMBER 4000
 
 uint32_t ebpf_version_number(void);
 

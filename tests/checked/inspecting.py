@@ -239,8 +239,8 @@ def words(rows):
         rows.expect(f"words {given}: status", rows.run(*given).returncode, wanted)
     for given in [["inspect", "--help"], ["inspect", "-h", "object"]]:
         ran = rows.row(f"words {given}", given, 0)
-        rows.expect(f"words {given}: usage", ran.stdout.startswith(f"{USAGE}\n\nTells what "), True)
-    rows.row("the version of inspect", ["inspect", "-V"], 0, "ebpf 0.1.0\n")
+        rows.expect(f"words {given}: usage", ran.stdout.startswith(f"{USAGE}\n\nShows the parts of "), True)
+    rows.row("the version of inspect", ["inspect", "-V"], 0, "ebpf 0.4.0\n")
 
 
 def closed_output(rows):

@@ -303,7 +303,7 @@ def refused(rows):
     for given in [["link", "--help"], ["link", "-h"]]:
         ran = rows.row(f"words {given}", given, 0)
         rows.expect(f"words {given}: usage", ran.stdout.startswith("usage: ebpf link FILE "), True)
-    rows.row("the version of link", ["link", "-V"], 0, "ebpf 0.1.0\n")
+    rows.row("the version of link", ["link", "-V"], 0, "ebpf 0.4.0\n")
 
 
 def broad(rows):

@@ -194,7 +194,7 @@ def refused(rows):
     for given in [["list", "--help"], ["list", "-h"]]:
         ran = rows.row(f"words {given}", given, 0)
         rows.expect(f"words {given}: usage", ran.stdout.startswith("usage: ebpf list FILE [--object N] [--json]\n\nLists "), True)
-    rows.row("the version of list", ["list", "-V"], 0, "ebpf 0.1.0\n")
+    rows.row("the version of list", ["list", "-V"], 0, "ebpf 0.4.0\n")
 
 
 def compiled(rows):

@@ -2,8 +2,8 @@
 
 ghost use Rattle.std.specs.Prelude.{◌≡◌};
 
-/// The version 0.3.0 of include/ebpf.h: major * 1000000 + minor * 1000 + patch.
-pub const VERSION_NUMBER: u32 = 3000;
+/// The version 0.4.0 of include/ebpf.h: major * 1000000 + minor * 1000 + patch.
+pub const VERSION_NUMBER: u32 = 4000;
 
 /// The version of the interface as a number, as `EBPF_VERSION_NUMBER` of the header that belongs to this library.
 #[unsafe(no_mangle)]

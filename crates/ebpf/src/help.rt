@@ -1,8 +1,7 @@
-//! What `ebpf` says of itself.
+//! The help texts of `ebpf`.
 
 /// The usage line of `ebpf`.
-pub const USAGE: &str =
-    "usage: ebpf check | inspect | link | list FILE ..   (ebpf --help says more)";
+pub const USAGE: &str = "usage: ebpf check | inspect | link | list FILE ..   (see ebpf --help)";
 
 /// The usage line of `ebpf check`.
 pub const CHECK_USAGE: &str =
@@ -12,98 +11,96 @@ pub const CHECK_USAGE: &str =
 pub const HELP: &str = "usage: ebpf COMMAND ..
        ebpf --help | --version
 
-  check    whether an object's programs run on kernels
-  inspect  what an object's linked programs are made of
-  link     an object's finished programs, as instructions or bytes
-  list     what an object has: programs, maps, helpers, externs, CO-RE records
+  check    check on which kernels the programs of an object run
+  inspect  show the parts of linked programs, and the kernel's limits
+  link     print finished programs as instructions or bytes
+  list     list the programs, maps, helpers, externs and CO-RE relocations of an object
 
-ebpf COMMAND --help says more of a command.";
+Run ebpf COMMAND --help for the options of a command.";
 
-/// What `ebpf check --help` prints behind the usage line.
+/// What `ebpf check --help` prints after the usage line.
 pub const CHECK_HELP: &str = "
-Tells on which kernels the programs of an eBPF object file break, and why: which
-fields, types and enumerators they need that a kernel lacks.
+Reports the kernels on which the programs of an eBPF object file break, and why: the
+fields, types and enumerators that they need and the kernel lacks.
 
-  FILE            an object file, as clang makes it, or a program that holds one
-  --object N      of the objects that FILE holds, this one
-  KERNEL          a kernel's types: raw BTF, an ELF file with a section .BTF, or a
-                  folder of such files; /sys/kernel/btf/vmlinux where none is named
-  --program NAME  looks at this program; may be repeated
-  --all           names every kernel, and tells each offset that moved
-  -j, --json      prints JSON
-  -h, --help      prints this
-  -V, --version   prints the version
+  FILE            an object file of clang, or an executable that contains objects
+  --object N      select the Nth object of FILE
+  KERNEL          the BTF of a kernel: raw BTF, an ELF file with a .BTF section, or a
+                  folder of such files; default: /sys/kernel/btf/vmlinux
+  --program NAME  check this program only; may be repeated
+  --all           list every kernel, and each field whose offset changes
+  -j, --json      print JSON
+  -h, --help      print this help
+  -V, --version   print the version
 
-Status: 0 each program runs on each kernel; 1 one breaks, or FILE is refused;
-2 for other words, and where a file or a kernel's types can't be read.";
+Exit status: 0 if each program runs on each kernel; 1 if a program breaks, or FILE is
+refused; 2 on invalid usage, or if a file or a kernel's BTF can't be read.";
 
 /// The usage line of `ebpf list`.
 pub const LIST_USAGE: &str = "usage: ebpf list FILE [--object N] [--json]";
 
-/// What `ebpf list --help` prints behind the usage line.
+/// What `ebpf list --help` prints after the usage line.
 pub const LIST_HELP: &str = "
-Lists what an eBPF object file has: its programs with their slots before and after
-linking, its maps, the helper functions that its programs call, its externs, the
-values that it wants of the kernel's configuration, its CO-RE records, and the
-functions that no program reaches.
+Lists the contents of an eBPF object file: its programs with their sizes before and
+after linking, its maps, the helper functions that its programs call, its externs, its
+kconfig externs, its CO-RE relocations, and the functions that no program reaches.
 
-  FILE            an object file, as clang makes it, or a program that holds one
-  --object N      of the objects that FILE holds, this one
-  -j, --json      prints JSON
-  -h, --help      prints this
-  -V, --version   prints the version
+  FILE            an object file of clang, or an executable that contains objects
+  --object N      select the Nth object of FILE
+  -j, --json      print JSON
+  -h, --help      print this help
+  -V, --version   print the version
 
-Status: 0; 1 where FILE is refused; 2 for other words, and where it can't be read.";
+Exit status: 0; 1 if FILE is refused; 2 on invalid usage, or if FILE can't be read.";
 
 /// The usage line of `ebpf inspect`.
 pub const INSPECT_USAGE: &str =
     "usage: ebpf inspect FILE [--object N] [--btf FILE] [--kallsyms FILE] [--kconfig FILE] [--kernel VERSION] [--program NAME ..] [--json]";
 
-/// What `ebpf inspect --help` prints behind the usage line.
+/// What `ebpf inspect --help` prints after the usage line.
 pub const INSPECT_HELP: &str = "
-Tells what the programs of an eBPF object file are made of once they are linked with
-the functions that they reach: the copies of functions, the references between them,
-the maps, helper functions and kernel functions that they use, and how far they are
-from the kernel's limits.
+Shows the parts of the linked programs of an eBPF object file: the copies of functions,
+the references between them, the maps, helper functions and kernel functions that they
+use, and how close they are to the kernel's limits.
 
-  FILE              an object file, as clang makes it, or a program that holds one
-  --object N        of the objects that FILE holds, this one
-  --btf FILE        the kernel's types: raw BTF, or an ELF file with a section .BTF
-  --kallsyms FILE   the kernel's symbols, as /proc/kallsyms
-  --kconfig FILE    the kernel's configuration, as /boot/config-6.12
-  --kernel VERSION  the kernel's version, as 6.12 or 6.12.3
-  --program NAME    tells of this program; may be repeated
-  -j, --json        prints JSON
-  -h, --help        prints this
-  -V, --version     prints the version
+  FILE              an object file of clang, or an executable that contains objects
+  --object N        select the Nth object of FILE
+  --btf FILE        the kernel's BTF: raw, or an ELF file with a .BTF section
+  --kallsyms FILE   the kernel's symbols, in the form of /proc/kallsyms
+  --kconfig FILE    the kernel's configuration, such as /boot/config-6.12
+  --kernel VERSION  the kernel's version, such as 6.12 or 6.12.3
+  --program NAME    show this program only; may be repeated
+  -j, --json        print JSON
+  -h, --help        print this help
+  -V, --version     print the version
 
-Status: 0; 1 where FILE is refused; 2 for other words, for a program that FILE lacks,
-and where a file can't be read.";
+Exit status: 0; 1 if FILE is refused; 2 on invalid usage, if FILE lacks a named program,
+or if a file can't be read.";
 
 /// The usage line of `ebpf link`.
 pub const LINK_USAGE: &str =
     "usage: ebpf link FILE [--object N] [--btf FILE] [--kallsyms FILE] [--kconfig FILE] [--kernel VERSION] [--program NAME ..] [--bytes] [--lines]";
 
-/// What `ebpf link --help` prints behind the usage line.
+/// What `ebpf link --help` prints after the usage line.
 pub const LINK_HELP: &str = "
-Prints the finished programs of an eBPF object file as instructions: each linked with
-the functions that it reaches, with the types, maps and externs of a kernel written,
-calls and loads by name, and what CO-RE records wrote.
+Prints the finished programs of an eBPF object file as instructions: each is linked
+with the functions that it reaches, relocated to a kernel's types, and has its map
+descriptors and externs written. Notes name what was called, loaded and relocated.
 
-  FILE              an object file, as clang makes it, or a program that holds one
-  --object N        of the objects that FILE holds, this one
-  --btf FILE        the kernel's types: raw BTF, or an ELF file with a section .BTF
-  --kallsyms FILE   the kernel's symbols, as /proc/kallsyms
-  --kconfig FILE    the kernel's configuration, as /boot/config-6.12
-  --kernel VERSION  the kernel's version, as 6.12 or 6.12.3
-  --program NAME    prints this program; may be repeated
-  --bytes           prints each slot as its bytes
-  --lines           prints source lines above the instructions
-  -h, --help        prints this
-  -V, --version     prints the version
+  FILE              an object file of clang, or an executable that contains objects
+  --object N        select the Nth object of FILE
+  --btf FILE        the kernel's BTF: raw, or an ELF file with a .BTF section
+  --kallsyms FILE   the kernel's symbols, in the form of /proc/kallsyms
+  --kconfig FILE    the kernel's configuration, such as /boot/config-6.12
+  --kernel VERSION  the kernel's version, such as 6.12 or 6.12.3
+  --program NAME    print this program only; may be repeated
+  --bytes           print the bytes of each instruction
+  --lines           print source lines above the instructions
+  -h, --help        print this help
+  -V, --version     print the version
 
-Status: 0; 1 where FILE is refused; 2 for other words, for a program that FILE lacks,
-and where a file can't be read.";
+Exit status: 0; 1 if FILE is refused; 2 on invalid usage, if FILE lacks a named program,
+or if a file can't be read.";
 
 /// What `ebpf --version` prints.
-pub const VERSION: &str = "ebpf 0.1.0";
+pub const VERSION: &str = "ebpf 0.4.0";
