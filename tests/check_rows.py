@@ -200,9 +200,9 @@ def as_json(rows):
     """JSON: its keys in their order, and the facts of the text."""
     ran = rows.row("--json", ["check", "-j", "memdrop.o", "btf"], 1)
     told = json.loads(ran.stdout)
-    keys = ["version", "file", "status", "programs", "kernels", "breaks", "guarded", "changed", "wanted"]
+    keys = ["version", "file", "status", "programs", "kernels", "breaks", "guarded", "changed", "kconfig"]
     rows.expect("--json: keys", list(told), keys)
-    rows.expect("--json: version", told["version"], 1)
+    rows.expect("--json: version", told["version"], 2)
     rows.expect("--json: kernels", told["kernels"], [{"name": "btf/5.18", "breaks": []}, {"name": "btf/6.18", "breaks": ["on_tick"]}])
     place = {
         "program": "on_tick",

@@ -88,7 +88,7 @@ def inspected(rows, name, data, out, *words):
     rows.expect(f"{name}, JSON: one line", ran.stdout.count("\n"), 1)
     told = json.loads(ran.stdout)
     limits = {"slots": 4096, "functions": 256, "call_chain": 8, "maps": 64}
-    rows.expect(f"{name}, JSON: head", {key: told[key] for key in list(told)[:3]}, {"version": 1, "file": "object", "limits": limits})
+    rows.expect(f"{name}, JSON: head", {key: told[key] for key in list(told)[:3]}, {"version": 2, "file": "object", "limits": limits})
     rows.expect(f"{name}, JSON: keys", [list(told), *map(list, told["programs"])], [["version", "file", "limits", "programs"], *[KEYS] * len(told["programs"])])
     return told["programs"]
 

@@ -29,7 +29,7 @@ def refused(rows, name, words, status, file, sentence, stage, variant, help=None
     rows.expect(f"{name}, JSON: status and errors", (ran.returncode, ran.stderr), (status, said))
     rows.expect(f"{name}, JSON: one line", ran.stdout.count("\n"), 1)
     error = {"file": file, "stage": stage, "variant": variant, "text": sentence, "help": help}
-    rows.expect(f"{name}, JSON", json.loads(ran.stdout), {"version": 1, "error": error})
+    rows.expect(f"{name}, JSON", json.loads(ran.stdout), {"version": 2, "error": error})
 
 
 def tiny():

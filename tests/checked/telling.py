@@ -252,7 +252,7 @@ def whole_json(rows):
     own = {"program": "p", "slot": 3, "file": "/src/y.c", "line": 9, "kernels": ["lacks"]}
     values = [{"value": -2, "kernels": ["lacks"]}]
     wanted = {
-        "version": 1,
+        "version": 2,
         "file": "object",
         "status": 2,
         "programs": [{"name": "p", "section": "kprobe/p"}],
@@ -264,7 +264,7 @@ def whole_json(rows):
         "breaks": [{**asked, "places": [inside]}],
         "guarded": [{**asked, "places": [own]}],
         "changed": [{"name": "enum e.A", "kind": "enumval_value", "own": 5, "values": values}],
-        "wanted": ["CONFIG_HZ"],
+        "kconfig": ["CONFIG_HZ"],
     }
     rows.expect("all of JSON: read back", json.loads(ran.stdout), wanted)
 

@@ -228,7 +228,7 @@ fn write_rank<W: Write>(out: &mut W, session: &Session, key: &str, rank: Rank) -
 
 /// Writes the settings of the kernel that the object asks for.
 fn write_settings<W: Write>(out: &mut W, session: &Session) -> io::Result<()> {
-    write!(out, "\"wanted\":[")?;
+    write!(out, "\"kconfig\":[")?;
     for (number, name) in session.loaded.needs.settings.iter().enumerate() {
         separate(out, number == 0)?;
         let name = Quoted(name.as_str());
@@ -241,7 +241,7 @@ fn write_settings<W: Write>(out: &mut W, session: &Session) -> io::Result<()> {
 pub fn write_json<W: Write>(out: &mut W, session: &Session) -> io::Result<()> {
     let file = Quoted(session.file.as_str());
     let status = session.status();
-    write!(out, "{{\"version\":1,\"file\":{file},\"status\":{status},")?;
+    write!(out, "{{\"version\":2,\"file\":{file},\"status\":{status},")?;
     write_programs(out, session)?;
     write!(out, ",")?;
     write_kernels(out, session)?;

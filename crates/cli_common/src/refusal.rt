@@ -67,7 +67,7 @@ impl fmt::Display for RefusalObject<'_> {
         let refusal = self.refusal;
         let (stage, variant) = (refusal.stage, refusal.variant);
         let (path, text) = (Quoted(self.path), Quoted(refusal.text.as_str()));
-        write!(f, "{{\"version\":1,\"error\":{{\"file\":{path}")?;
+        write!(f, "{{\"version\":2,\"error\":{{\"file\":{path}")?;
         write!(f, ",\"stage\":\"{stage}\",\"variant\":\"{variant}\"")?;
         write!(f, ",\"text\":{text},\"help\":")?;
         match &refusal.help {

@@ -148,7 +148,7 @@ pub fn write_json<W: Write>(
     programs: &[ProgramParts<'_>],
 ) -> io::Result<()> {
     let file = Quoted(file);
-    write!(out, "{{\"version\":1,\"file\":{file},")?;
+    write!(out, "{{\"version\":2,\"file\":{file},")?;
     write_limits(out)?;
     write!(out, ",")?;
     write_programs(out, programs)?;

@@ -46,7 +46,7 @@ fn write_file<W: Write>(out: &mut W, file: &str, listing: &Listing<'_>) -> io::R
     let order = order_word(object.endianness);
     write!(
         out,
-        "\"version\":1,\"file\":{file},\"byte_order\":\"{order}\""
+        "\"version\":2,\"file\":{file},\"byte_order\":\"{order}\""
     )?;
     write!(out, ",\"license\":")?;
     write_license(out, listing.license())?;
