@@ -312,6 +312,7 @@ def read_words():
     words.add_argument("--gate", action="store_true", help="only the mutants of gate-edits, not those of more-edits")
     words.add_argument("--all", action="store_true", help="the unchanged ones too")
     words.add_argument("--list", action="store_true", help="prints what each mutant does, and tries none")
+    words.add_argument("--plan", action="store_true", help="prints how many it would try of each crate, and tries none")
     words.add_argument("--jobs", type=int, default=1, help="processes of a check (1)")
     words.add_argument("--crates", type=int, default=1, help="crates that are tried at the same time (1)")
     words.add_argument("names", metavar="NAME", nargs="*", help="a crate; none: each that has mutants")
@@ -330,6 +331,9 @@ def main():
         return 0
     checksums = Checksums(TOP, logic())
     tried = plan(chosen, checksums, given.all)
+    if given.plan:
+        print(f"{sum(map(len, tried.values()))} of {len(chosen)} mutants would be tried")
+        return 0
     passed, failures = 0, []
     with ThreadPoolExecutor(given.crates) as pool:
         for well, why in pool.map(lambda it: try_crate(*it, checksums, given.jobs), tried.items()):
