@@ -7,7 +7,7 @@
 It also checks, without running anything:
 
 - whether each mutant applies, each row of tests/mutants.tsv names one, and their checksums change where they have to;
-- whether docs/API.md is that of the sources, and docs/ERRORS.md the output of test_errors;
+- whether docs/API.md and docs/DEFINITIONS.md are those of the sources, and docs/ERRORS.md the output of test_errors;
 - whether the documents have their form, and the code of docs/LIBRARY.md and README.md is that of the crates that run it.
 
 Ends with 'N passed, M failed', and with status 1 where one failed.
@@ -27,6 +27,7 @@ TOP = Path(__file__).parents[1]
 sys.path.append(str(TOP / "tools"))
 
 import api_page  # noqa: E402
+import definitions  # noqa: E402
 import documents  # noqa: E402
 import errors_page  # noqa: E402
 import library_page  # noqa: E402
@@ -47,6 +48,7 @@ CHECKS = {
     "tests/mutants.tsv in order": mutants.row_misfits,
     "tests of the mutants' checksums": mutants_test.run_cases,
     "items of docs/API.md as the sources have them": api_page.misfits,
+    "rows of docs/DEFINITIONS.md as the sources have them": definitions.misfits,
     "documents in form": documents.misfits,
     "errors that docs/ERRORS.md has as they are printed": errors_page.faults,
     "pieces of docs/LIBRARY.md and README.md that stand": library_page.misfits,

@@ -23,7 +23,7 @@ writes this page from the sources. *Contract* has the clauses that the prover ch
 linked to their files.
 """
 
-ITEM = re.compile(r"^( *)pub (?:const |unsafe )*(fn|struct|enum|trait|type|const|static) (\w+)")
+ITEM = re.compile(r'^( *)pub (?:const |unsafe |extern "C" )*(fn|struct|enum|trait|type|const|static) (\w+)')
 IMPL = re.compile(r"^impl\b(.*)\{$")
 USE = re.compile(r"^pub use ([^;]+);", re.MULTILINE)
 

@@ -10,7 +10,7 @@ from pathlib import Path
 
 TOP = Path(__file__).parents[1]
 COLUMNS, LINES = 120, 12
-# Pages that a tool writes, and a page of one table.
+# Pages that tools write.
 EXCEPTIONS = {"docs/API.md", "docs/ERRORS.md", "docs/DEFINITIONS.md"}
 # Pages with tables of measurements, each of which has its date.
 MEASURED = {"docs/PERFORMANCE.md", "docs/TESTING.md"}
