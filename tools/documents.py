@@ -11,7 +11,7 @@ from pathlib import Path
 TOP = Path(__file__).parents[1]
 COLUMNS, LINES = 120, 12
 # Pages that tools write.
-EXCEPTIONS = {"docs/API.md", "docs/ERRORS.md", "docs/DEFINITIONS.md"}
+EXCEPTIONS = {"docs/API.md", "docs/DEFINITIONS.md"}
 # Pages with tables of measurements, each of which has its date.
 MEASURED = {"docs/PERFORMANCE.md", "docs/TESTING.md"}
 
