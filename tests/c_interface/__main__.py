@@ -5,7 +5,7 @@ import sys
 from pathlib import Path
 
 import make_rows
-from c_interface import builds, compiled, detail_rows, examples, found_rows, growth_rows, loader_rows, more_rows, record_rows, rows_of_objects
+from c_interface import builds, compiled, detail_rows, examples, found_rows, growth_rows, loader_rows, more_rows, page_code, record_rows, rows_of_objects
 from c_interface.runs import Files, run
 from growths.inputs import COUNTER, KERNEL, LINES, REFERENCES, SMALL
 from growths.run import Runner
@@ -121,6 +121,8 @@ def main(folder, library, words):
         count.add("compiled", what, fault)
     for what, fault in [*examples.rust(folder, library), *examples.python(folder, library)]:
         count.add("examples", what, fault)
+    for what, fault in page_code.of_pages(folder, library):
+        count.add("the pages", what, fault)
     if "--no-kernel" not in words:
         of_kernel(folder, count, made)
     print(f"{count.passed} passed, {count.failed} failed")

@@ -5,8 +5,9 @@ import shutil
 import subprocess
 import sys
 
-from c_interface.builds import EXAMPLES, TOP
+from c_interface.builds import EXAMPLES
 from growths.inputs import COUNTER, SMALL
+from shown.blocks import blocks_of
 
 # What is listed of the object that clang made.
 LISTED = """
@@ -56,14 +57,16 @@ def python(folder, library):
     path, fault = shared(folder, library)
     if fault:
         return [("the shared object", fault)]
-    for name, lines in zip(("listed.py", "linked.py"), re.findall(r"```python\n(.*?)```", (TOP / "docs/C.md").read_text(), re.DOTALL)):
-        (folder / name).write_text(lines)
+    blocks = [block for block in blocks_of("docs/C.md") if block.language == "python"]
+    for name, block in zip(("listed.py", "linked.py"), blocks):
+        (folder / name).write_text("".join(f"{line}\n" for line in block.lines))
     (folder / "nothing").write_bytes(b"nothing")
     done = run([sys.executable, folder / "listed.py", COUNTER], cwd=folder)
     refused = run([sys.executable, folder / "listed.py", folder / "nothing"], cwd=folder)
     made = run([sys.executable, folder / "linked.py", SMALL, "p"], cwd=folder)
     absent = run([sys.executable, folder / "linked.py", SMALL, "q"], cwd=folder)
     return [
+        ("the blocks of Python", None if len(blocks) == 2 else f"{len(blocks)} blocks, and 2 are run"),
         ("the lines of Python", None if done.stdout == "on_packet 15\non_wake 13\n" else said(done)),
         ("the same on no object", None if refused.stderr == "refused: 100\n" else said(refused)),
         ("a program's copies", None if made.stdout == "2\n0 p\n2 f\n" else said(made)),
@@ -89,6 +92,11 @@ def number(value):
     return value.to_bytes(8, "little").hex()
 
 
+def ran(size):
+    """What is printed of one packet of a size."""
+    return RAN.format(packets=number(1), bytes=number(size), same=number(1))
+
+
 def loads(loader, folder):
     """Loads the object, runs it on 64 bytes and on 100, and sees what is said where the kernel refuses."""
     path, packet, short = compiled(folder, "counter"), folder / "packet", folder / "short"
@@ -96,8 +104,7 @@ def loads(loader, folder):
     short.write_bytes(bytes(13))
     for size, words in [(64, []), (100, [packet])]:
         done = run([loader, path, "count_packet", "totals", *words])
-        wanted = RAN.format(packets=number(1), bytes=number(size), same=number(1))
-        yield f"{loader.name}, {size} bytes", None if re.fullmatch(wanted, done.stdout) else said(done)
+        yield f"{loader.name}, {size} bytes", None if re.fullmatch(ran(size), done.stdout) else said(done)
     done = run([loader, compiled(folder, "classifier"), "classify", "sums"])
     wanted = rf"program classify slots \d+\nreturned 0\n00000000 {number(64)}{number(1)}\n"
     yield f"{loader.name}, a section whose name says no kind", None if re.fullmatch(wanted, done.stdout) else said(done)

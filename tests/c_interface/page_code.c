@@ -1,0 +1,80 @@
+/*
+ * Runs the C of README.md and docs/C.md. page_code.py writes each block into a file, which is included here behind the
+ * declarations that the page takes for given.
+ *
+ * usage: page_code OBJECT TYPES OTHER      README.md: OBJECT and a kernel's TYPES; docs/C.md: the object OTHER
+ */
+#include "shared.h"
+
+/* The number of slots of a linked program, and where its slot 11 leads. */
+static void prepare(struct bytes object_file, struct bytes kernel)
+{
+	const uint8_t *file = object_file.at, *types = kernel.at, *symbols = (const uint8_t *)"";
+	size_t file_len = object_file.len, types_len = kernel.len, symbols_len = 0;
+	const struct ebpf_descriptor maps[] = { { 0, 6, 1 } };
+	const char names[] = "counts";
+	size_t map_count = 1, names_len = 6, room = 64, count = 0;
+	struct ebpf_insn *slots = zeros(room, sizeof(*slots));
+
+#include "prepared.inc"
+	printf("prepared %u: %zu slots, slot 11 calls %#x\n", refused, count, (unsigned)slots[11].imm);
+	free(slots);
+}
+
+static struct ebpf_handle opened(struct bytes file)
+{
+	struct ebpf_handle handle = EBPF_CLOSED_HANDLE;
+	struct ebpf_refusal refusal = { 0 };
+	char about[128] = { 0 };
+	uint32_t number = ebpf_open(file.at, file.len, &handle, about, sizeof(about), &refusal);
+
+	if (number != EBPF_DONE)
+		errx(3, "ebpf_open: %u", number);
+	return handle; /* moved */
+}
+
+/* The programs as they are listed. */
+static void list(struct bytes file)
+{
+	struct ebpf_handle handle = opened(file);
+	uint32_t number;
+
+#include "listed.inc"
+	printf("listed %u:", number);
+	for (size_t at = 0; at < counts.rows; at++)
+		printf(" %s %zu", text + rows[at].name_at, rows[at].slots);
+	printf("\n");
+	free(rows);
+	free(text);
+	ebpf_close(&handle);
+}
+
+/* The refusal where one map alone has a descriptor. */
+static void refuse(struct bytes file)
+{
+	struct ebpf_handle handle = opened(file);
+	const struct ebpf_descriptor rows[] = { { 0, 6, 3 } };
+	uint32_t number;
+
+#include "refused.inc"
+	printf("refused %u\n", number);
+	ebpf_close(&handle);
+}
+
+int main(int words, char **word)
+{
+	struct bytes object, types, other;
+
+	if (words != 4)
+		errx(2, "usage: page_code OBJECT TYPES OTHER");
+	object = read_file(word[1]);
+	types = read_file(word[2]);
+	other = read_file(word[3]);
+	prepare(object, types);
+	list(other);
+	refuse(other);
+	free(object.at);
+	free(types.at);
+	free(other.at);
+	return 0;
+}
