@@ -1,37 +1,36 @@
 /*
  * eBPF object files made ready to load: the C interface of ebpf-object.
  *
- * Link libebpf.a, which has the library and the functions by which it takes memory (tests/c_interface.sh builds
- * it). docs/C.md goes from a file to a running program.
+ * `pkg-config --cflags --libs ebpf` prints the flags that compile and link a caller. The library needs the C library
+ * alone. docs/C.md goes from a file to a running program.
  *
  * What a caller upholds, in one place. No call checks these, and no call asks for more:
- *  - Each pointer is non-null and aligned for its type, also where its count is 0 (any address of the caller's own
- *    serves), and its count is no greater than what lies there.
- *  - What a call may write (each pointer without const) overlaps nothing else that the call is given, and no other
- *    thread touches it during the call. What is const does not change during the call.
+ *  - No pointer is null, and each is aligned for its type. This holds for a count of 0 too: any address of the caller's
+ *    own serves there. A count is no greater than what lies behind its pointer.
+ *  - What a call may write (each pointer without const) overlaps nothing else that the call is given. No other thread
+ *    touches it during the call. What is const does not change during the call.
  *  - What lies behind each pointer is initialised, also where the call writes it (calloc, or = {0}).
- *  - A handle is all zero (EBPF_CLOSED_HANDLE), which is closed, or holds what a call left in it. It is moved and
- *    never copied: of two copies of an open one, one alone is used from then on. It stays on the thread that opened
- *    it, and one call at a time uses it. ebpf_close is what frees it.
+ *  - A handle is all zero (EBPF_CLOSED_HANDLE), which is closed, or holds what a call left in it. It is moved and never
+ *    copied: of two copies of an open one, one alone is used from then on. It stays on the thread that opened it. One
+ *    call at a time uses it. `ebpf_close` is what frees it.
  *  - malloc, realloc and free are of one allocator and align as the C standard says. No call is made from a signal
  *    handler, nor in the child that a process with threads forked.
- * Beyond these anything may be passed: any bytes as a file, types, symbols, names or values, a handle that is closed,
- * any numbers.
+ * Beyond these anything may be passed: any bytes as a file, types, symbols, names or values, a closed handle, any
+ * numbers.
  *
- * What a call answers is its number. 0 (EBPF_DONE): all is done and written, exactly as the call's text says. Any
- * other number: handles and buffers are as they were, but for what is said here of counts and of `about`.
+ * A call returns a number. 0 (EBPF_DONE): all is done and written, exactly as the call's text says. Any other number:
+ * handles and buffers are unchanged, but for what is said here of counts and of `about`.
  *
- * Counts: where the answer is 0 or 1 (EBPF_ROOM), a call's counts (*len, *count, *counts) say how much there is, and
- * so how much room is needed. With any other number they are as they were.
+ * Counts: with the numbers 0 and 1 (EBPF_ROOM), a call's counts (*len, *count, *counts, *is_found) say how much there
+ * is. So they say how much room is needed. With any other number they are unchanged.
  *
- * about: a call that can refuse by a name has `char *about, size_t about_room, struct ebpf_refusal *refusal`. Where it
- * answers another number than 0, the name of the function, the program, the map, the section, the symbol or the variable
- * that the refusal is about stands at the front of about, cut to about_room, and *refusal has the number, how many bytes
- * of the name stand there (0 where it is about none), and the numbers that the error states: the slot, the symbol, the
- * section, the addresses, .. (struct ebpf_refusal). With the number 0 both are as they were.
+ * about: a call that can refuse by a name has `char *about, size_t about_room, struct ebpf_refusal *refusal`. If the
+ * number is not 0, `about` holds the name that is concerned, cut to `about_room`: of a function, a map, a section, for
+ * example. `*refusal` holds the number, `name_len` and the details, as the slot or the symbol (struct ebpf_refusal). If
+ * no name is concerned, as with 1, `name_len` is 0 and `about` is unchanged. With the number 0 both are unchanged.
  *
- * Texts are UTF-8 with a length. Names are compared byte by byte. Lists are in byte order of their names, where a call
- * says no other. Each call that writes into a buffer writes to its front and leaves the rest.
+ * Texts are UTF-8 with a length. Names are compared byte by byte. Lists are in byte order of their names, unless a call
+ * says otherwise. Each call that writes into a buffer writes to its front and leaves the rest.
  */
 #ifndef EBPF_H
 #define EBPF_H
@@ -43,23 +42,26 @@
 extern "C" {
 #endif
 
-/* The version of this interface, 0.4.0, as major * 1000000 + minor * 1000 + patch; ebpf_version_number gives the library's. */
+/*
+ * The version of this interface, 0.4.0, as major * 1000000 + minor * 1000 + patch. `ebpf_version_number` returns that
+ * of the library.
+ */
 #define EBPF_VERSION_NUMBER 4000
 
 uint32_t ebpf_version_number(void);
 
-/* ---- numbers of answers; they stay as they are, and new ones get numbers that were free */
+/* ---- numbers that calls return; each keeps its meaning, and new ones get numbers that were free */
 
 enum ebpf_number {
 	EBPF_DONE = 0,
 	EBPF_ROOM = 1,	       /* a buffer is too small; the counts say how much is needed */
-	EBPF_MEMORY = 2,       /* no memory was found */
+	EBPF_MEMORY = 2,       /* out of memory */
 	EBPF_CLOSED = 3,       /* the handle is closed */
 	EBPF_NO_PROGRAM = 4,   /* no program has the name */
 	EBPF_NO_MAP = 5,       /* no map has the name */
 	EBPF_BAD_NAME = 6,     /* a name that is given is no UTF-8, or a row's name is not inside the text beside it */
 	EBPF_BAD_VALUE = 7,    /* a row's value is not inside the bytes beside it */
-	EBPF_NO_EXTERN = 8,    /* no extern of the kernel's configuration has the name */
+	EBPF_NO_EXTERN = 8,    /* no kconfig extern has the name */
 	EBPF_WRONG_LENGTH = 9, /* the data has another length than that of the map */
 	EBPF_NO_VARIABLE = 10, /* no symbol has the name, or its bytes are not inside the data of a map */
 
@@ -80,15 +82,15 @@ enum ebpf_number {
 	EBPF_PARSE_GLOBAL_DATA = 150,	 /* about the variable: its value has another size, or passes its map's data */
 	EBPF_PARSE_SYMBOL_NOT_FOUND = 151, /* about the variable */
 	EBPF_PARSE_MAP_NOT_FOUND = 152,
-	EBPF_PARSE_MAP_SYMBOL_NAME = 153, /* kept, never answered */
+	EBPF_PARSE_MAP_SYMBOL_NAME = 153, /* kept, never returned */
 	EBPF_PARSE_NO_SYMBOLS = 154,	  /* about the section */
 	EBPF_PARSE_NO_TYPES = 155,
-	EBPF_PARSE_BIG_ENDIAN_CODE = 156, /* the broad reading alone */
+	EBPF_PARSE_BIG_ENDIAN_CODE = 156, /* lenient parsing (`ebpf_open_broad`) alone */
 	EBPF_PARSE_TOO_LARGE = 157, /* ebpf_open_within alone */
 
 	/* 200 to 299: types. About the section, from 220 on */
 	EBPF_TYPES_READ = 200,	/* + ebpf_type_fault: the kernel's types can't be read */
-	EBPF_TYPES_FAULT = 220, /* + ebpf_type_fault: a type that a record needs can't be read */
+	EBPF_TYPES_FAULT = 220, /* + ebpf_type_fault: a type that a CO-RE relocation needs can't be read */
 	EBPF_TYPES_SECTION_NOT_FOUND = 240,
 	EBPF_TYPES_FUNCTION_NOT_FOUND = 241,
 	EBPF_TYPES_ACCESS_STRING = 242,
@@ -98,7 +100,7 @@ enum ebpf_number {
 	EBPF_TYPES_ACCESS_INDEX = 246,
 	EBPF_TYPES_KIND_FOR_TYPE = 247,
 	EBPF_TYPES_INSTRUCTION = 248,
-	EBPF_TYPES_NO_TARGET = 249, /* kept, never answered */
+	EBPF_TYPES_NO_TARGET = 249, /* kept, never returned */
 
 	/* 300 to 399: descriptors of maps. About the function */
 	EBPF_MAPS = 300, /* + ebpf_slot_fault */
@@ -144,7 +146,7 @@ enum ebpf_number {
 	EBPF_INITIAL_SLOTS_OUTSIDE_VALUES = 829,     /* a place is before the map's `values` */
 	EBPF_INITIAL_SLOTS_MISALIGNED = 830,	     /* a place is at no whole value */
 
-	/* 900 to 999: externs of the kernel's configuration. About the extern, but for 900, 901 and 906 */
+	/* 900 to 999: kconfig externs. About the extern, but for 900, 901 and 906 */
 	EBPF_KCONFIG_NOT_A_VARIABLE = 900,     /* an entry of .kconfig names no variable */
 	EBPF_KCONFIG_UNREADABLE_NAME = 901,    /* the name of one can't be read */
 	EBPF_KCONFIG_UNKNOWN_NAME = 902,       /* it begins neither with CONFIG_ nor with LINUX_ */
@@ -192,7 +194,7 @@ enum ebpf_type_fault {
 /* why slots can't be relocated */
 enum ebpf_slot_fault {
 	EBPF_SLOT_UNKNOWN_SYMBOL = 0,
-	EBPF_SLOT_SECTION_NOT_FOUND = 1, /* no map has the symbol or its section */
+	EBPF_SLOT_SECTION_NOT_FOUND = 1, /* no descriptor is given for any map of the symbol's section */
 	EBPF_SLOT_UNKNOWN_FUNCTION = 2,
 	EBPF_SLOT_FUNCTION_INFO = 3,
 	EBPF_SLOT_UNKNOWN_PROGRAM = 4,
@@ -205,7 +207,7 @@ enum ebpf_slot_fault {
 	EBPF_SLOT_MAP_ADDRESS = 11,
 };
 
-/* ---- what is told of a refusal beside the name that it is about */
+/* ---- what a refusal reports beside the name that it is about */
 
 /* the numbers that an error states, added up in ebpf_refusal.has */
 enum ebpf_detail {
@@ -225,14 +227,14 @@ enum ebpf_detail {
 };
 
 /*
- * A refusal. Where a call answers another number than 0 it writes every field: those that `has` does not name are 0.
- * docs/C.md says which numbers have which.
+ * A refusal. If a call returns another number than 0, it writes every field. Fields that `has` does not name are 0.
+ * docs/C.md, 'Refusals', says which numbers have which fields.
  */
 struct ebpf_refusal {
-	uint32_t number;	/* what the call answers */
+	uint32_t number;	/* what the call returns */
 	uint32_t has;		/* which of the numbers below the error states: enum ebpf_detail, added up */
 	uint64_t slot;		/* the index of an instruction slot in its function */
-	uint64_t offset;	/* an offset in bytes: of a relocation in its section, or of a string in .BTF's strings */
+	uint64_t offset;	/* an offset in bytes: of a relocation in its section, of a string in .BTF's strings */
 	uint64_t symbol;	/* the index of a symbol in the file's table */
 	uint64_t address;	/* an address in a section, or in the kernel */
 	uint64_t other_address; /* the second one, where two differ */
@@ -240,17 +242,20 @@ struct ebpf_refusal {
 	uint64_t size;		/* a size in bytes: of what is there or wanted */
 	uint64_t other_size;	/* the second one, where two differ: of the value that is given */
 	uint64_t type_id;	/* the id of a type */
-	uint64_t relocation;	/* the index of a relocation, or of a CO-RE record, among those of its section */
+	uint64_t relocation;	/* the index of an ELF or CO-RE relocation among those of its section */
 	uint64_t index;		/* the number of a member, an element or a variant that is asked for */
 	uint64_t count;		/* how many of them there are, or how many slots */
-	uint64_t kind;		/* the number of a kind of map (enum bpf_map_type) or of CO-RE record */
-	size_t name_len;	/* how many bytes of the name stand in `about` */
+	uint64_t kind;		/* the number of a kind of map (enum bpf_map_type) or of CO-RE relocation */
+	size_t name_len;	/* how many bytes of the name are in `about` */
 };
 
 /*
- * The name of a number, as "parse: BadMagic": the stage and the fault. Each number of the tables above has one, the sum
- * of a stage's first number and any fault of its table too, whether a call answers it or not; of every other number it is
- * empty. 64 bytes hold each. Numbers: 1.
+ * Writes the name of a number: the stage and the variant of its error, as "parse: BadMagic". *len is its length.
+ *  - A number below 100 has no stage: the name of 2 is "OutOfMemory".
+ *  - Each number of the tables above has a name, whether a call returns it or not.
+ *  - So has each sum of a stage's first number and a fault of its table.
+ *  - The name of any other number is empty.
+ * 64 bytes hold each name. Numbers: 1.
  */
 uint32_t ebpf_number_name(uint32_t number, char *text, size_t room, size_t *len);
 
@@ -263,27 +268,30 @@ struct ebpf_handle {
 #define EBPF_CLOSED_HANDLE { 0 }
 
 /*
- * Opens the object of a file. An object that the handle held before is closed where the answer is 0.
+ * Opens the object of a file by strict parsing. With the number 0 an object that the handle held before is closed.
  * Numbers: 2, 100 to 199.
  */
 uint32_t ebpf_open(const uint8_t *file, size_t file_len, struct ebpf_handle *handle, char *about, size_t about_room,
 		   struct ebpf_refusal *refusal);
 
 /*
- * The same, where the file is read broadly: each section of code is a program's, whatever its name (those of names that the
- * library's list lacks have the kind EBPF_KIND_OTHER, and one with `?` before it has the kind of the rest); an array of
- * programs may be declared with its programs; a license ends at its first zero; map_extra may be a 64-bit number. Of a
- * little-endian file that ebpf_open takes both give the same. A big-endian file with code is refused (156).
- * Numbers: 2, 100 to 199.
+ * Opens the object of a file by lenient parsing. It differs from `ebpf_open`:
+ *  - Each section of code is a program's, whatever its name. If the library's list lacks the name, the programs have
+ *    the kind EBPF_KIND_OTHER.
+ *  - A section with `?` before its name has the kind of the rest.
+ *  - An array of programs may be declared with its programs.
+ *  - A license ends at its first zero.
+ *  - map_extra may be a 64-bit number.
+ *  - A big-endian file with code is refused (156).
+ * For a little-endian file that `ebpf_open` accepts, both give the same object. Numbers: 2, 100 to 199.
  */
 uint32_t ebpf_open_broad(const uint8_t *file, size_t file_len, struct ebpf_handle *handle, char *about,
 			 size_t about_room, struct ebpf_refusal *refusal);
 
 /*
- * The same, read broadly where `broad` is not 0, where what is made of the file owns at most `most_bytes` bytes; that is
- * counted before it is made, and passed it is 157. For files from strangers: a file of some kilobytes may else make an
- * object of gigabytes. docs/C.md says what counts.
- * Numbers: 2, 100 to 199.
+ * Opens the object of a file from strangers: a file of some kilobytes can make an object of gigabytes. Parsing is
+ * strict if `broad` is 0, else lenient. The call counts the bytes that the object would own before it makes the object.
+ * Above `most_bytes` it returns 157. docs/BEHAVIOUR.md, 'Limits', says what counts. Numbers: 2, 100 to 199.
  */
 uint32_t ebpf_open_within(const uint8_t *file, size_t file_len, uint32_t broad, uint64_t most_bytes,
 			  struct ebpf_handle *handle, char *about, size_t about_room, struct ebpf_refusal *refusal);
@@ -311,12 +319,13 @@ uint32_t ebpf_info(struct ebpf_handle *handle, struct ebpf_info *info);
 /* The license, without its zero byte. *len is its length. Numbers: 1, 3. */
 uint32_t ebpf_license(struct ebpf_handle *handle, char *text, size_t room, size_t *len);
 
-/* *states is 1 where the file has a section `license`, 0 where it has none: the license is then the default GPL. Numbers: 3. */
+/* Sets *states to 1 if the file has a section `license`, else to 0: the license is then the default GPL. Numbers: 3. */
 uint32_t ebpf_states_license(struct ebpf_handle *handle, uint32_t *states);
 
 /*
- * How many rows a list has, and how many bytes its text. In the text stand the names one after the other, each with a
- * zero byte behind it that name_len does not count: text + row.name_at is a C string.
+ * How many rows a list has, and how many bytes its text has. A row is one C struct of a list. Its name is a place and a
+ * length in the text (`name_at`, `name_len`). The names are one after the other, each with a zero byte behind it that
+ * `name_len` does not count: text + row.name_at is a C string.
  */
 struct ebpf_counts {
 	size_t rows;
@@ -355,7 +364,7 @@ enum ebpf_program_kind {
 	EBPF_KIND_CGROUP_SOCK = 27,
 	EBPF_KIND_CGROUP_DEVICE = 28,
 	EBPF_KIND_ITER = 29,
-	EBPF_KIND_OTHER = 30, /* a name that says none of these: the broad reading alone */
+	EBPF_KIND_OTHER = 30, /* a name that says none of these: lenient parsing (`ebpf_open_broad`) alone */
 };
 
 /* flags of a program */
@@ -382,19 +391,23 @@ struct ebpf_program {
 };
 
 /*
- * Lists the programs: a row each, their names one after the other in text. Where loaders know the name of a program's
- * section (libbpf's Program Types and ELF Sections; a `?` before it is taken off), the name says flags (but EBPF_MULTI,
- * which the kind says), program type and attach type: so of an EBPF_KIND_OTHER too, as `tc` or `struct_ops/x`. Else its
- * kind says them, as that of `xdp/cpumap/x`; EBPF_KIND_OTHER then says none: flags 0, program type 0 and
- * EBPF_NO_ATTACH_TYPE. ebpf_program_section gives the name; where it gives none, as of the earlier of two sections with
- * one name, the kind alone counts. Numbers: 1, 2, 3.
+ * Lists the programs: a row each, their names one after the other in `text`.
+ *  - Flags, program type and attach type come from the name of the program's section, if libbpf has it ('Program Types
+ *    and ELF Sections'). A `?` before the name is skipped. This holds for EBPF_KIND_OTHER too, as for `tc` and
+ *    `struct_ops/x`.
+ *  - The flag EBPF_MULTI always comes from the kind.
+ *  - For other names they come from the kind, as for `xdp/cpumap/x`. The kind EBPF_KIND_OTHER gives none: flags 0,
+ *    program type 0 and EBPF_NO_ATTACH_TYPE.
+ *  - `ebpf_program_section` gives the name. If it gives none, the kind alone counts. That is so for the earlier of two
+ *    sections with one name.
+ * Numbers: 1, 2, 3.
  */
 uint32_t ebpf_programs(struct ebpf_handle *handle, struct ebpf_program *rows, size_t rows_room, char *text,
 		       size_t text_room, struct ebpf_counts *counts);
 
 /*
- * The program of a name: its row as ebpf_programs lists it, but that the text which it points into is `name` itself
- * (name_at is 0). No list is made. Numbers: 3, 4.
+ * Writes the row of the program of a name, as `ebpf_programs` lists it. The text that the row points into is `name`
+ * itself (`name_at` is 0). No list is made. Numbers: 3, 4.
  */
 uint32_t ebpf_find_program(struct ebpf_handle *handle, const char *name, size_t name_len, struct ebpf_program *row);
 
@@ -432,18 +445,20 @@ struct ebpf_map {
 };
 
 /*
- * Lists the maps: a row each, their names one after the other in text. The ids of types are those of the types that
- * ebpf_kernel_types gives for the file: 0 for types of maps that the kernel creates without them, and for each map where
- * the object has no types. The value of a map of variables has the DATASEC of the map's name, where there is one of the
- * size that the map's data and its values have (or that states size 0). An inner map has its ids by the same types and
- * rules. Numbers: 1, 2, 3.
+ * Lists the maps: a row each, their names one after the other in `text`. Ids of types are those of the types that
+ * `ebpf_kernel_types` writes for the file:
+ *  - They are 0 if the object has no types, and for types of maps that the kernel creates without them.
+ *  - The value of a map of variables has the DATASEC of the map's name. The id is 0 if there is none, or if the sizes
+ *    of the map's data, of its values and of the DATASEC differ. A DATASEC of size 0 fits any size.
+ *  - An inner map has its ids by the same types and rules.
+ * Numbers: 1, 2, 3.
  */
 uint32_t ebpf_maps(struct ebpf_handle *handle, struct ebpf_map *rows, size_t rows_room, char *text, size_t text_room,
 		   struct ebpf_counts *counts);
 
 /*
- * The map of a name: its row as ebpf_maps lists it, but that the text which it points into is `name` itself (name_at is 0).
- * No list is made. Numbers: 3, 5.
+ * Writes the row of the map of a name, as `ebpf_maps` lists it. The text that the row points into is `name` itself
+ * (`name_at` is 0). No list is made. Numbers: 3, 5.
  */
 uint32_t ebpf_find_map(struct ebpf_handle *handle, const char *name, size_t name_len, struct ebpf_map *row);
 
@@ -462,12 +477,12 @@ struct ebpf_extern {
 	uint32_t has_address;	  /* 1 or 0: whether `address` is known */
 };
 
-/* Lists the externs: a row each, their names one after the other in text. Numbers: 1, 2, 3. */
+/* Lists the externs: a row each, their names one after the other in `text`. Numbers: 1, 2, 3. */
 uint32_t ebpf_externs(struct ebpf_handle *handle, struct ebpf_extern *rows, size_t rows_room, char *text,
 		      size_t text_room, struct ebpf_counts *counts);
 
 /*
- * The name of the section of a program, as ebpf_sections lists it. *len is its length: 0 where the section is not
+ * The name of the section of a program, as `ebpf_sections` lists it. *len is its length: 0 if the section is not
  * listed. Numbers: 1, 2, 3, 4.
  */
 uint32_t ebpf_program_section(struct ebpf_handle *handle, const char *name, size_t name_len, char *text, size_t room,
@@ -479,8 +494,9 @@ struct ebpf_section {
 };
 
 /*
- * Lists the named sections of the file: a row each, their names one after the other in text. A program's section tells
- * by its name what it is attached to. Of two sections with one name the later one is listed. Numbers: 1, 2, 3.
+ * Lists the named sections of the file: a row each, their names one after the other in `text`. The name of a program's
+ * section says what the program is attached to. Of two sections with one name the later one is listed.
+ * Numbers: 1, 2, 3.
  */
 uint32_t ebpf_sections(struct ebpf_handle *handle, struct ebpf_section *rows, size_t rows_room, char *text,
 		       size_t text_room, struct ebpf_counts *counts);
@@ -488,10 +504,12 @@ uint32_t ebpf_sections(struct ebpf_handle *handle, struct ebpf_section *rows, si
 /* ---- what a loader hands to the kernel, laid out as its own structs */
 
 /*
- * The types of a file for BPF_BTF_LOAD: its section .BTF, completed as the kernel takes it. Ids and offsets of strings
- * stay, so that those of func info, line info and maps fit: the sizes and offsets of data sections are filled in, hidden
- * functions and variables made static, the externs of .ksyms and .kconfig made variables. *len is their length: 0 where
- * the file has no .BTF. Numbers: 1, 2, 700 to 799.
+ * Writes the types of a file for BPF_BTF_LOAD: its section .BTF, completed as the kernel takes it.
+ *  - Data sections get their sizes and offsets.
+ *  - Hidden functions and variables become static.
+ *  - The externs of .ksyms and .kconfig become variables.
+ *  - Ids and offsets of strings stay. So those of func info, line info and maps fit.
+ * *len is the length of the types: 0 if the file has no .BTF. Numbers: 1, 2, 700 to 799.
  */
 uint32_t ebpf_kernel_types(const uint8_t *file, size_t file_len, uint8_t *types, size_t room, size_t *len, char *about,
 			   size_t about_room, struct ebpf_refusal *refusal);
@@ -505,12 +523,16 @@ enum ebpf_target_answer {
 };
 
 /*
- * What the programs of a section of this name are attached to, as a type (attach_btf_id). Types are raw BTF in the byte
- * order that its magic number tells: the kernel's, or for freplace those of the program that is replaced. *answer is of
- * enum ebpf_target_answer; *type_id 0 where none is found. The name of the target follows the first slash, `vmlinux:`
- * before it and a `?` before the section's name are skipped. It is looked for among the functions, with bpf_lsm_ or
- * bpf_iter_ before it for lsm and iter, and for tp_btf as the TYPEDEF btf_trace_NAME; of types of one name the first is
- * found. Numbers: 2, 6, 200 to 219.
+ * Finds the type that the programs of a section of this name are attached to (attach_btf_id).
+ *  - `types` is raw BTF in the byte order that its magic number states. It is the kernel's, or for freplace that of the
+ *    program that is replaced.
+ *  - *answer is of enum ebpf_target_answer. *type_id is 0 if no type is found.
+ *  - The name of the target follows the first slash. `vmlinux:` before it and a `?` before the section's name are
+ *    skipped.
+ *  - The type is the function of this name. For lsm and iter, bpf_lsm_ or bpf_iter_ is put before the name. For tp_btf
+ *    it is the TYPEDEF btf_trace_NAME.
+ *  - Of types of one name the first is found.
+ * Numbers: 2, 6, 200 to 219.
  */
 uint32_t ebpf_attach_target(const char *section_name, size_t section_name_len, const uint8_t *types, size_t types_len,
 			    uint32_t *answer, uint32_t *type_id);
@@ -524,10 +546,12 @@ struct ebpf_initial_slot {
 };
 
 /*
- * Lists the initial values of the object's maps: a row each, by the maps' names in byte order, then by index; in text the
- * name of each row's map and then that of its target. `file` is what the handle was opened from (other bytes give their
- * own relocations over this object). An object with an array of programs is opened by ebpf_open_broad. A loader writes the
- * maps once all are made, and the programs once all are loaded. Numbers: 1, 2, 3, 800 to 899.
+ * Lists the initial values of the object's maps: a row each, by the maps' names in byte order, then by index. `text`
+ * has the name of each row's map and then that of its target.
+ *  - `file` is what the handle was opened from. Other bytes give their own relocations over this object.
+ *  - An object with an array of programs is opened by `ebpf_open_broad`.
+ *  - A loader writes the maps once all are made, and the programs once all are loaded.
+ * Numbers: 1, 2, 3, 800 to 899.
  */
 uint32_t ebpf_initial_slots(const uint8_t *file, size_t file_len, struct ebpf_handle *handle,
 			    struct ebpf_initial_slot *rows, size_t rows_room, char *text, size_t text_room,
@@ -571,14 +595,14 @@ uint32_t ebpf_line_infos(struct ebpf_handle *handle, const char *name, size_t na
 
 /*
  * Writes the value of a variable into the data of the map that holds it. Of symbols with the name the one with the
- * greatest index counts. Where there is none, `must_exist` 0 leaves all as it is, with the number 0. A name that is no
- * UTF-8 is refused before all other faults of the value. Numbers: 2, 3, 6, 150 to 152.
+ * greatest index counts. If there is none and `must_exist` is 0, the object is unchanged and the number is 0. A name
+ * that is no UTF-8 is refused before all other faults of the value. Numbers: 2, 3, 6, 150 to 152.
  */
 uint32_t ebpf_set_value(struct ebpf_handle *handle, const char *name, size_t name_len, const uint8_t *value,
 			size_t value_len, uint32_t must_exist, char *about, size_t about_room,
 			struct ebpf_refusal *refusal);
 
-/* A variable's name and its value, places in the text and in the bytes that are given beside the rows. */
+/* A variable's name and its value: places in the text and in the bytes that are given beside the rows. */
 struct ebpf_value {
 	size_t name_at, name_len;
 	size_t value_at, value_len;
@@ -586,17 +610,20 @@ struct ebpf_value {
 };
 
 /*
- * Writes the values of many variables, each as ebpf_set_value does. Of rows of one name the last counts; where variables
- * share bytes the one with the greater name counts. A row whose name is no UTF-8, or not inside the text, is refused
- * first, then one whose value is not inside the bytes, then the first fault in byte order of the names; after a refusal
- * nothing is written. The table of the variables' names is made once for all rows: each ebpf_set_value makes it anew, so
- * 1,000 of those cost 1,000 tables. Numbers: 2, 3, 6, 7, 150 to 152.
+ * Writes the values of many variables, each as `ebpf_set_value` does. All rows are written, or none.
+ *  - Of rows of one name the last counts.
+ *  - If variables share bytes, the one with the greater name counts.
+ *  - A row is refused first whose name is no UTF-8, or not inside the text. Then comes one whose value is not inside
+ *    the bytes, then the first fault in byte order of the names.
+ *  - The table of the variables' names is made once for all rows. Each `ebpf_set_value` makes it anew, so 1,000 of
+ *    those cost 1,000 tables.
+ * Numbers: 2, 3, 6, 7, 150 to 152.
  */
 uint32_t ebpf_set_values(struct ebpf_handle *handle, const struct ebpf_value *rows, size_t rows_len, const char *text,
 			 size_t text_len, const uint8_t *bytes, size_t bytes_len, char *about, size_t about_room,
 			 struct ebpf_refusal *refusal);
 
-/* what an extern of the kernel's configuration holds */
+/* what a kconfig extern holds */
 enum ebpf_kconfig_kind {
 	EBPF_EXTERN_BOOL = 0,	  /* 1 byte: 1 for y, 0 for n */
 	EBPF_EXTERN_TRISTATE = 1, /* 0 for n, 1 for y, 2 for m */
@@ -614,40 +641,50 @@ struct ebpf_kconfig_extern {
 };
 
 /*
- * Lists the externs that the kernel's configuration gives (`extern .. __kconfig`): a row each, in the order in which the
- * object's types name them, and not by name; their names one after the other in text. Numbers: 1, 2, 3, 900 to 903.
+ * Lists the kconfig externs (`extern .. __kconfig`): a row each, their names one after the other in `text`. They are in
+ * the order in which the object's types name them, and not by name. Numbers: 1, 2, 3, 900 to 903.
  */
 uint32_t ebpf_kconfig(struct ebpf_handle *handle, struct ebpf_kconfig_extern *rows, size_t rows_room, char *text,
 		      size_t text_room, struct ebpf_counts *counts, char *about, size_t about_room,
 		      struct ebpf_refusal *refusal);
 
 /*
- * The value of such an extern by a kernel's configuration, given as text: /proc/config.gz or /boot/config-RELEASE, unpacked.
- * Of its lines the first that begins with the extern's name and `=` counts. *is_found is 1 where there is one, and *len the
- * value's length, as ebpf_kconfig lists it; both are 0 where there is none, and for a name that does not begin with
- * CONFIG_. The bytes are in the byte order of the object. With the number 1 *is_found is 1; with any other than 0 and 1 it
- * is as it was. The first extern of the name counts. Numbers: 1, 2, 3, 8, 900 to 903, 907, 908.
+ * Writes the value of a kconfig extern by a kernel's configuration. `config` is its text: /proc/config.gz or
+ * /boot/config-RELEASE, unpacked. The first of its lines that begins with the extern's name and `=` counts.
+ *  - If there is one, *is_found is 1 and *len is the value's length, as `ebpf_kconfig` lists it.
+ *  - If there is none, both are 0. So they are for a name that does not begin with CONFIG_.
+ *  - With the number 1 *is_found is 1. With any other than 0 and 1 it is unchanged.
+ *  - The bytes are in the byte order of the object.
+ *  - The first extern of the name counts.
+ * Numbers: 1, 2, 3, 8, 900 to 903, 907, 908.
  */
 uint32_t ebpf_kconfig_value(struct ebpf_handle *handle, const char *name, size_t name_len, const char *config,
 			    size_t config_len, uint8_t *value, size_t room, size_t *len, uint32_t *is_found,
 			    char *about, size_t about_room, struct ebpf_refusal *refusal);
 
 /*
- * The value of such an extern that is a number: what the loader knows, as LINUX_KERNEL_VERSION (of the version a.b.c
- * a << 16 | b << 8 | c), LINUX_HAS_BPF_COOKIE and LINUX_HAS_SYSCALL_WRAPPER (1 or 0). *len is its length. The bytes are in
- * the byte order of the object. The first extern of the name counts. Numbers: 1, 2, 3, 8, 900 to 903, 907, 908.
+ * Writes a number as the value of a kconfig extern: what the loader knows of the kernel. *len is the value's length.
+ *  - LINUX_KERNEL_VERSION is a << 16 | b << 8 | c for the version a.b.c.
+ *  - LINUX_HAS_BPF_COOKIE and LINUX_HAS_SYSCALL_WRAPPER are 1 or 0.
+ *  - The bytes are in the byte order of the object.
+ *  - The first extern of the name counts.
+ * Numbers: 1, 2, 3, 8, 900 to 903, 907, 908.
  */
 uint32_t ebpf_kconfig_number(struct ebpf_handle *handle, const char *name, size_t name_len, uint64_t number,
 			     uint8_t *value, size_t room, size_t *len, char *about, size_t about_room,
 			     struct ebpf_refusal *refusal);
 
 /*
- * Defines these externs: puts the map `.kconfig`, whose data are the values, and makes their symbols variables of it, so
- * that ebpf_maps lists it and ebpf_relocate_maps writes its descriptor (flags BPF_F_RDONLY_PROG: freeze it once it is
- * filled). Rows are as those of ebpf_set_values, and must_exist is not looked at: of rows of one name the last counts, and
- * one whose name no extern has is passed over. A weak extern without a row is zeros. An object without such externs is left
- * as it is. Faults of rows come first, those of names before those of values, then those of the list, then the first of the
- * values. Numbers: 2, 3, 6, 7, 900 to 906.
+ * Adds the map `.kconfig`, whose data are the values of the kconfig externs, and makes their symbols variables of it.
+ * `ebpf_maps` lists it. `ebpf_relocate_maps` writes its descriptor. Its flags are BPF_F_RDONLY_PROG: freeze the map
+ * once it is filled.
+ *  - Rows are as those of `ebpf_set_values`; `must_exist` is not read. Of rows of one name the last counts. A row whose
+ *    name no extern has is skipped.
+ *  - A weak extern without a row is zeros.
+ *  - An object without such externs is unchanged.
+ *  - Faults of rows come first, those of names before those of values. Then come those of the list, then the first of
+ *    the values.
+ * Numbers: 2, 3, 6, 7, 900 to 906.
  */
 uint32_t ebpf_define_kconfig(struct ebpf_handle *handle, const struct ebpf_value *rows, size_t rows_len,
 			     const char *text, size_t text_len, const uint8_t *bytes, size_t bytes_len, char *about,
@@ -661,14 +698,14 @@ struct ebpf_variable {
 };
 
 /*
- * Lists the variables in the data of maps: a row each, in text the name of each and then that of its map. They are the
- * symbols whose bytes, of which there are some, are inside the data of a map; of symbols of one name the one with the
- * greatest index counts. Numbers: 1, 2, 3.
+ * Lists the variables in the data of maps: a row each. `text` has the name of each and then that of its map. They are
+ * the symbols that have bytes, all of them inside the data of a map. Of symbols of one name the one with the greatest
+ * index counts. Numbers: 1, 2, 3.
  */
 uint32_t ebpf_variables(struct ebpf_handle *handle, struct ebpf_variable *rows, size_t rows_room, char *text,
 			size_t text_room, struct ebpf_counts *counts);
 
-/* The bytes of a variable, as they stand in the data of its map. *len is how many. Numbers: 1, 2, 3, 10. */
+/* The bytes of a variable in the data of its map, as they are now. *len is how many. Numbers: 1, 2, 3, 10. */
 uint32_t ebpf_value(struct ebpf_handle *handle, const char *name, size_t name_len, uint8_t *value, size_t room,
 		    size_t *len);
 
@@ -683,16 +720,19 @@ uint32_t ebpf_set_max_entries(struct ebpf_handle *handle, const char *name, size
 uint32_t ebpf_set_value_size(struct ebpf_handle *handle, const char *name, size_t name_len, uint32_t size);
 
 /*
- * Where has_newer is 0: puts the helper function 4 (probe_read) in the place of 112 and 113 (probe_read_user,
- * probe_read_kernel), and 45 (probe_read_str) in that of 114 and 115, in every function. Numbers: 3.
+ * If `has_newer` is 0, replaces newer helper functions in every function. 4 (probe_read) replaces 112 and 113
+ * (probe_read_user, probe_read_kernel). 45 (probe_read_str) replaces 114 and 115. Numbers: 3.
  */
 uint32_t ebpf_sanitize(struct ebpf_handle *handle, uint32_t has_newer);
 
 /* ---- relocation, a pass at a time, in this order */
 
 /*
- * A map's name, a place in the text that is given beside the rows, and its descriptor. A name that the object lacks
- * is passed over; of two maps that share a symbol or a section the later row counts.
+ * A map's name, a place in the text that is given beside the rows, and its descriptor.
+ *  - Each map that a slot refers to needs a row. If it has none, its slots take the descriptor of another map in its
+ *    section: that of the last row.
+ *  - Of two rows for one name, or for maps of one symbol, the later counts.
+ *  - A row is skipped if the object lacks the name. `ebpf_find_map` returns 5 for such a name.
  */
 struct ebpf_descriptor {
 	size_t name_at, name_len;
@@ -700,16 +740,16 @@ struct ebpf_descriptor {
 };
 
 /*
- * Relocates the functions to a kernel whose types are given, as raw BTF in the byte order that its magic number tells.
- * Numbers: 2, 3, 200 to 299.
+ * Relocates the functions to a kernel's types (CO-RE). `types` is raw BTF in the byte order that its magic number
+ * states. Numbers: 2, 3, 200 to 299.
  */
 uint32_t ebpf_relocate_types(struct ebpf_handle *handle, const uint8_t *types, size_t types_len, char *about,
 			     size_t about_room, struct ebpf_refusal *refusal);
 
-/* what a CO-RE record comes to over a kernel's types */
+/* the outcome of a CO-RE relocation over a kernel's types; the names of this part call it a record */
 enum ebpf_record_result {
 	EBPF_RECORD_VALUE = 0,	 /* its instruction gets `value`: also the 0 that says that something is not there */
-	EBPF_RECORD_ABSENT = 1,	 /* there is no value, and its instruction fails where it is reached; `absence` says why */
+	EBPF_RECORD_ABSENT = 1,	 /* there is no value: its instruction fails if it is reached; `absence` says why */
 	EBPF_RECORD_REFUSED = 2, /* it can't be applied, and ebpf_relocate_types refuses by the number `fault` */
 };
 
@@ -717,16 +757,16 @@ enum ebpf_record_result {
 enum ebpf_absence {
 	EBPF_ABSENT_NONE = 0,	     /* nothing */
 	EBPF_ABSENT_TYPE = 1,	     /* a type of the kind and the name */
-	EBPF_ABSENT_TYPE_KIND = 2,   /* types have the kind and the name, and none is compatible with the object's own */
+	EBPF_ABSENT_TYPE_KIND = 2,   /* types have the kind and the name; none is compatible with the object's own */
 	EBPF_ABSENT_MEMBER = 3,	     /* a member of a name on the way to the field, or an element of a number */
-	EBPF_ABSENT_MEMBER_KIND = 4, /* there is a member of the name, and its type is not compatible with the object's own */
+	EBPF_ABSENT_MEMBER_KIND = 4, /* a member has the name; its type is not compatible with the object's own */
 	EBPF_ABSENT_ENUMERATOR = 5,  /* a variant of the name */
 	EBPF_ABSENT_VALUE = 6,	     /* the field is there, and what is asked of it can't be had */
 };
 
 struct ebpf_record_outcome {
-	size_t name_at, name_len; /* the place of its section's name in the text; of length 0 where that can't be read */
-	size_t number;		  /* its place among the records of that section in .BTF.ext, from 0 on */
+	size_t name_at, name_len; /* the place of its section's name in the text; length 0 if that can't be read */
+	size_t number;		  /* its number among the CO-RE relocations of that section in .BTF.ext, from 0 on */
 	size_t section;		  /* the index of the section of the function that has its slot; 0 where none has it */
 	uint64_t address;	  /* the function's address there, in bytes; 0 where none has it */
 	size_t slot;		  /* the number of its slot in the function; 0 where none has it */
@@ -738,11 +778,13 @@ struct ebpf_record_outcome {
 };
 
 /*
- * Lists what each CO-RE record of the object comes to over a kernel's types: a row each, section by section as .BTF.ext has
- * them and in order, also behind one that is refused; in text the name of each row's section. Asked before
- * ebpf_relocate_types, or in its place: the object stays. That call refuses by the first row that is refused, or by a
- * section of .BTF.ext before it that has no records and a name that the file lacks; else it writes the values. An object
- * without types or records has no rows. Numbers: 1, 2, 3, 200 to 219.
+ * Lists the outcome of each CO-RE relocation, in the order of .BTF.ext: a row each, also behind one that is refused.
+ * Call it before `ebpf_relocate_types`. The object is unchanged.
+ *  - `text` has the name of each row's section.
+ *  - `ebpf_relocate_types` refuses by the first row that is refused, else it writes the values. A section of .BTF.ext
+ *    without relocations and with a name that the file lacks is refused there, and has no row here.
+ *  - An object without types or CO-RE relocations has no rows.
+ * Numbers: 1, 2, 3, 200 to 219.
  */
 uint32_t ebpf_record_outcomes(struct ebpf_handle *handle, const uint8_t *types, size_t types_len,
 			      struct ebpf_record_outcome *rows, size_t rows_room, char *text, size_t text_room,
@@ -750,8 +792,8 @@ uint32_t ebpf_record_outcomes(struct ebpf_handle *handle, const uint8_t *types, 
 			      struct ebpf_refusal *refusal);
 
 /*
- * Writes descriptors of maps into the slots that refer to them. A row whose name is no UTF-8, or not inside the text, is
- * refused before all other faults. Numbers: 2, 3, 6, 300 to 399.
+ * Writes descriptors of maps into the slots that refer to them. A row whose name is no UTF-8, or not inside the text,
+ * is refused before all other faults. Numbers: 2, 3, 6, 300 to 399.
  */
 uint32_t ebpf_relocate_maps(struct ebpf_handle *handle, const struct ebpf_descriptor *rows, size_t rows_len,
 			    const char *text, size_t text_len, char *about, size_t about_room,
@@ -759,7 +801,7 @@ uint32_t ebpf_relocate_maps(struct ebpf_handle *handle, const struct ebpf_descri
 
 /*
  * Finds the externs in a kernel's types and in its symbols, which are given as the text of /proc/kallsyms. Types of
- * length 0 are none. A line that is no UTF-8 is refused where lines are wanted. Numbers: 2, 3, 200 to 219, 400 to 499.
+ * length 0 are none. A line that is no UTF-8 is refused if lines are needed. Numbers: 2, 3, 200 to 219, 400 to 499.
  */
 uint32_t ebpf_resolve_externs(struct ebpf_handle *handle, const uint8_t *types, size_t types_len,
 			      const uint8_t *symbols, size_t symbols_len, char *about, size_t about_room,
@@ -782,10 +824,12 @@ struct ebpf_code_copy {
 };
 
 /*
- * Lists what the program of a name is made of once ebpf_relocate_calls has linked it; asked before that call, or in its
- * place. A row for each copy of a function: first the program's own, at slot 0, then one of each function that it reaches,
- * in the order in which they stand; the functions' names one after the other in text. Nothing is linked. A program that
- * can't be linked is refused as ebpf_relocate_calls refuses it, about the program; others are not looked at.
+ * Lists the copies of functions in the linked program of a name: a row each. The first is the program's own, at slot 0.
+ * One of each function that it reaches follows, in the order of their slots.
+ *  - `text` has the functions' names, one after the other.
+ *  - Call it before `ebpf_relocate_calls`. Nothing is linked: the object is unchanged.
+ *  - A program that can't be linked is refused as `ebpf_relocate_calls` refuses it, about the program. Other programs
+ *    are not looked at.
  * Numbers: 1, 2, 3, 4, 600 to 699.
  */
 uint32_t ebpf_link_map(struct ebpf_handle *handle, const char *name, size_t name_len, struct ebpf_code_copy *rows,
@@ -800,18 +844,19 @@ struct ebpf_code_reference {
 };
 
 /*
- * Lists the slots of the linked program of a name that refer to its copies: a row each, in the order of the slots. *count
- * is how many. Asked as ebpf_link_map is, and refused alike. Numbers: 1, 2, 3, 4, 600 to 699.
+ * Lists the slots of the linked program of a name that refer to its copies: a row each, in the order of the slots.
+ * *count is how many. Call it before `ebpf_relocate_calls`. It refuses as `ebpf_link_map` does.
+ * Numbers: 1, 2, 3, 4, 600 to 699.
  */
 uint32_t ebpf_link_references(struct ebpf_handle *handle, const char *name, size_t name_len,
 			      struct ebpf_code_reference *rows, size_t room, size_t *count, char *about,
 			      size_t about_room, struct ebpf_refusal *refusal);
 
 /*
- * Opens the object of a file and runs all of these passes over it. Where types_len is 0, functions are not relocated
- * and externs are looked up in the symbols alone. An object that the handle held before is closed where the answer is 0.
- * The rows' names are looked at first, then the types are read, then the file. Numbers: 2, 6, 100 to 199, 200 to 299,
- * .., 600 to 699.
+ * Opens the object of a file by strict parsing, and runs all of these passes over it. If `types_len` is 0, functions
+ * are not relocated and externs are looked up in the symbols alone. With the number 0 an object that the handle held
+ * before is closed. The rows' names are looked at first, then the types are read, then the file.
+ * Numbers: 2, 6, 100 to 199, 200 to 299, .., 600 to 699.
  */
 uint32_t ebpf_prepare(const uint8_t *file, size_t file_len, const uint8_t *types, size_t types_len,
 		      const struct ebpf_descriptor *rows, size_t rows_len, const char *text, size_t text_len,
@@ -819,9 +864,9 @@ uint32_t ebpf_prepare(const uint8_t *file, size_t file_len, const uint8_t *types
 		      size_t about_room, struct ebpf_refusal *refusal);
 
 /*
- * Runs the same passes over the object that the handle holds, whose values and sizes may be set before; so maps can be
- * made as ebpf_maps lists them, and the same object prepared with their descriptors. The rows' names are looked at first,
- * then the types are read. After a refusal the object is as it was. Numbers: 2, 3, 6, 200 to 299, .., 600 to 699.
+ * Runs the same passes over the object that the handle holds. Its values and sizes may be set before. So make the maps
+ * as `ebpf_maps` lists them, and prepare the same object with their descriptors. The rows' names are looked at first,
+ * then the types are read. After a refusal the object is unchanged. Numbers: 2, 3, 6, 200 to 299, .., 600 to 699.
  */
 uint32_t ebpf_prepare_handle(struct ebpf_handle *handle, const uint8_t *types, size_t types_len,
 			     const struct ebpf_descriptor *rows, size_t rows_len, const char *text, size_t text_len,

@@ -53,7 +53,7 @@ static void list(struct bytes file)
 static void refuse(struct bytes file)
 {
 	struct ebpf_handle handle = opened(file);
-	const struct ebpf_descriptor rows[] = { { 0, 6, 3 } };
+	const int fd = 3;
 	uint32_t number;
 
 #include "refused.inc"
