@@ -56,7 +56,7 @@ def words():
 
 def name_of(program):
     """What a program calls itself."""
-    return os.path.basename(program).removesuffix("_program").replace("_", "-")
+    return os.path.basename(program).removesuffix("_program").replace("cli_", "ebpf_").replace("_", "-")
 
 
 class Worker:

@@ -35,7 +35,7 @@ LARGE = chain(5000)
 class Checks:
     def __init__(self, program, folder):
         self.program, self.folder = program, folder
-        self.name = os.path.basename(program).removesuffix("_program").replace("_", "-")
+        self.name = os.path.basename(program).removesuffix("_program").replace("cli_", "ebpf_").replace("_", "-")
         self.passed = self.failed = 0
 
     def path(self, name, data):

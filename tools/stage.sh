@@ -21,7 +21,8 @@ put_programs() {
     local crate
     mkdir -p "$folder/bin"
     for crate in ebpf ebpf_link cli_inspect_program; do
-        local name=${crate%_program}
+        local name=${crate/#cli_/ebpf_}
+        name=${name%_program}
         install -m 755 "$top/crates/$crate/out/$crate" "$folder/bin/${name//_/-}"
     done
 }

@@ -17,7 +17,7 @@ class ProgramRow(Row):
     may_do_without = True
 
     def __init__(self, crate, what, *words, said=None):
-        name = crate.removesuffix("_program").replace("_", "-")
+        name = crate.removesuffix("_program").replace("cli_", "ebpf_").replace("_", "-")
         super().__init__(f"{name} on {what}", CRATES / crate / "out" / crate, *words)
         texts = ["memory"] + [f"{stage}: OutOfMemory" for stage in STAGES]
         self.memory_lines = [f"{name}: {text}\n".encode() for text in texts]
