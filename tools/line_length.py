@@ -16,7 +16,7 @@ TOP = Path(__file__).parents[1]
 COLUMNS = 100
 # Operators of terms by their strength, the weakest first; a term breaks before the weakest that it has.
 OPERATORS = [{"→"}, {"↔"}, {"then", "else"}, {"×"}, {"||"}, {"&&"}, {"≡", "≤", "<", "∈", "=="}, {"++", "∷"}, {"+", "-"}]
-OPENING, CLOSING = "({[⟨", ")}]⟩"
+OPENING, CLOSING = "({⟨", ")}⟩"
 CLAUSE = re.compile(r"( *)((?:ensures|requires|ghost)\*?(?: [\w*]+:?)?(?: =)?) \{ (.*) \}(;|,|)$")
 
 
@@ -232,7 +232,19 @@ def flat_brackets(text):
 
 
 def wrapped(line, is_spec):
-    """A line that is too long, as lines."""
+    """A line that is too long, as lines; what closes brackets behind a term may need a narrower page."""
+    global COLUMNS
+    widest = COLUMNS
+    for COLUMNS in range(widest, widest - 12, -2):
+        made = broken_line(line, is_spec)
+        if max(map(len, made)) <= widest:
+            break
+    COLUMNS = widest
+    return made
+
+
+def broken_line(line, is_spec):
+    """A line as lines of at most COLUMNS, but for what closes brackets."""
     text = line.strip()
     if not is_spec:
         return clause_lines(line)
