@@ -47,7 +47,6 @@ put_library() {
 
 put_manual() {
     local page=$top/docs/CLI.md it
-    [ -e "$page" ] || page=$top/docs/TOOL.md
     mkdir -p "$folder"/share/man/man{1,3}
     python3 -B "$top/tools/man_page.py" "$version" "$page" >"$folder/share/man/man1/ebpf.1"
     python3 -B "$top/tools/man_page.py" "$version" "$top/include/ebpf.h" >"$folder/share/man/man3/ebpf.3"

@@ -72,7 +72,7 @@ fn an_object_is_prepared_with_its_values() {
 
 #[test]
 fn the_version_is_told() {
-    assert_eq!(version(), (0, 3, 0));
+    assert_eq!(version(), (0, 4, 0));
     let object = Object::open(&file("tests/drivers/test_rows/data/counter.o")).expect("an object");
     assert!(object.states_license().expect("a section license"));
 }
