@@ -201,9 +201,8 @@ def import_lines(line):
     found = re.match(r"(.*\.\{)(.*)\}$", line)
     if not found:
         return [line]
-    return [found[1], *filled([[f"{name},"] for name in found[2].split(", ")], 4, ["    "])][:-1] + [
-        filled([[f"{name},"] for name in found[2].split(", ")], 4, ["    "])[-1].rstrip(",") + "}"
-    ]
+    lines = filled([[f"{name},"] for name in found[2].split(", ")], 4, ["    "])
+    return [found[1], *lines[:-1], lines[-1].rstrip(",") + "}"]
 
 
 def definition_lines(line):
