@@ -1,5 +1,5 @@
 -- Entries put into a map, and maps of which each value is made anew.
-use Rattle.std.proofs.Common.{◌≡◌, List, [], ◌∷◌, ◌++◌, refl, ap, ◌∙◌, ◌&&◌, T, Bool, cond, true, false, map, Option, Some, None, sym, subst}
+use Rattle.std.proofs.Common.{◌≡◌, List, [], ◌∷◌, ◌++◌, refl, ap, ◌∙◌, ◌&&◌, T, Bool, cond, true, false, Option, Some, None, sym, subst}
 use Rattle.std.specs.declared.cmp.Ordering.{Ordering}
 use Rattle.std.specs.FinMap.{FinMap, insert, get-insert, IsAntisymmetric, from_entries, empty, entries, entries_sorted, entries-from_sorted, get, get-entries, find, is_sorted, same_map, same_entries_map, get-from_entries, get-empty}
 use Rattle.std.specs.Cmp.{IsTotalOrder, nat_cmp_total}

@@ -1,21 +1,34 @@
 //! Values by number, in order, seen as a finite map.
 #![tactic(auto, using(crate::proofs::Maps::numbered))]
 
-ghost use Rattle.std.specs.Prelude.{◌≡◌, ◌<◌, ◌^◌, length, OnOk, OnErr, OnSome};
-ghost use Rattle.std.specs.Option.{option_copied_mut};
+ghost use Rattle.std.specs.Prelude.{◌≡◌, ◌<◌, ◌^◌, ◌↔◌, length, OnOk, OnErr, OnSome, IfOk, IsTrue, MatchOption, Ok, Err};
+ghost use Rattle.std.specs.Option.{option_copied, option_copied_mut};
 ghost use Rattle.std.specs.Borrow.{LendsSo, sem};
 ghost use Rattle.std.specs.FinMap as map;
+ghost use Rattle.ebpf_base.specs.Maps.{AreCopies, maps_eq, maps_eq_laws, entries_from};
+ghost use Rattle.std.specs.Cmp.{nat_cmp_total};
+ghost use Rattle.std.specs.List.Sorted.{IsStrictlySortedBy};
+ghost use Rattle.std.specs.Map.{keys_of};
+ghost use Rattle.std.specs.Coded.{coded_ℕ};
+ghost use Rattle.std.specs.Ordering.{nat_cmp};
 ghost use Rattle.ebpf_base.specs.contracts.by_number.ByNumber.{the_row};
 
 use std::alloc::{AllocError, Global};
 use std::collections::{BTreeMap, btree_map};
 use std::marker::Model;
+use std::mem;
 
 /// Values by number. Contracts see the finite map alone.
 #[derive(Debug, Drop)]
 pub struct ByNumber<V> {
-    entries: BTreeMap<u32, V>,
+    entries: BTreeMap<u64, V>,
 }
+
+/// Values by a section's index.
+pub type BySection<V> = ByNumber<V>;
+
+/// Values by an offset in bytes.
+pub type ByOffset<V> = ByNumber<V>;
 
 impl<V> Model for ByNumber<V> {
     ghost use Rattle.std.specs.FinMap as map;
@@ -39,37 +52,127 @@ impl<V> ByNumber<V> {
         }
     }
 
-    /// How many numbers there are.
+    /// The map that a `BTreeMap` holds, without memory.
+    pub fn from_map(entries: BTreeMap<u64, V>) -> Self
+        ensures { result ≡ map.from_entries entries.entries }
+    {
+        ByNumber { entries }
+    }
+
+    /// The map as a `BTreeMap`, without memory.
+    pub fn into_map(self) -> BTreeMap<u64, V>
+        ensures { map.from_entries result.entries ≡ self }
+    {
+        self.entries
+    }
+
+    /// The map, lent.
+    pub fn as_map(&self) -> &BTreeMap<u64, V>
+        ensures { map.from_entries result.now.entries ≡ self.now }
+    {
+        &self.entries
+    }
+
+    /// The number of keys.
     pub fn len(&self) -> usize
         ensures { result ≡ map.len self.now }
     {
         self.entries.len()
     }
 
-    /// The value at a number, to be written. What is left there when the borrow ends is the value at the number.
-    pub fn get_mut(&mut self, number: u32) -> Option<&mut V>
-        ensures* writes_back { sem 𝓛 (LendsSo (the_row V.row) V.row self.entry result (λ n w. OnSome result (n ≡ map.insert self.old number w)) (λ n. n ≡ self.old)) }
-        ensures value { option_copied_mut result ≡ map.get self.old number }
+    /// Whether no key is there.
+    pub fn is_empty(&self) -> bool
+        ensures { IsTrue result ↔ (self.now ≡ map.empty) }
     {
-        self.entries.get_mut(&number)
+        self.entries.is_empty()
+    }
+
+    /// Whether a key is there.
+    pub fn contains_key(&self, key: u64) -> bool
+        ensures { result ≡ map.contains_key self.now key }
+    {
+        self.entries.contains_key(&key)
+    }
+
+    /// The value at a key.
+    pub fn get(&self, key: u64) -> Option<&V>
+        ensures { option_copied result ≡ map.get self.now key }
+    {
+        self.entries.get(&key)
+    }
+
+    /// The value at a key, to be written. What is left there when the borrow ends is the value at the key.
+    pub fn get_mut(&mut self, key: u64) -> Option<&mut V>
+        ensures* writes_back { sem 𝓛 (LendsSo (the_row V.row) V.row self.entry result (λ n w. OnSome result (n ≡ map.insert self.old key w)) (λ n. n ≡ self.old)) }
+        ensures value { option_copied_mut result ≡ map.get self.old key }
+    {
+        self.entries.get_mut(&key)
     }
 
     /// The entries in the order of the numbers.
-    pub fn iter(&self) -> btree_map::Iter<'_, u32, V>
+    pub fn iter(&self) -> btree_map::Iter<'_, u64, V>
         ensures all { result ≡ map.entries self.now }
+        ensures rising { IsStrictlySortedBy nat_cmp (keys_of result) }
         ensures fits { length result < 2 ^ 63 }
     {
         self.entries.iter()
     }
+
+    /// The entries of the numbers from `from` on, in order.
+    pub fn from_number(&self, from: u64) -> btree_map::Range<'_, u64, V>
+        ensures part { result ≡ entries_from from (map.entries self.now) }
+        ensures fits { length result < 2 ^ 63 }
+    {
+        self.entries.range(from..)
+    }
+
+    /// Replaces the value at a key, which comes back. `Err` gives the value back
+    /// where the key is not there. No memory is taken.
+    pub fn replace(&mut self, key: u64, value: V) -> Result<V, V>
+        ensures { MatchOption (map.get self.old key) ((result ≡ Err value) × (self.new ≡ self.old)) (λ before. (result ≡ Ok before) × (self.new ≡ map.insert self.old key value)) }
+    {
+        let Some(stored) = self.entries.get_mut(&key) else {
+            return Err(value);
+        };
+        Ok(mem::replace(stored, value))
+    }
+
+    /// Takes a key out, and gives the value that was there.
+    pub fn remove(&mut self, key: u64) -> Option<V>
+        ensures value { result ≡ map.get self.old key }
+        ensures others { self.new ≡ map.remove self.old key }
+    {
+        self.entries.remove(&key)
+    }
 }
 
 impl<V: Drop> ByNumber<V> {
-    /// Puts a value at a number. Where no memory is found the map stays.
-    pub fn insert(&mut self, number: u32, value: V) -> Result<(), AllocError>
-        ensures ok { OnOk result (self.new ≡ map.insert self.old number value) }
+    /// Puts a value at a key, and gives the one that was there. Where no memory is found the map stays.
+    pub fn insert(&mut self, key: u64, value: V) -> Result<Option<V>, AllocError>
+        ensures before { IfOk result (λ before. before ≡ map.get self.old key) }
+        ensures ok { OnOk result (self.new ≡ map.insert self.old key value) }
         ensures err { OnErr result (self.new ≡ self.old) }
     {
-        self.entries.insert(number, value)?;
-        Ok(())
+        Ok(self.entries.insert(key, value)?)
+    }
+}
+
+impl<V: Clone> Clone for ByNumber<V> {
+    ghost is_clone = { AreCopies V.is_clone };
+
+    fn clone(&self) -> Result<ByNumber<V>, AllocError> {
+        Ok(ByNumber {
+            entries: self.entries.clone()?,
+        })
+    }
+}
+
+impl<V: PartialEq> PartialEq for ByNumber<V> {
+    ghost eq = { maps_eq V.eq };
+
+    ghost laws = { maps_eq_laws nat_cmp_total V.PartialEq.laws };
+
+    fn eq(&self, other: &Self) -> bool {
+        self.entries.len() == other.entries.len() && self.entries == other.entries
     }
 }

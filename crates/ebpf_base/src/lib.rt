@@ -1,12 +1,12 @@
 //! Small types that contracts see as texts, lists and finite maps, and the words on faults.
+//!
+//! Each kind of key has a map type of its own: a model cannot use the members of a type parameter, such as its order.
 #![tactic(auto)]
 
 mod by_index;
 mod by_key;
 mod by_name;
 mod by_number;
-mod by_offset;
-mod by_section;
 mod endianness;
 mod items;
 pub mod numbers;
@@ -15,9 +15,7 @@ mod text;
 pub use by_index::ByIndex;
 pub use by_key::ByKey;
 pub use by_name::ByName;
-pub use by_number::ByNumber;
-pub use by_offset::ByOffset;
-pub use by_section::BySection;
+pub use by_number::{ByNumber, ByOffset, BySection};
 pub use endianness::Endianness;
 pub use items::Items;
 pub use text::Text;

@@ -8,8 +8,8 @@ pub returns : goal.returns
 returns g c = (
   (
     refl,
-    λ w. where_some c.get_mut.result _ c.get_mut.ensures.value (λ some. one_set nat_cmp_total nat_cmp-IsAntisymmetric _ _ c.args.number w ((c.get_mut.follows.holds w).3 some).0 ∙ ap (λ m. insert m c.args.number w) c.self.view_is),
+    λ w. where_some c.get_mut.result _ c.get_mut.ensures.value (λ some. one_set nat_cmp_total nat_cmp-IsAntisymmetric _ _ c.args.key w ((c.get_mut.follows.holds w).3 some).0 ∙ ap (λ m. insert m c.args.key w) c.self.view_is),
     ap (λ m. from_entries m.entries) c.get_mut.follows.holds-at-none ∙ c.self.view_is,
   ),
-  record { writes_back = tt; value = c.get_mut.ensures.value ∙ sym (get-view nat_cmp_total _ c.args.number) ∙ ap (λ m. get m c.args.number) c.self.view_is },
+  record { writes_back = tt; value = c.get_mut.ensures.value ∙ sym (get-view nat_cmp_total _ c.args.key) ∙ ap (λ m. get m c.args.key) c.self.view_is },
 )

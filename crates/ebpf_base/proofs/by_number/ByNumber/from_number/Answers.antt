@@ -2,7 +2,7 @@ use Rattle.std.proofs.Common.{◌∙◌, ap}
 use Rattle.std.specs.FinMap.{entries}
 use Rattle.ebpf_base.specs.Maps.{entries_from}
 use Rattle.ebpf_base.proofs.Maps.{from-view}
-use Rattle.ebpf_base.proofs.by_offset.ByOffset.from_offset.Goals as goal
+use Rattle.ebpf_base.proofs.by_number.ByNumber.from_number.Goals as goal
 
 pub returns-clause-part : goal.returns-clause-part
 returns-clause-part g c =

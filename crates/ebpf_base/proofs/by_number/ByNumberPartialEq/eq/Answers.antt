@@ -2,7 +2,7 @@ use Rattle.std.proofs.Common.{sym, ◌∙◌}
 use Rattle.std.specs.Cmp.{nat_cmp_total}
 use Rattle.ebpf_base.specs.Maps.{maps_eq}
 use Rattle.ebpf_base.proofs.SameMaps.{same_maps, other_maps, not_same, number_agrees}
-use Rattle.ebpf_base.proofs.by_section.BySectionPartialEq.eq.Goals as goal
+use Rattle.ebpf_base.proofs.by_number.ByNumberPartialEq.eq.Goals as goal
 
 pub returns-then-len : goal.returns-then-len
 returns-then-len g c =
