@@ -25,7 +25,7 @@ impl Model for ebpf_handle {
 
 impl ebpf_handle {
     /// A handle that holds none.
-    pub fn closed() -> ebpf_handle
+    pub fn without_object() -> ebpf_handle
         ensures { result.object ≡ None }
     {
         ebpf_handle {
@@ -42,7 +42,7 @@ impl ebpf_handle {
     }
 
     /// What the handle holds, as its pointer.
-    fn opened(self, alloc: Global) -> Option<Loose<Object, Global>>
+    fn into_pointer(self, alloc: Global) -> Option<Loose<Object, Global>>
         ensures { option_map (λ l. l.value) result ≡ self.object }
     {
         let ebpf_handle { at } = self;
@@ -66,7 +66,7 @@ impl ebpf_handle {
     pub fn into_box(self, alloc: Global) -> Option<Box<Object>>
         ensures { option_map (λ b. b.value) result ≡ self.object }
     {
-        match self.opened(alloc) {
+        match self.into_pointer(alloc) {
             Some(object) => Some(object.into_box()),
             None => None,
         }
@@ -76,7 +76,7 @@ impl ebpf_handle {
         ensures object { option_map (λ b. b.value) result ≡ self.old.object }
         ensures closed { self.new.object ≡ None }
     {
-        mem::replace(self, ebpf_handle::closed()).into_box(alloc)
+        mem::replace(self, ebpf_handle::without_object()).into_box(alloc)
     }
 
     /// Puts an object in the place of what the handle holds, which is freed.

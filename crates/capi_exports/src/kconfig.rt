@@ -14,7 +14,7 @@ use crate::handle::ebpf_handle;
 use capi_rows::buffers::{Listing, ebpf_counts, list_all, tell_items, tell_listing, tell_value};
 use capi_rows::codes::{BAD_NAME, BAD_VALUE, CLOSED, DONE, MEMORY, NO_EXTERN};
 use capi_rows::reads::{given_values, text_of};
-use capi_rows::refusal::{Refusal, answered, ebpf_refusal, tell};
+use capi_rows::refusal::{Refusal, ebpf_refusal, reported_number, tell};
 use capi_rows::refusals::kconfig_refusal;
 use capi_rows::variables::{are_named, ebpf_kconfig_extern, ebpf_value, have_values};
 use ebpf_base::Items;
@@ -246,5 +246,5 @@ pub extern "C" fn ebpf_define_kconfig(
     };
     let answer = define_by_rows(alloc, &mut object, rows, text, bytes);
     handle.put(alloc, object);
-    answered(answer, about, report)
+    reported_number(answer, about, report)
 }

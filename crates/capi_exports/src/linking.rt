@@ -15,7 +15,7 @@ use capi_rows::codes::{CLOSED, DONE, MEMORY, NO_PROGRAM};
 use capi_rows::faults::slot_refusal;
 use capi_rows::reads::text_of;
 use capi_rows::record_rows::{ebpf_code_copy, ebpf_code_reference, list_references};
-use capi_rows::refusal::{Refusal, answered, ebpf_refusal, tell};
+use capi_rows::refusal::{Refusal, ebpf_refusal, reported_number, tell};
 use ebpf_base::Items;
 use ebpf_model::EbpfRelocationError;
 use ebpf_object::Object;
@@ -63,7 +63,7 @@ pub extern "C" fn ebpf_relocate_calls(
     };
     let answer = link_programs(alloc, &mut object);
     handle.put(alloc, object);
-    answered(answer, about, report)
+    reported_number(answer, about, report)
 }
 
 /// The link map of the program that some bytes name.

@@ -10,7 +10,7 @@ use crate::handle::ebpf_handle;
 use capi_rows::codes::{BAD_NAME, BAD_VALUE, CLOSED, DONE, MEMORY, NO_MAP, WRONG_LENGTH};
 use capi_rows::entries::value_by_bytes;
 use capi_rows::faults::parse_refusal;
-use capi_rows::refusal::{Refusal, answered, ebpf_refusal, tell};
+use capi_rows::refusal::{Refusal, ebpf_refusal, reported_number, tell};
 use capi_rows::variables::{are_named, ebpf_value, have_values, values_in};
 use ebpf_base::ByName;
 use ebpf_object::Object;
@@ -209,5 +209,5 @@ pub extern "C" fn ebpf_set_values(
     };
     let answer = set_values(alloc, &mut object, rows, text, bytes);
     handle.put(alloc, object);
-    answered(answer, about, report)
+    reported_number(answer, about, report)
 }

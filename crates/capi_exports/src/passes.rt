@@ -11,7 +11,7 @@ use capi_rows::codes::{BAD_NAME, CLOSED, DONE, MEMORY};
 use capi_rows::faults::slot_refusal;
 use capi_rows::info::{read_types, read_types_if};
 use capi_rows::reads::{descriptors_in, ebpf_descriptor, have_names};
-use capi_rows::refusal::{Refusal, answered, ebpf_refusal, tell};
+use capi_rows::refusal::{Refusal, ebpf_refusal, reported_number, tell};
 use capi_rows::refusals::{ksyms_refusal, prepare_refusal, types_refusal};
 use ebpf_object::Object;
 use ebpf_object::prepare::relocate_own_maps;
@@ -55,7 +55,7 @@ pub extern "C" fn ebpf_relocate_types(
     };
     let answer = relocate_types(alloc, &mut object, types);
     handle.put(alloc, object);
-    answered(answer, about, report)
+    reported_number(answer, about, report)
 }
 
 /// Writes the descriptors of maps of an object into the slots that refer to them.
@@ -106,7 +106,7 @@ pub extern "C" fn ebpf_relocate_maps(
     };
     let answer = write_map_fds(alloc, &mut object, rows, text);
     handle.put(alloc, object);
-    answered(answer, about, report)
+    reported_number(answer, about, report)
 }
 
 /// The number of the first fault of writing externs.
@@ -158,7 +158,7 @@ pub extern "C" fn ebpf_resolve_externs(
     };
     let answer = resolve_externs(alloc, &mut object, types, symbols);
     handle.put(alloc, object);
-    answered(answer, about, report)
+    reported_number(answer, about, report)
 }
 
 /// Writes the externs of an object into the slots that refer to them.
@@ -196,7 +196,7 @@ pub extern "C" fn ebpf_relocate_externs(
     };
     let answer = write_externs(&mut object);
     handle.put(alloc, object);
-    answered(answer, about, report)
+    reported_number(answer, about, report)
 }
 
 /// Makes the functions of an object fit for a kernel that has the newer helper functions, or has them not.

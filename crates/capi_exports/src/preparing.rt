@@ -8,7 +8,7 @@ use crate::handle::ebpf_handle;
 use capi_rows::codes::{BAD_NAME, CLOSED, DONE, MEMORY};
 use capi_rows::info::read_types_if;
 use capi_rows::reads::{descriptors_in, ebpf_descriptor, have_names};
-use capi_rows::refusal::{Refusal, answered, ebpf_refusal, tell};
+use capi_rows::refusal::{Refusal, ebpf_refusal, reported_number, tell};
 use capi_rows::refusals::prepare_refusal;
 use ebpf_object::Object;
 use ebpf_object::prepare::{Steps, SymbolText, prepare, prepare_in_place};
@@ -127,5 +127,5 @@ pub extern "C" fn ebpf_prepare_handle(
     };
     let answer = prepare_held(alloc, &mut object, types, rows, text, symbols);
     handle.put(alloc, object);
-    answered(answer, about, report)
+    reported_number(answer, about, report)
 }

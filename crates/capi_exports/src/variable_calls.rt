@@ -13,7 +13,7 @@ use capi_rows::buffers::{ebpf_counts, write_all};
 use capi_rows::codes::{BAD_NAME, CLOSED, DONE, MEMORY};
 use capi_rows::faults::parse_refusal;
 use capi_rows::reads::text_of;
-use capi_rows::refusal::{Refusal, answered, ebpf_refusal, tell};
+use capi_rows::refusal::{Refusal, ebpf_refusal, reported_number, tell};
 use capi_rows::variables::{ebpf_variable, put_over, write_value};
 use ebpf_object::{Object, symbol_indices};
 use std::alloc::{AllocError, Global};
@@ -84,7 +84,7 @@ pub extern "C" fn ebpf_set_value(
     };
     let answer = set_value(alloc, &mut object, name, value, must_exist != 0);
     handle.put(alloc, object);
-    answered(answer, about, report)
+    reported_number(answer, about, report)
 }
 
 /// Lists the variables of an object, as `ebpf_variables` does.

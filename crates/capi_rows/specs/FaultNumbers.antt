@@ -9,7 +9,7 @@ use Rattle.ebpf_parts.specs.declared.error.ParseError.TheVariants as parse
 use Rattle.ebpf_model.specs.declared.error.EbpfRelocationError.{EbpfRelocationError}
 use Rattle.ebpf_model.specs.declared.error.RelocationError.{RelocationError}
 use Rattle.ebpf_model.specs.declared.error.RelocationError.TheVariants as slot
-use Rattle.capi_rows.specs.Refusals.{at_address, at_offset, at_section, no_details, of_index, of_kind, of_relocation, of_size, of_symbol, of_type, two_sizes, detailed, detailed_with_name, plain, refusal_with_name}
+use Rattle.capi_rows.specs.Refusals.{at_address, at_offset, at_section, no_details, of_index, of_kind, of_relocation, of_size, of_symbol, of_type, two_sizes, refusal_with_details, detailed_with_name, plain, refusal_with_name}
 use Rattle.capi_rows.specs.declared.codes.TheConstants.{MEMORY}
 use Rattle.capi_rows.specs.declared.refusal.Details.{Details}
 use Rattle.capi_rows.specs.declared.refusal.Refusal.{Refusal}
@@ -61,27 +61,27 @@ type_refusal first e = record { number = (type_fault first e).0; name = type_fau
 
 abbrev pub parse_refusal : ParseError → Refusal
 parse_refusal (parse.ElfError e) = plain (100 + file_fault e)
-parse_refusal (parse.SectionError index e) = detailed (110 + file_fault e) (at_section index no_details)
+parse_refusal (parse.SectionError index e) = refusal_with_details (110 + file_fault e) (at_section index no_details)
 parse_refusal (parse.BtfError e) = type_refusal 120 e
-parse_refusal (parse.MissingLicenseNullTerminator bytes) = detailed 140 (of_size (length bytes) no_details)
-parse_refusal (parse.InvalidLicense bytes) = detailed 141 (of_size (length bytes) no_details)
-parse_refusal (parse.InvalidKernelVersion bytes) = detailed 142 (of_size (length bytes) no_details)
+parse_refusal (parse.MissingLicenseNullTerminator bytes) = refusal_with_details 140 (of_size (length bytes) no_details)
+parse_refusal (parse.InvalidLicense bytes) = refusal_with_details 141 (of_size (length bytes) no_details)
+parse_refusal (parse.InvalidKernelVersion bytes) = refusal_with_details 142 (of_size (length bytes) no_details)
 parse_refusal parse.UnsupportedRelocationTarget = plain 143
 parse_refusal (parse.InvalidProgramSection section) = refusal_with_name 144 section
 parse_refusal parse.InvalidProgramCode = plain 145
 parse_refusal (parse.InvalidMapDefinition name) = refusal_with_name 146 name
-parse_refusal (parse.SymbolTableConflict section address) = detailed 147 (at_address address (at_section section no_details))
-parse_refusal (parse.UnknownSymbol section address) = detailed 148 (at_address address (at_section section no_details))
+parse_refusal (parse.SymbolTableConflict section address) = refusal_with_details 147 (at_address address (at_section section no_details))
+parse_refusal (parse.UnknownSymbol section address) = refusal_with_details 148 (at_address address (at_section section no_details))
 parse_refusal (parse.InvalidSymbol index name) = record { number = 149; name = name; details = of_symbol index no_details }
 parse_refusal (parse.InvalidGlobalData name size length) = detailed_with_name 150 name (two_sizes size length no_details)
 parse_refusal (parse.SymbolNotFound name) = refusal_with_name 151 name
-parse_refusal (parse.MapNotFound section) = detailed 152 (at_section section no_details)
-parse_refusal (parse.MapSymbolNameNotFound i) = detailed 153 (of_index i no_details)
+parse_refusal (parse.MapNotFound section) = refusal_with_details 152 (at_section section no_details)
+parse_refusal (parse.MapSymbolNameNotFound i) = refusal_with_details 153 (of_index i no_details)
 parse_refusal (parse.NoSymbolsForSection section) = refusal_with_name 154 section
 parse_refusal parse.NoBTF = plain 155
 parse_refusal parse.OutOfMemory = plain MEMORY
 parse_refusal parse.BigEndianCode = plain 156
-parse_refusal (parse.TooLarge most) = detailed 157 (of_size most no_details)
+parse_refusal (parse.TooLarge most) = refusal_with_details 157 (of_size most no_details)
 
 -- ---- 300, 500 and 600 on: slots, about the function or the program
 

@@ -1,6 +1,6 @@
 -- The numbers and names of the refusals of what a loader asks for beside relocation.
 use Rattle.std.specs.Prelude.{ℕ, ◌+◌, List}
-use Rattle.capi_rows.specs.Refusals.{at_offset, no_details, of_kind, of_size, of_symbol, of_type, two_sizes, at_slot, of_count, of_index, of_relocation, two_addresses, detailed, detailed_with_name, plain, refusal_with_name}
+use Rattle.capi_rows.specs.Refusals.{at_offset, no_details, of_kind, of_size, of_symbol, of_type, two_sizes, at_slot, of_count, of_index, of_relocation, two_addresses, refusal_with_details, detailed_with_name, plain, refusal_with_name}
 use Rattle.capi_rows.specs.FaultNumbers.{file_fault, type_refusal, parse_refusal, slot_refusal, type_fault}
 use Rattle.capi_rows.specs.declared.codes.TheConstants.{MEMORY}
 use Rattle.capi_rows.specs.declared.refusal.Details.{Details}
@@ -40,8 +40,8 @@ kernel_types_refusal file kernel.OutOfMemory = plain MEMORY
 
 abbrev pub initial_slots_refusal : InitialSlotError → Refusal
 initial_slots_refusal (initial.ElfError e) = plain (800 + file_fault e)
-initial_slots_refusal (initial.UnknownSymbol place symbol) = detailed 820 (of_symbol symbol (at_offset place no_details))
-initial_slots_refusal (initial.OutsideMaps place) = detailed 821 (at_offset place no_details)
+initial_slots_refusal (initial.UnknownSymbol place symbol) = refusal_with_details 820 (of_symbol symbol (at_offset place no_details))
+initial_slots_refusal (initial.OutsideMaps place) = refusal_with_details 821 (at_offset place no_details)
 initial_slots_refusal (initial.UnsupportedMapType map kind) = detailed_with_name 822 map (of_kind kind no_details)
 initial_slots_refusal (initial.NotInMaps map _) = refusal_with_name 823 map
 initial_slots_refusal (initial.UnsupportedKeySize map size) = detailed_with_name 824 map (of_size size no_details)
@@ -56,8 +56,8 @@ initial_slots_refusal initial.OutOfMemory = plain MEMORY
 -- ---- 900 to 999: externs of the kernel's configuration, about the extern
 
 abbrev pub kconfig_refusal : KconfigError → Refusal
-kconfig_refusal (kconfig.NotAVariable id) = detailed 900 (of_type id no_details)
-kconfig_refusal (kconfig.UnreadableName offset) = detailed 901 (at_offset offset no_details)
+kconfig_refusal (kconfig.NotAVariable id) = refusal_with_details 900 (of_type id no_details)
+kconfig_refusal (kconfig.UnreadableName offset) = refusal_with_details 901 (at_offset offset no_details)
 kconfig_refusal (kconfig.UnknownName name) = refusal_with_name 902 name
 kconfig_refusal (kconfig.UnsupportedType name) = refusal_with_name 903 name
 kconfig_refusal (kconfig.NoValue name) = refusal_with_name 904 name

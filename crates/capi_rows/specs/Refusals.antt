@@ -108,8 +108,8 @@ refusal_row number d name_len = record {
 -- ---- a refusal, as C is told of it
 
 -- a refusal that is about nothing with a name, and whose error states numbers
-abbrev pub detailed : ℕ → Details → Refusal
-detailed number details = record { number = number; name = None; details = details }
+abbrev pub refusal_with_details : ℕ → Details → Refusal
+refusal_with_details number details = record { number = number; name = None; details = details }
 
 -- a refusal that is about what has a name, and whose error states numbers
 abbrev pub detailed_with_name : ℕ → List ℕ → Details → Refusal
@@ -117,7 +117,7 @@ detailed_with_name number name details = record { number = number; name = Some n
 
 -- a refusal that is about nothing with a name
 abbrev pub plain : ℕ → Refusal
-plain number = detailed number no_details
+plain number = refusal_with_details number no_details
 
 -- a refusal that is about what has a name
 abbrev pub refusal_with_name : ℕ → List ℕ → Refusal

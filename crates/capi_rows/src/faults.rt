@@ -74,7 +74,7 @@ pub fn type_refusal(first: u32, error: BtfError) -> Refusal
             number, name, details,
         ),
         BtfError::InvalidValuesSpec { name } => Refusal::named_detailed(number, name, details),
-        _ => Refusal::detailed(number, details),
+        _ => Refusal::with_details(number, details),
     }
 }
 
@@ -86,35 +86,35 @@ pub fn parse_refusal(error: ParseError) -> Refusal
     let none = Details::none();
     match error {
         ParseError::ElfError(error) => Refusal::plain(100 + file_fault(error)),
-        ParseError::SectionError { index, error } => Refusal::detailed(
+        ParseError::SectionError { index, error } => Refusal::with_details(
             110 + file_fault(error),
             none.at_section(index),
         ),
         ParseError::BtfError(error) => type_refusal(120, error),
-        ParseError::MissingLicenseNullTerminator { bytes } => Refusal::detailed(
+        ParseError::MissingLicenseNullTerminator { bytes } => Refusal::with_details(
             140,
             none.of_size(bytes.len() as u64),
         ),
-        ParseError::InvalidLicense { bytes } => Refusal::detailed(
+        ParseError::InvalidLicense { bytes } => Refusal::with_details(
             141,
             none.of_size(bytes.len() as u64),
         ),
-        ParseError::InvalidKernelVersion { bytes } => Refusal::detailed(
+        ParseError::InvalidKernelVersion { bytes } => Refusal::with_details(
             142,
             none.of_size(bytes.len() as u64),
         ),
         ParseError::UnsupportedRelocationTarget => Refusal::plain(143),
-        ParseError::InvalidProgramSection { section } => Refusal::named(144, section),
+        ParseError::InvalidProgramSection { section } => Refusal::with_name(144, section),
         ParseError::InvalidProgramCode => Refusal::plain(145),
-        ParseError::InvalidMapDefinition { name } => Refusal::named(146, name),
+        ParseError::InvalidMapDefinition { name } => Refusal::with_name(146, name),
         ParseError::SymbolTableConflict {
             section_index,
             address,
-        } => Refusal::detailed(147, none.at_section(section_index).at_address(address)),
+        } => Refusal::with_details(147, none.at_section(section_index).at_address(address)),
         ParseError::UnknownSymbol {
             section_index,
             address,
-        } => Refusal::detailed(148, none.at_section(section_index).at_address(address)),
+        } => Refusal::with_details(148, none.at_section(section_index).at_address(address)),
         ParseError::InvalidSymbol { index, name } => Refusal {
             number: 149,
             name,
@@ -125,14 +125,14 @@ pub fn parse_refusal(error: ParseError) -> Refusal
             sym_size,
             data_size,
         } => Refusal::named_detailed(150, name, none.two_sizes(sym_size, data_size as u64)),
-        ParseError::SymbolNotFound { name } => Refusal::named(151, name),
-        ParseError::MapNotFound { index } => Refusal::detailed(152, none.at_section(index)),
-        ParseError::MapSymbolNameNotFound { i } => Refusal::detailed(153, none.of_index(i)),
-        ParseError::NoSymbolsForSection { section_name } => Refusal::named(154, section_name),
+        ParseError::SymbolNotFound { name } => Refusal::with_name(151, name),
+        ParseError::MapNotFound { index } => Refusal::with_details(152, none.at_section(index)),
+        ParseError::MapSymbolNameNotFound { i } => Refusal::with_details(153, none.of_index(i)),
+        ParseError::NoSymbolsForSection { section_name } => Refusal::with_name(154, section_name),
         ParseError::NoBTF => Refusal::plain(155),
         ParseError::OutOfMemory => Refusal::plain(MEMORY),
         ParseError::BigEndianCode => Refusal::plain(156),
-        ParseError::TooLarge { most_bytes } => Refusal::detailed(157, none.of_size(most_bytes)),
+        ParseError::TooLarge { most_bytes } => Refusal::with_details(157, none.of_size(most_bytes)),
     }
 }
 

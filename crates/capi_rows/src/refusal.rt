@@ -1,7 +1,7 @@
 //! A refusal, as C is told of it, and the numbers that its error states.
 
 ghost use Rattle.std.specs.Prelude.{◌≡◌, ◌<◌, ◌++◌, min, take, drop, length, IfErr, OnOk, Some, None};
-ghost use Rattle.capi_rows.specs.Refusals.{at_address, at_offset, at_section, at_slot, bits_of_counts, bits_of_places, has_of, no_details, of_count, of_index, of_kind, of_relocation, of_size, of_symbol, of_type, two_addresses, two_sizes, name_of, detailed, detailed_with_name, plain, refusal_with_name, IsReported, refusal_row};
+ghost use Rattle.capi_rows.specs.Refusals.{at_address, at_offset, at_section, at_slot, bits_of_counts, bits_of_places, has_of, no_details, of_count, of_index, of_kind, of_relocation, of_size, of_symbol, of_type, two_addresses, two_sizes, name_of, refusal_with_details, detailed_with_name, plain, refusal_with_name, IsReported, refusal_row};
 
 use crate::codes::{DONE, MEMORY, flag};
 use ebpf_base::Text;
@@ -213,19 +213,19 @@ impl Refusal {
     pub fn plain(number: u32) -> Refusal
         ensures { result ≡ plain number }
     {
-        Refusal::detailed(number, Details::none())
+        Refusal::with_details(number, Details::none())
     }
 
     /// A refusal that is about what has a name.
-    pub fn named(number: u32, name: Text) -> Refusal
+    pub fn with_name(number: u32, name: Text) -> Refusal
         ensures { result ≡ refusal_with_name number name }
     {
         Refusal::named_detailed(number, name, Details::none())
     }
 
     /// A refusal that is about nothing with a name, and whose error states numbers.
-    pub fn detailed(number: u32, details: Details) -> Refusal
-        ensures { result ≡ detailed number details }
+    pub fn with_details(number: u32, details: Details) -> Refusal
+        ensures { result ≡ refusal_with_details number details }
     {
         Refusal {
             number,
@@ -295,7 +295,7 @@ pub fn tell(refusal: &Refusal, about: &mut [u8], report: &mut ebpf_refusal) -> u
 }
 
 /// The number of an answer. Where it is a refusal, C is told of it.
-pub fn answered(answer: Result<(), Refusal>, about: &mut [u8], report: &mut ebpf_refusal) -> u32
+pub fn reported_number(answer: Result<(), Refusal>, about: &mut [u8], report: &mut ebpf_refusal) -> u32
     ensures about { OnOk answer (about.new ≡ about.old) }
     ensures report { OnOk answer (report.new ≡ report.old) }
     ensures number { OnOk answer (result ≡ DONE) }

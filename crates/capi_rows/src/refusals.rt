@@ -23,22 +23,22 @@ pub fn kconfig_refusal(error: KconfigError) -> Refusal
 {
     let none = Details::none();
     match error {
-        KconfigError::NotAVariable { type_id } => Refusal::detailed(900, none.of_type(type_id)),
-        KconfigError::UnreadableName { offset } => Refusal::detailed(
+        KconfigError::NotAVariable { type_id } => Refusal::with_details(900, none.of_type(type_id)),
+        KconfigError::UnreadableName { offset } => Refusal::with_details(
             901,
             none.at_offset(u64::from(offset)),
         ),
-        KconfigError::UnknownName { name } => Refusal::named(902, name),
-        KconfigError::UnsupportedType { name } => Refusal::named(903, name),
-        KconfigError::NoValue { name } => Refusal::named(904, name),
+        KconfigError::UnknownName { name } => Refusal::with_name(902, name),
+        KconfigError::UnsupportedType { name } => Refusal::with_name(903, name),
+        KconfigError::NoValue { name } => Refusal::with_name(904, name),
         KconfigError::WrongSize { name, size, length } => Refusal::named_detailed(
             905,
             name,
             none.two_sizes(u64::from(size), length as u64),
         ),
         KconfigError::TooLarge => Refusal::plain(906),
-        KconfigError::UnsuitedValue { name } => Refusal::named(907, name),
-        KconfigError::ValueOutOfRange { name } => Refusal::named(908, name),
+        KconfigError::UnsuitedValue { name } => Refusal::with_name(907, name),
+        KconfigError::ValueOutOfRange { name } => Refusal::with_name(908, name),
         KconfigError::OutOfMemory => Refusal::plain(MEMORY),
     }
 }
@@ -53,23 +53,23 @@ pub fn initial_slots_refusal(error: InitialSlotError) -> Refusal
         InitialSlotError::UnknownSymbol {
             place,
             symbol_index,
-        } => Refusal::detailed(820, none.at_offset(place).of_symbol(symbol_index)),
-        InitialSlotError::OutsideMaps { place } => Refusal::detailed(821, none.at_offset(place)),
+        } => Refusal::with_details(820, none.at_offset(place).of_symbol(symbol_index)),
+        InitialSlotError::OutsideMaps { place } => Refusal::with_details(821, none.at_offset(place)),
         InitialSlotError::UnsupportedMapType { map, map_type } => Refusal::named_detailed(
             822,
             map,
             none.of_kind(map_type),
         ),
-        InitialSlotError::NotInMaps { map, .. } => Refusal::named(823, map),
+        InitialSlotError::NotInMaps { map, .. } => Refusal::with_name(823, map),
         InitialSlotError::UnsupportedKeySize { map, key_size } => Refusal::named_detailed(
             824,
             map,
             none.of_size(u64::from(key_size)),
         ),
-        InitialSlotError::UnknownMap { map, .. } => Refusal::named(825, map),
-        InitialSlotError::UnknownProgram { map, .. } => Refusal::named(826, map),
-        InitialSlotError::NotAnEntryPoint { map, .. } => Refusal::named(827, map),
-        InitialSlotError::NoValues { map } => Refusal::named(828, map),
+        InitialSlotError::UnknownMap { map, .. } => Refusal::with_name(825, map),
+        InitialSlotError::UnknownProgram { map, .. } => Refusal::with_name(826, map),
+        InitialSlotError::NotAnEntryPoint { map, .. } => Refusal::with_name(827, map),
+        InitialSlotError::NoValues { map } => Refusal::with_name(828, map),
         InitialSlotError::OutsideValues { map, place } => Refusal::named_detailed(
             829,
             map,
@@ -113,10 +113,10 @@ pub fn ksyms_refusal(error: KsymsError) -> Refusal
 {
     match error {
         KsymsError::TypedKsymRequiresKernelBtf => Refusal::plain(400),
-        KsymsError::VariableNotFound { name } => Refusal::named(401, name),
-        KsymsError::IncompatibleFunctionSignature { name } => Refusal::named(402, name),
-        KsymsError::IncompatibleVariableType { name } => Refusal::named(403, name),
-        KsymsError::InvalidExternType { name } => Refusal::named(404, name),
+        KsymsError::VariableNotFound { name } => Refusal::with_name(401, name),
+        KsymsError::IncompatibleFunctionSignature { name } => Refusal::with_name(402, name),
+        KsymsError::IncompatibleVariableType { name } => Refusal::with_name(403, name),
+        KsymsError::InvalidExternType { name } => Refusal::with_name(404, name),
         KsymsError::AmbiguousResolution {
             name,
             first_addr,
@@ -127,8 +127,8 @@ pub fn ksyms_refusal(error: KsymsError) -> Refusal
             Details::none().two_addresses(first_addr, second_addr),
         ),
         KsymsError::KallsymsAccessError(_) => Refusal::plain(406),
-        KsymsError::KallsymsParseError(text) => Refusal::named(407, text),
-        KsymsError::FunctionNotFound { name } => Refusal::named(408, name),
+        KsymsError::KallsymsParseError(text) => Refusal::with_name(407, text),
+        KsymsError::FunctionNotFound { name } => Refusal::with_name(408, name),
         KsymsError::BtfError(error) => type_refusal(420, error),
         KsymsError::OutOfMemory => Refusal::plain(MEMORY),
     }

@@ -29,7 +29,7 @@ pub trait ListRow {
         ensures { result ≡ row_at order bytes.now offset };
 
     /// The row once more.
-    fn copied(&self) -> Self
+    fn duplicate(&self) -> Self
         ensures { result ≡ self.now };
 
     /// Appends the words of the row.
@@ -145,7 +145,7 @@ impl<'a, R: ListRow> Rows<'a, R> {
         ensures item { result ≡ slice_index_or self.now index result }
     {
         if let Some(rows) = self.own {
-            return rows[index].copied();
+            return rows[index].duplicate();
         }
         let offset = self.offset as usize + R::SIZE * index;
         R::read(self.order, self.bytes, offset)

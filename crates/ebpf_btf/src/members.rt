@@ -87,7 +87,7 @@ impl ListRow for BtfMember {
         }
     }
 
-    fn copied(&self) -> BtfMember {
+    fn duplicate(&self) -> BtfMember {
         *self
     }
 
@@ -113,7 +113,7 @@ impl ListRow for BtfEnum {
         }
     }
 
-    fn copied(&self) -> BtfEnum {
+    fn duplicate(&self) -> BtfEnum {
         *self
     }
 
@@ -140,7 +140,7 @@ impl ListRow for BtfEnum64 {
         }
     }
 
-    fn copied(&self) -> BtfEnum64 {
+    fn duplicate(&self) -> BtfEnum64 {
         *self
     }
 
@@ -166,7 +166,7 @@ impl ListRow for BtfParam {
         }
     }
 
-    fn copied(&self) -> BtfParam {
+    fn duplicate(&self) -> BtfParam {
         *self
     }
 
@@ -193,7 +193,7 @@ impl ListRow for DataSecEntry {
         }
     }
 
-    fn copied(&self) -> DataSecEntry {
+    fn duplicate(&self) -> DataSecEntry {
         *self
     }
 

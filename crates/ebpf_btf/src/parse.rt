@@ -89,7 +89,7 @@ fn read_offsets(alloc: Global, order: Endianness, part: &[u8]) -> Result<Vec<u32
 
 /// The two parts, copied.
 #[tactic(auto, unfolding(crate::specs::Reading::type_info_of, crate::specs::Reading::types_part, crate::specs::Reading::strings_in))]
-fn copied(alloc: Global, order: Endianness, data: &[u8]) -> Result<Btf, BtfError>
+fn copy_parts(alloc: Global, order: Endianness, data: &[u8]) -> Result<Btf, BtfError>
     ensures { Gives is_btf_memory result (type_info_of order «data».now) }
 {
     let parts = read_header(order, data)?;
@@ -102,7 +102,7 @@ fn copied(alloc: Global, order: Endianness, data: &[u8]) -> Result<Btf, BtfError
 
 /// The two parts, of which the strings alone are copied.
 #[tactic(auto, unfolding(crate::specs::Reading::type_info_of, crate::specs::Reading::types_part, crate::specs::Reading::strings_in), using(crate::proofs::Cut::part_is))]
-fn taken(order: Endianness, data: Vec<u8>) -> Result<Btf, BtfError>
+fn take_parts(order: Endianness, data: Vec<u8>) -> Result<Btf, BtfError>
     ensures { Gives is_btf_memory result (type_info_of order «data».items) }
 {
     let alloc = *data.allocator();
@@ -127,7 +127,7 @@ impl Btf {
         ensures found { IfOk result (λ info. Spells endianness «data».now info) }
         ensures only { (info : TypeInfo) → Spells endianness «data».now info → Gives is_btf_memory result (Ok info) }
     {
-        copied(alloc, endianness, data)
+        copy_parts(alloc, endianness, data)
     }
 
     /// The types and strings of `.BTF`, which is taken over: the strings alone are copied.
@@ -139,6 +139,6 @@ impl Btf {
         ensures found { IfOk result (λ info. Spells endianness «data».items info) }
         ensures only { (info : TypeInfo) → Spells endianness «data».items info → Gives is_btf_memory result (Ok info) }
     {
-        taken(endianness, data)
+        take_parts(endianness, data)
     }
 }

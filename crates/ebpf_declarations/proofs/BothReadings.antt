@@ -22,7 +22,7 @@ use Rattle.ebpf_btf.specs.declared.types.BtfType.{BtfType}
 use Rattle.ebpf_btf.specs.declared.types.BtfType.TheVariants.{Ptr, Struct}
 use Rattle.ebpf_declarations.specs.DataSections.{all_given, given, DatasecMatch, Named, UnreadableName, datasec_match}
 use Rattle.ebpf_declarations.specs.Laws.{BroadDeclaresAsStated}
-use Rattle.ebpf_declarations.specs.MapMembers.{unexpected, members_at, pointee_struct, inner_map_struct, map_member_at, no_definitions, with_all, pointee, struct_members, number, own_number, sole_value_in, sole_value, is_prototype, is_prototype_in, is_prototype_at}
+use Rattle.ebpf_declarations.specs.MapMembers.{unexpected_type, members_at, pointee_struct, inner_map_struct, map_member_at, no_definitions, with_all, pointee, struct_members, number, own_number, sole_value_in, sole_value, is_prototype, is_prototype_in, is_prototype_at}
 use Rattle.ebpf_declarations.specs.Maps.{with_members, plain_value, inner_member_value_of, inner_member_value, inner_definition, inner_struct_definition, are_programs, member_value_of, member_value, definitions, struct_definitions, number_value, variable, declared, map_with_symbol, entry_map, entries_maps, entries_fault, matched_maps, matched_maps_fault, type_maps, type_maps_fault}
 use Rattle.ebpf_declarations.specs.SectionMaps.{Remembers}
 use Rattle.ebpf_declarations.specs.declared.members.MapDefinitions.{MapDefinitions}
@@ -92,7 +92,7 @@ module _ (info : TypeInfo) (r t : Reading) (n o : List ℕ)
   unfolding inner_map_struct
   held_kept id s h =
       via (type_at info.types id) (type_at info.types id) _ _ s (λ u k. k)
-      (λ u k. where_some (array_of u) (λ array. array.len == 0) (λ array. pointee_struct info.types array.element_type) (InvalidValuesSpec n) (InvalidValuesSpec o) (unexpected u) s k) h
+      (λ u k. where_some (array_of u) (λ array. array.len == 0) (λ array. pointee_struct info.types array.element_type) (InvalidValuesSpec n) (InvalidValuesSpec o) (unexpected_type u) s k) h
 
   abbrev values_by : Bool → Result BtfMapDef BtfError → Result MemberValue BtfError
   values_by programs inner = if programs then Ok said.Programs else if_ok inner (λ inner. Ok (said.Values inner))
@@ -187,13 +187,13 @@ unfolding number pointee modifier_type_id sole_value
 spelled_alone types id n is = by_place (slice_get types id) refl is
   where
     by_type : (t : BtfType) → slice_get types id ≡ Some t
-        → if_some (pointee t) (λ a. if_ok (type_at types a) (λ u. if_some (array_of u) (λ array. Ok array.len) (Err (unexpected u)))) (Err (unexpected t)) ≡ Ok n
+        → if_some (pointee t) (λ a. if_ok (type_at types a) (λ u. if_some (array_of u) (λ array. Ok array.len) (Err (unexpected_type u)))) (Err (unexpected_type t)) ≡ Ok n
         → own_number types id ≡ None
     by_type (Ptr a b) here h = no_pointer types id (Ptr a b) here refl refl
     by_type _ here h = absurd (cc)
 
     by_place : (o : Option BtfType) → slice_get types id ≡ o
-        → if_ok (if_some o (λ t. Ok t) (Err (UnknownBtfType id))) (λ p. if_some (pointee p) (λ a. if_ok (type_at types a) (λ u. if_some (array_of u) (λ array. Ok array.len) (Err (unexpected u)))) (Err (unexpected p))) ≡ Ok n
+        → if_ok (if_some o (λ t. Ok t) (Err (UnknownBtfType id))) (λ p. if_some (pointee p) (λ a. if_ok (type_at types a) (λ u. if_some (array_of u) (λ array. Ok array.len) (Err (unexpected_type u)))) (Err (unexpected_type p))) ≡ Ok n
         → own_number types id ≡ None
     by_place None here h = absurd (cc)
     by_place (Some t) here h = by_type t here h
@@ -220,11 +220,11 @@ no_programs : (types : List BtfType) (id : ℕ) (members : List BtfMember) → m
 unfolding members_at is_prototype_at struct_members is_prototype
 no_programs types id members is = by_place (slice_get types id) is
   where
-    by_type : (t : BtfType) → if_some (struct_members t) (λ ms. Ok ms) (Err (unexpected t)) ≡ Ok members → is_prototype t ≡ false
+    by_type : (t : BtfType) → if_some (struct_members t) (λ ms. Ok ms) (Err (unexpected_type t)) ≡ Ok members → is_prototype t ≡ false
     by_type (Struct a b c ms) h = refl
     by_type _ h = absurd (cc)
 
-    by_place : (o : Option BtfType) → if_ok (if_some o (λ t. Ok t) (Err (UnknownBtfType id))) (λ t. if_some (struct_members t) (λ ms. Ok ms) (Err (unexpected t))) ≡ Ok members → is_prototype_in o ≡ false
+    by_place : (o : Option BtfType) → if_ok (if_some o (λ t. Ok t) (Err (UnknownBtfType id))) (λ t. if_some (struct_members t) (λ ms. Ok ms) (Err (unexpected_type t))) ≡ Ok members → is_prototype_in o ≡ false
     by_place None h = absurd (cc)
     by_place (Some t) h = by_type t h
 
@@ -239,7 +239,7 @@ abbrev named_by : Reading → TypeInfo → List ℕ → ℕ → Result (List ℕ
 named_by reading info name id = if_ok (resolved info.types id) (λ held. if_ok (struct_definitions reading info name held) (λ d. Ok (name, d)))
 
 abbrev from_type : Reading → TypeInfo → BtfType → Result (List ℕ × MapDefinitions) BtfError
-from_type reading info t = if_some (variable t) (λ id. if_ok (type_name info t) (λ name. named_by reading info name id)) (Err (unexpected t))
+from_type reading info t = if_some (variable t) (λ id. if_ok (type_name info t) (λ name. named_by reading info name id)) (Err (unexpected_type t))
 
 by_type : (reading : Reading) (info : TypeInfo) (entry : DataSecEntry) → declared reading info entry ≡ if_ok (type_at info.types entry.btf_type) (from_type reading info)
 unfolding declared
@@ -257,7 +257,7 @@ module _ (info : TypeInfo) (p : List ℕ × MapDefinitions) where
 
   type_kept : (t : BtfType) → from_type Stated info t ≡ Ok p → from_type Broad info t ≡ Ok p
   type_kept t h =
-      by_some (variable t) (λ id. if_ok (type_name info t) (λ name. named_by Stated info name id)) (λ id. if_ok (type_name info t) (λ name. named_by Broad info name id)) (unexpected t) p
+      by_some (variable t) (λ id. if_ok (type_name info t) (λ name. named_by Stated info name id)) (λ id. if_ok (type_name info t) (λ name. named_by Broad info name id)) (unexpected_type t) p
       (λ id k. via (type_name info t) (type_name info t) (λ name. named_by Stated info name id) (λ name. named_by Broad info name id) p (λ name g. g) (λ name g. named_kept name id g) k) h
 
   declared_kept : (entry : DataSecEntry) → declared Stated info entry ≡ Ok p → declared Broad info entry ≡ Ok p

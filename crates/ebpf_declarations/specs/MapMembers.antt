@@ -46,8 +46,8 @@ map_member_at strings m = if_ok (text_at strings m.name_offset) (λ name. Ok (ma
 -- ---- types that members lead to
 
 -- another kind than the wanted one: the error holds the id of the type that it holds, or 0
-abbrev pub unexpected : BtfType → BtfError
-unexpected t = UnexpectedBtfType (unwrap_or (type_word t) 0)
+abbrev pub unexpected_type : BtfType → BtfError
+unexpected_type t = UnexpectedBtfType (unwrap_or (type_word t) 0)
 
 -- what a PTR points to
 unfoldable pub pointee : BtfType → Option ℕ
@@ -64,8 +64,8 @@ unfoldable pub number : List BtfType → ℕ → Result ℕ BtfError
 number types id =
     if_ok (type_at types id) (λ p.
     if_some (pointee p)
-    (λ a. if_ok (type_at types a) (λ t. if_some (array_of t) (λ array. Ok array.len) (Err (unexpected t))))
-    (Err (unexpected p)))
+    (λ a. if_ok (type_at types a) (λ t. if_some (array_of t) (λ array. Ok array.len) (Err (unexpected_type t))))
+    (Err (unexpected_type p)))
 
 -- an ENUM's value has its sign extended, as libbpf widens it whatever the ENUM says of its values
 abbrev pub extended_enum_value : ℕ → ℕ
@@ -110,13 +110,13 @@ is_prototype_at types id = is_prototype_in (slice_get types id)
 unfoldable pub members_at : List BtfType → ℕ → Result (List BtfMember) BtfError
 members_at types id =
     if_ok (type_at types id) (λ t.
-    if_some (struct_members t) (λ members. Ok members) (Err (unexpected t)))
+    if_some (struct_members t) (λ members. Ok members) (Err (unexpected_type t)))
 
 -- the id of what a pointer points to, modifiers followed before it and behind it
 unfoldable pub pointee_struct : List BtfType → ℕ → Result ℕ BtfError
 pointee_struct types id =
     if_ok (resolved_type types id) (λ p.
-    if_some (pointee p) (λ s. resolved types s) (Err (unexpected p)))
+    if_some (pointee p) (λ s. resolved types s) (Err (unexpected_type p)))
 
 -- the id of the struct of the maps that a map holds: the member is an ARRAY of no elements that point to it
 unfoldable pub inner_map_struct : List BtfType → List ℕ → ℕ → Result ℕ BtfError
@@ -124,7 +124,7 @@ inner_map_struct types name id =
     if_ok (type_at types id) (λ t.
     if_some (array_of t)
     (λ array. if array.len == 0 then pointee_struct types array.element_type else Err (InvalidValuesSpec name))
-    (Err (unexpected t)))
+    (Err (unexpected_type t)))
 
 -- ---- the value of one member
 

@@ -13,7 +13,7 @@ use Rattle.ebpf_btf.specs.declared.members.DataSecEntry.{DataSecEntry}
 use Rattle.ebpf_btf.specs.declared.types.BtfType.{BtfType}
 use Rattle.ebpf_btf.specs.declared.types.BtfType.TheVariants.{Var}
 use Rattle.ebpf_declarations.specs.DataSections.{given, all_given, DatasecMatch, Named, UnreadableName, datasec_match}
-use Rattle.ebpf_declarations.specs.MapMembers.{unexpected, number, sized_type, own_number, is_prototype_at, members_at, inner_map_struct, map_member_at, no_definitions, with_all}
+use Rattle.ebpf_declarations.specs.MapMembers.{unexpected_type, number, sized_type, own_number, is_prototype_at, members_at, inner_map_struct, map_member_at, no_definitions, with_all}
 use Rattle.ebpf_declarations.specs.declared.members.MapDefinitions.{MapDefinitions}
 use Rattle.ebpf_declarations.specs.declared.members.MapMember.{MapMember}
 use Rattle.ebpf_declarations.specs.declared.members.MapMember.TheVariants as about
@@ -123,7 +123,7 @@ declared reading info entry =
     if_ok (type_name info t) (λ name.
     if_ok (resolved info.types id) (λ struct_id.
     if_ok (struct_definitions reading info name struct_id) (λ d. Ok (name, d)))))
-    (Err (unexpected t)))
+    (Err (unexpected_type t)))
 
 abbrev pub map_at : MapDefinitions → ℕ → ℕ → Map
 map_at d section symbol = Btf (record { def = d.def; inner_def = d.inner_def; section_index = section; symbol_index = symbol; bytes = [] })

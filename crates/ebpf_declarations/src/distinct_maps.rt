@@ -12,7 +12,7 @@ ghost use Rattle.ebpf_parts.specs.Memory.{is_parse_memory};
 ghost use Rattle.std.specs.FinMap as map;
 
 use crate::known_structs::{KnownStructs, struct_definitions};
-use crate::map_types::unexpected;
+use crate::map_types::unexpected_type;
 use crate::members::MapDefinitions;
 use crate::numbered_names::NumberedNames;
 use ebpf_base::{ByName, Items, Text};
@@ -40,7 +40,7 @@ pub fn declared(
 {
     let ty = btf.type_by_id(entry.btf_type)?;
     let BtfType::Var { btf_type, .. } = ty else {
-        return Err(unexpected(&ty));
+        return Err(unexpected_type(&ty));
     };
     let number = names.number_at(alloc, btf, ty.name_offset())?;
     let struct_id = btf.resolve_type(btf_type)?;

@@ -1,7 +1,7 @@
 //! The types that the members of a map's struct lead to, and the structs that declare maps.
 
 ghost use Rattle.std.specs.Prelude.{◌≡◌, Some};
-ghost use Rattle.ebpf_declarations.specs.MapMembers.{unexpected, pointee, number, extended_enum_value, sole_value, own_number, sized_type, is_prototype_at, members_at, pointee_struct, inner_map_struct};
+ghost use Rattle.ebpf_declarations.specs.MapMembers.{unexpected_type, pointee, number, extended_enum_value, sole_value, own_number, sized_type, is_prototype_at, members_at, pointee_struct, inner_map_struct};
 ghost use Rattle.ebpf_base.specs.Faults.{Gives};
 ghost use Rattle.ebpf_btf.specs.Memory.{is_btf_memory};
 
@@ -10,8 +10,8 @@ use ebpf_btf::{Btf, BtfError, BtfMember, BtfType, Rows};
 use std::alloc::Global;
 
 /// The error of a type that is of another kind than the wanted one.
-pub fn unexpected(ty: &BtfType<'_>) -> BtfError
-    ensures { result ≡ unexpected ty.now }
+pub fn unexpected_type(ty: &BtfType<'_>) -> BtfError
+    ensures { result ≡ unexpected_type ty.now }
 {
     BtfError::UnexpectedBtfType {
         type_id: ty.btf_type().unwrap_or(0),
@@ -36,12 +36,12 @@ pub fn number(btf: &Btf, type_id: u32) -> Result<u32, BtfError>
 {
     let pointer = btf.type_by_id(type_id)?;
     let Some(target) = pointee(&pointer) else {
-        return Err(unexpected(&pointer));
+        return Err(unexpected_type(&pointer));
     };
     let target = btf.type_by_id(target)?;
     match target.array() {
         Some(array) => Ok(array.len),
-        None => Err(unexpected(&target)),
+        None => Err(unexpected_type(&target)),
     }
 }
 
@@ -119,7 +119,7 @@ pub fn members_at(btf: &Btf, type_id: u32) -> Result<Rows<'_, BtfMember>, BtfErr
     let ty = btf.type_by_id(type_id)?;
     match &ty {
         BtfType::Struct { members, .. } => Ok(members.copy()),
-        _ => Err(unexpected(&ty)),
+        _ => Err(unexpected_type(&ty)),
     }
 }
 
@@ -131,7 +131,7 @@ fn pointee_struct(btf: &Btf, type_id: u32) -> Result<u32, BtfError>
     let pointer = btf.resolved_type(type_id)?;
     match pointee(&pointer) {
         Some(target) => btf.resolve_type(target),
-        None => Err(unexpected(&pointer)),
+        None => Err(unexpected_type(&pointer)),
     }
 }
 
@@ -142,7 +142,7 @@ pub fn inner_map_struct(alloc: Global, btf: &Btf, name: &str, type_id: u32) -> R
 {
     let ty = btf.type_by_id(type_id)?;
     let Some(array) = ty.array() else {
-        return Err(unexpected(&ty));
+        return Err(unexpected_type(&ty));
     };
     if array.len == 0 {
         return pointee_struct(btf, array.element_type);

@@ -291,7 +291,7 @@ impl<S> SectionsByName<S> {
 
     /// What all sections have, where the sections of these names are found in one pass, in which of each section's name
     /// no more is looked at than the longest of them has. `Err` where memory is refused.
-    pub fn found(&self, alloc: Global, names: &[&str]) -> Result<FoundSections<'_, S>, AllocError>
+    pub fn with_found(&self, alloc: Global, names: &[&str]) -> Result<FoundSections<'_, S>, AllocError>
         ensures { IfOk result (λ found. found ≡ self.now) }
     {
         FoundSections::gather(

@@ -40,7 +40,7 @@ use Rattle.ebpf_kernel_types.proofs.WrittenWords.{AreSmall, items_first, length_
 use Rattle.ebpf_kernel_types.proofs.Standing.{Tiled, place, type_there, type_kept, from_tiled, like_itself, starts_there, tiled_from, like_place, like_there}
 use Rattle.ebpf_kernel_types.proofs.TypeIds.{before_others}
 use Rattle.ebpf_kernel_types.specs.KsymsSections.{linkage_by, linkage_in, linkages_of, int_words, standin_bytes, variable_words, all_strings, first_int, is_int_of_4, standins_or_fault, standins_with}
-use Rattle.ebpf_kernel_types.specs.KernelTypes.{standin_types, KernelTypesAreRead, btf_bytes, sources_in, kernel_type_info, standins_of, type_info_with, types_changes, with_changes, FunctionLinkagesAreStated, all_types, assembled, btf_section, kernel_types_of, no_file_fault, part_of, sources_of, types_of_bytes, types_of_found, types_of_section, types_of_sources, types_or_fault, written_types, all_words, words_over}
+use Rattle.ebpf_kernel_types.specs.KernelTypes.{standin_types, KernelTypesAreRead, btf_bytes, sources_in, kernel_type_info, standins_of, type_info_with, types_changes, with_changes, FunctionLinkagesAreStated, all_types, btf_part, btf_section, kernel_types_of, no_file_fault, part_of, sources_of, types_of_bytes, types_of_found, types_of_section, types_of_sources, types_or_fault, written_types, all_words, words_over}
 use Rattle.ebpf_kernel_types.specs.TypeSources.{if_no_fault, start_of, type_end, type_starts}
 use Rattle.ebpf_kernel_types.specs.declared.ksyms.Standins.{Standins}
 use Rattle.ebpf_kernel_types.specs.declared.error.KernelTypesError.{KernelTypesError}
@@ -284,7 +284,7 @@ module _ (file bytes : List ℕ) (types : TypeInfo) (small : AreBytes bytes) (re
     small = λ id name size rows is. sections_small (ei_data file) (part_of (ei_data file) bytes) first low tiled id name size rows (ap (λ ts. slice_get ts id) (sym all) ∙ is);
   }
 
-  pub written : (handed types_bytes strings : List ℕ) → assembled (ei_data file) types_bytes strings ≡ Ok handed
+  pub written : (handed types_bytes strings : List ℕ) → btf_part (ei_data file) types_bytes strings ≡ Ok handed
       → (length types_bytes < 2 ^ 32) × (length strings < 2 ^ 32) × (header_bytes (ei_data file) (length types_bytes) (length strings) ++ types_bytes ++ strings ≡ handed)
   written handed types_bytes strings is = by_test (nat_lt 0xffffffff (length types_bytes)) (nat_lt 0xffffffff (length strings)) refl refl is
     where

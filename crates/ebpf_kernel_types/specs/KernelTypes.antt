@@ -87,8 +87,8 @@ abbrev pub part_of : Endianness → List ℕ → List ℕ
 part_of order bytes = if nat_lt (length bytes) 24 || nat_lt (length bytes) (types_end order bytes) then [] else types_part order bytes
 
 -- a header, types and strings, each of fewer than 2 ^ 32 bytes
-abbrev pub assembled : Endianness → List ℕ → List ℕ → Result (List ℕ) KernelTypesError
-assembled order types strings =
+abbrev pub btf_part : Endianness → List ℕ → List ℕ → Result (List ℕ) KernelTypesError
+btf_part order types strings =
     if nat_lt 0xffffffff (length types) || nat_lt 0xffffffff (length strings)
     then Err TooLarge
     else Ok (header_bytes order (length types) (length strings) ++ types ++ strings)
@@ -98,7 +98,7 @@ abbrev pub all_types : TypeSources → Standins → List WrittenWord → List �
 all_types g s words = words_over g.order g.part words ++ standin_bytes g.order (length g.types.strings) s
 
 abbrev pub written_types : TypeSources → Standins → List WrittenWord → Result (List ℕ) KernelTypesError
-written_types g s words = assembled g.order (all_types g s words) (all_strings g.types s)
+written_types g s words = btf_part g.order (all_types g s words) (all_strings g.types s)
 
 abbrev pub types_of_sources : TypeSources → Result (List ℕ) KernelTypesError
 types_of_sources g = if_ok (standins_or_fault g.types) (λ s. if_ok (all_words g s) (λ words. written_types g s words))

@@ -2,7 +2,7 @@
 
 ghost use Rattle.std.specs.Prelude.{◌≡◌, ◌<◌, ◌+◌, IfOk, ◌^◌, length, option_map, Ok};
 ghost use Rattle.ebpf_base.specs.Faults.{Gives, Refuses, fault_of};
-ghost use Rattle.ebpf_kernel_types.specs.KernelTypes.{is_kernel_types_memory, all_words, section_type_words, type_words_fault, types_words, all_types, assembled, btf_section, no_file_fault, kernel_types_of, part_of, types_read, types_of_bytes, types_of_found, types_of_section, types_of_sources, written_types};
+ghost use Rattle.ebpf_kernel_types.specs.KernelTypes.{is_kernel_types_memory, all_words, section_type_words, type_words_fault, types_words, all_types, btf_part, btf_section, no_file_fault, kernel_types_of, part_of, types_read, types_of_bytes, types_of_found, types_of_section, types_of_sources, written_types};
 ghost use Rattle.ebpf_kernel_types.specs.TypeSources.{given_of};
 ghost use Rattle.ebpf_btf.specs.Header.{first_word, header_bytes};
 
@@ -135,13 +135,13 @@ fn header(alloc: Global, order: Endianness, types: u32, strings: u32) -> Result<
 }
 
 /// A header, and types and strings behind it.
-fn assembled(
+fn btf_part(
     alloc: Global,
     order: Endianness,
     types: &[u8],
     strings: &[u8],
 ) -> Result<Items<u8>, KernelTypesError>
-    ensures { Gives is_kernel_types_memory result (assembled order types.now strings.now) }
+    ensures { Gives is_kernel_types_memory result (btf_part order types.now strings.now) }
 {
     if types.len() > 0xffff_ffff || strings.len() > 0xffff_ffff {
         return Err(KernelTypesError::TooLarge);
@@ -181,7 +181,7 @@ fn written_types(
 {
     let part = all_types(alloc, sources, standins, words)?;
     let strings = all_strings(alloc, sources.types, standins)?;
-    assembled(alloc, sources.order, &part, &strings)
+    btf_part(alloc, sources.order, &part, &strings)
 }
 
 /// What the types of some sources come to.
@@ -243,7 +243,7 @@ fn types_of_section(
 
 /// The file that bytes are.
 #[tactic(auto, unfolding(crate::specs::KernelTypes::no_file_fault))]
-fn parsed(file: &[u8]) -> Result<ElfFile<'_>, KernelTypesError>
+fn parse_file(file: &[u8]) -> Result<ElfFile<'_>, KernelTypesError>
     ensures fault { fault_of result ≡ no_file_fault file.now }
     ensures file { IfOk result (λ parsed. parsed ≡ file.now) }
 {
@@ -269,7 +269,7 @@ fn types_of_parsed(alloc: Global, file: &ElfFile<'_>) -> Result<Option<Items<u8>
 fn types_in(alloc: Global, file: &[u8]) -> Result<Option<Items<u8>>, KernelTypesError>
     ensures { Gives is_kernel_types_memory result (kernel_types_of file.now) }
 {
-    types_of_parsed(alloc, &parsed(file)?)
+    types_of_parsed(alloc, &parse_file(file)?)
 }
 
 /// The types of an object as the kernel takes them (`BPF_BTF_LOAD`), of the bytes of an ELF64 file; None where it has no

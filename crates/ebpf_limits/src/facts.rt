@@ -110,8 +110,8 @@ impl<'e> FoundRecords<'e> {
             });
         };
         let names = code_names(alloc, file)?;
-        let funcs = Some(infos.func_info.found(alloc, &names)?);
-        let lines = Some(infos.line_info.found(alloc, &names)?);
+        let funcs = Some(infos.func_info.with_found(alloc, &names)?);
+        let lines = Some(infos.line_info.with_found(alloc, &names)?);
         Ok(FoundRecords { ext, funcs, lines })
     }
 

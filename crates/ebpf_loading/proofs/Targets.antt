@@ -9,7 +9,7 @@ use Rattle.std.specs.Option.{option_map_or}
 use Rattle.ebpf_loading.specs.AttachTargets.{targets, WantedAsKinds}
 use Rattle.ebpf_loading.specs.declared.attach.TargetKind.{TargetKind}
 use Rattle.ebpf_parts.proofs.ProgramKinds.{has_slash, own_piece, target_piece, of_longest}
-use Rattle.ebpf_parts.specs.ProgramTypes.{name_fits, has_target, row_name, first_piece, is_marked, longer, longest_fit, program_kind, unmarked, lookup_piece}
+use Rattle.ebpf_parts.specs.ProgramTypes.{name_fits, has_target, row_name, first_piece, is_marked, longer, longest_fit, program_kind, without_mark, lookup_piece}
 use Rattle.ebpf_parts.specs.declared.programs.kind.NamedKind.{NamedKind}
 use Rattle.ebpf_parts.specs.declared.programs.kind.ProgramKind.{ProgramKind}
 use Rattle.ebpf_parts.specs.declared.programs.kind.TheConstants.{NAMED_KINDS}
@@ -147,7 +147,7 @@ by_found (Some row) mark target agreed some = sym agreed
 pub wanted_as_kinds : WantedAsKinds
 unfolding program_kind
 wanted_as_kinds section =
-    let name = unmarked section in
+    let name = without_mark section in
     by_found (longest_fit name NAMED_KINDS) (is_marked section) (has (first_piece name))
     (of_longest (AgreesOn name) name NAMED_KINDS (rows_agree name NAMED_KINDS all_agree))
     (λ target. finds_some name NAMED_KINDS (fits_some name NAMED_KINDS (row_of NAMED_KINDS targets (first_piece name) all_have_rows target)))

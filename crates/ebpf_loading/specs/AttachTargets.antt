@@ -12,7 +12,7 @@ use Rattle.ebpf_loading.specs.declared.attach.AttachTarget.{AttachTarget}
 use Rattle.ebpf_loading.specs.declared.attach.AttachTarget.TheVariants.{NotWanted, Unnamed, Found, NotFound}
 use Rattle.ebpf_loading.specs.declared.attach.TargetKind.{TargetKind}
 use Rattle.ebpf_loading.specs.declared.attach.TargetKind.TheVariants.{TracePoint, SecurityHook, Iterator, Function}
-use Rattle.ebpf_parts.specs.ProgramTypes.{unmarked, first_piece, lookup_piece, program_kind}
+use Rattle.ebpf_parts.specs.ProgramTypes.{without_mark, first_piece, lookup_piece, program_kind}
 use Rattle.ebpf_parts.specs.declared.programs.kind.ProgramKind.{ProgramKind}
 
 -- what the programs of a section are attached to, by the first piece of the section's name
@@ -51,7 +51,7 @@ kind_of_target Function = kinds.Func
 
 -- what the programs of a section are attached to, where they are loaded with the id of a type
 abbrev pub wanted : List ℕ → Option TargetKind
-wanted section = lookup_piece targets (first_piece (unmarked section))
+wanted section = lookup_piece targets (first_piece (without_mark section))
 
 -- the kernel itself may be named before what is in it
 abbrev pub kernel_mark : List ℕ
@@ -62,7 +62,7 @@ in_kernel name = unwrap_or (without_prefix kernel_mark name) name
 
 -- the name of the target: what follows the first slash
 abbrev pub target_name : List ℕ → List ℕ
-target_name section = in_kernel (after_first (λ b. b == 47) (unmarked section))
+target_name section = in_kernel (after_first (λ b. b == 47) (without_mark section))
 
 -- ---- its type
 

@@ -44,8 +44,8 @@ abbrev pub struct_ops : ℕ
 struct_ops = 26
 
 -- what a type of maps takes of some ids
-abbrev pub taken : ℕ → MapTypeIds → MapTypeIds
-taken map_type ids =
+abbrev pub ids_of_map_type : ℕ → MapTypeIds → MapTypeIds
+ids_of_map_type map_type ids =
     if list_any (λ t. nat_eq t map_type) untyped_maps then no_type_ids
     else if map_type == struct_ops then record ids { value = 0 }
     else ids
@@ -81,4 +81,4 @@ stated_ids types name (Legacy m) = if has_value_type m.section_kind then record 
 
 -- the ids that a map of this name is created with
 unfoldable pub map_type_ids : List ℕ → Map → TypeInfo → MapTypeIds
-map_type_ids name m types = taken (map_type_of m) (stated_ids types name m)
+map_type_ids name m types = ids_of_map_type (map_type_of m) (stated_ids types name m)

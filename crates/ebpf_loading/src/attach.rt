@@ -2,7 +2,7 @@
 
 ghost use Rattle.std.specs.Prelude.{◌≡◌, ◌==◌, ◌++◌, IfOk, string_bytes};
 ghost use Rattle.std.specs.List.{after_first};
-ghost use Rattle.ebpf_parts.specs.ProgramTypes.{lookup_piece, unmarked, first_piece};
+ghost use Rattle.ebpf_parts.specs.ProgramTypes.{lookup_piece, without_mark, first_piece};
 ghost use Rattle.ebpf_loading.specs.AttachTargets.{kind_of_target, prefix_of, targets, attach_target, in_kernel, target_in, type_named};
 ghost use Rattle.ebpf_btf.specs.Strings.{id_of_name};
 
@@ -87,8 +87,8 @@ pub enum AttachTarget {
 }
 
 /// A section's name without the mark before it, `?`.
-fn unmarked(section_name: &str) -> &str
-    ensures { result.now ≡ unmarked section_name.now }
+fn without_mark(section_name: &str) -> &str
+    ensures { result.now ≡ without_mark section_name.now }
 {
     match section_name.strip_prefix('?') {
         Some(rest) => rest,
@@ -182,7 +182,7 @@ pub fn attach_target(
 ) -> Result<AttachTarget, AllocError>
     ensures { IfOk result (λ target. target ≡ attach_target section_name.now types.now) }
 {
-    let name = unmarked(section_name);
+    let name = without_mark(section_name);
     let Some(target) = target_by(before_slash(name)) else {
         return Ok(AttachTarget::NotWanted);
     };

@@ -2,7 +2,7 @@
 
 ghost use Rattle.std.specs.Prelude.{◌≡◌, nat_eq};
 ghost use Rattle.std.specs.List.{list_any};
-ghost use Rattle.ebpf_loading.specs.MapTypeIds.{data_type, has_value_type, is_type_of, map_type_ids, stated_ids, stated_size, taken, untyped_maps};
+ghost use Rattle.ebpf_loading.specs.MapTypeIds.{data_type, has_value_type, is_type_of, map_type_ids, stated_ids, stated_size, ids_of_map_type, untyped_maps};
 
 use crate::texts::id_of_name;
 use ebpf_btf::{Btf, BtfKind};
@@ -48,8 +48,8 @@ fn is_untyped(map_type: u32) -> bool
 }
 
 /// What a type of maps takes of some ids.
-fn taken(map_type: u32, ids: MapTypeIds) -> MapTypeIds
-    ensures { result ≡ taken map_type ids }
+fn ids_of_map_type(map_type: u32, ids: MapTypeIds) -> MapTypeIds
+    ensures { result ≡ ids_of_map_type map_type ids }
 {
     if is_untyped(map_type) {
         return MapTypeIds { key: 0, value: 0 };
@@ -129,5 +129,5 @@ fn stated_ids(types: &Btf, name: &str, map: &Map) -> MapTypeIds
 pub fn map_types(name: &str, map: &Map, types: &Btf) -> MapTypeIds
     ensures { result ≡ map_type_ids name.now map.now types.now }
 {
-    taken(map.map_type(), stated_ids(types, name, map))
+    ids_of_map_type(map.map_type(), stated_ids(types, name, map))
 }

@@ -105,7 +105,7 @@ impl EbpfRelocationError {
 
     /// An error of a function or a program with this name. Want of memory, also where it is the name that finds
     /// none, has the empty text for the name.
-    pub fn named(alloc: Global, name: &str, error: RelocationError) -> EbpfRelocationError
+    pub fn with_name(alloc: Global, name: &str, error: RelocationError) -> EbpfRelocationError
         ensures named { MatchBool (is_memory_at result) ⊤ (result ≡ record { function = name.now; error = error }) }
         ensures memory { NamesNoneForMemory result }
     {

@@ -7,7 +7,7 @@ use Rattle.std.specs.Str.{bytes_eq}
 use Rattle.std.proofs.lemmas.Bool.{cases_Bool, eqb-true, or_parts}
 use Rattle.ebpf_base.specs.Faults.{or_else}
 use Rattle.ebpf_parts.proofs.ProgramKinds.{marked_says_none}
-use Rattle.ebpf_parts.specs.ProgramTypes.{is_marked, unmarked, program_section, first_piece, second_piece, lookup_piece, one_piece, cgroup_section, piece_sections, pair_sections, xdp_sections, sk_skb_sections, sk_reuseport_sections, cgroup_skb_sections, cgroup_sections, socket_events, address_calls, section_as, NoNameIsOther, BroadKeepsKinds, BroadTakesNames}
+use Rattle.ebpf_parts.specs.ProgramTypes.{is_marked, without_mark, program_section, first_piece, second_piece, lookup_piece, one_piece, cgroup_section, piece_sections, pair_sections, xdp_sections, sk_skb_sections, sk_reuseport_sections, cgroup_skb_sections, cgroup_sections, socket_events, address_calls, section_as, NoNameIsOther, BroadKeepsKinds, BroadTakesNames}
 use Rattle.ebpf_parts.specs.declared.program_section.ProgramSection.{ProgramSection}
 use Rattle.ebpf_parts.specs.declared.program_section.ProgramSection.TheVariants.{CgroupSock, CgroupSockAddr, Other}
 use Rattle.ebpf_parts.specs.declared.programs.attach_type.CgroupSockAttachType.{CgroupSockAttachType}
@@ -84,7 +84,7 @@ no_name_says_other name is = let no : true ≡ false = sym (ap is_other is) ∙ 
 -- ---- the broad reading
 
 -- a name that does not begin with `?`
-pub unmarked_plain : (name : List ℕ) → ((rest : List ℕ) → name ≢ 63 ∷ rest) → name ≡ unmarked name
+pub unmarked_plain : (name : List ℕ) → ((rest : List ℕ) → name ≢ 63 ∷ rest) → name ≡ without_mark name
 unmarked_plain [] other = refl
 unmarked_plain (b ∷ name) other = by_test (b == 63) refl
   where

@@ -372,13 +372,13 @@ abbrev pub is_marked : List ℕ → Bool
 is_marked name = slice_index name 0 == 63
 
 -- the name behind it
-abbrev pub unmarked : List ℕ → List ℕ
-unmarked name = if is_marked name then drop 1 name else name
+abbrev pub without_mark : List ℕ → List ℕ
+without_mark name = if is_marked name then drop 1 name else name
 
 -- what the rows say of a name; a program of a marked one is optional
 abbrev pub kind_in : List NamedKind → List ℕ → Option ProgramKind
 kind_in rows name =
-    option_map (λ row. record row.kind { is_optional = is_marked name }) (longest_fit (unmarked name) rows)
+    option_map (λ row. record row.kind { is_optional = is_marked name }) (longest_fit (without_mark name) rows)
 
 -- what a loader does with the programs of a section of this name
 unfoldable pub program_kind : List ℕ → Option ProgramKind
@@ -429,7 +429,7 @@ TypesAgree =
 -- the kind that the table has for a name; in the broad reading that of the name behind a `?`, and for every other name `Other`
 unfoldable pub section_as : Reading → List ℕ → Option ProgramSection
 section_as Stated name = program_section name
-section_as Broad name = Some (unwrap_or (program_section (unmarked name)) Other)
+section_as Broad name = Some (unwrap_or (program_section (without_mark name)) Other)
 
 -- a name that says no kind
 abbrev pub section_fault_as : Reading → List ℕ → Option ParseError

@@ -3,7 +3,7 @@
 ghost use Rattle.std.specs.Prelude.{◌≡◌, IfOk, Some};
 ghost use Rattle.ebpf_base.specs.Faults.{Refuses};
 ghost use Rattle.ebpf_parts.specs.Memory.{is_parse_memory};
-ghost use Rattle.ebpf_parts.specs.ProgramTypes.{unmarked, program_section, program_section_fault, section_as, section_fault_as};
+ghost use Rattle.ebpf_parts.specs.ProgramTypes.{without_mark, program_section, program_section_fault, section_as, section_fault_as};
 
 use crate::error::ParseError;
 use crate::programs::{
@@ -82,8 +82,8 @@ pub enum ProgramSection {
 }
 
 /// The name without the mark before it, `?`.
-fn unmarked(name: &str) -> &str
-    ensures { result.now ≡ unmarked name.now }
+fn without_mark(name: &str) -> &str
+    ensures { result.now ≡ without_mark name.now }
 {
     match name.strip_prefix('?') {
         Some(rest) => rest,
@@ -124,7 +124,7 @@ impl ProgramSection {
         match reading {
             Reading::Stated => ProgramSection::from_str(alloc, name),
             Reading::Broad => {
-                Ok(program_section(unmarked(name)).unwrap_or(ProgramSection::Other))
+                Ok(program_section(without_mark(name)).unwrap_or(ProgramSection::Other))
             }
         }
     }

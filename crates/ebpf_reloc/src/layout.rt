@@ -65,7 +65,7 @@ impl NumberedFunctions<'_> {
     {
         match self.layout_at(alloc, program.section_index, program.address) {
             Ok(layout) => Ok(layout),
-            Err(error) => Err(EbpfRelocationError::named(alloc, program.name, error)),
+            Err(error) => Err(EbpfRelocationError::with_name(alloc, program.name, error)),
         }
     }
 }

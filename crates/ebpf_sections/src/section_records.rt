@@ -168,8 +168,8 @@ fn records_of_names<'e>(
     ensures table { IfOk result (λ t. AreRecordsOf (Some ext.now) t) }
     ensures memory { IfErr result (λ e. is_parse_memory e ≡ true) }
 {
-    let funcs = ext.func_info.found(alloc, names)?;
-    let lines = ext.line_info.found(alloc, names)?;
+    let funcs = ext.func_info.with_found(alloc, names)?;
+    let lines = ext.line_info.with_found(alloc, names)?;
     let (func_size, line_size) = (ext.func_info_rec_size(), ext.line_info_rec_size());
     let mut table = ByName::new(alloc);
     for name in names {

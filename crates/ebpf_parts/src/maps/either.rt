@@ -31,7 +31,7 @@ pub struct LegacyMap {
 
 impl LegacyMap {
     /// A map that no section declares, without data and without an inner map.
-    pub(crate) fn undeclared(alloc: Global, def: bpf_map_def) -> LegacyMap
+    pub(crate) fn without_section(alloc: Global, def: bpf_map_def) -> LegacyMap
         ensures { result ≡ maps.undeclared_legacy_map def }
     {
         LegacyMap {
@@ -77,7 +77,7 @@ pub struct BtfMap {
 
 impl BtfMap {
     /// A map that no section declares, without data and without an inner map.
-    pub(crate) fn undeclared(alloc: Global, def: BtfMapDef) -> BtfMap
+    pub(crate) fn without_section(alloc: Global, def: BtfMapDef) -> BtfMap
         ensures { result ≡ maps.undeclared_btf_map def }
     {
         BtfMap {
@@ -290,7 +290,7 @@ impl Map {
             id: 0,
             pinning: PinningType::None,
         };
-        Map::Legacy(LegacyMap::undeclared(alloc, def))
+        Map::Legacy(LegacyMap::without_section(alloc, def))
     }
 
     /// The map that a map of maps holds: in no section, without data. None for other maps. It has no data to be
@@ -303,14 +303,14 @@ impl Map {
                 let alloc = *map.bytes.as_vec().allocator();
                 Ok(
                     map.inner_def
-                        .map(|def| Map::Legacy(LegacyMap::undeclared(alloc, def))),
+                        .map(|def| Map::Legacy(LegacyMap::without_section(alloc, def))),
                 )
             }
             Map::Btf(map) => {
                 let alloc = *map.bytes.as_vec().allocator();
                 Ok(
                     map.inner_def
-                        .map(|def| Map::Btf(BtfMap::undeclared(alloc, def))),
+                        .map(|def| Map::Btf(BtfMap::without_section(alloc, def))),
                 )
             }
         }
@@ -355,7 +355,7 @@ pub fn parse_map_info(alloc: Global, info: bpf_map_info, pinned: PinningType) ->
             id: info.id,
             pinning: pinned,
         };
-        return Map::Legacy(LegacyMap::undeclared(alloc, def));
+        return Map::Legacy(LegacyMap::without_section(alloc, def));
     }
     let def = BtfMapDef {
         map_type: info.type_,
@@ -368,5 +368,5 @@ pub fn parse_map_info(alloc: Global, info: bpf_map_info, pinned: PinningType) ->
         btf_key_type_id: info.btf_key_type_id,
         btf_value_type_id: info.btf_value_type_id,
     };
-    Map::Btf(BtfMap::undeclared(alloc, def))
+    Map::Btf(BtfMap::without_section(alloc, def))
 }

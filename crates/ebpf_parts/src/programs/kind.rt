@@ -3,7 +3,7 @@
 ghost use Rattle.std.specs.Prelude.{◌≡◌, ◌==◌, ◌<◌, IfSome, length};
 ghost use Rattle.std.specs.List.{position};
 ghost use Rattle.std.specs.Option.{option_copied};
-ghost use Rattle.ebpf_parts.specs.ProgramTypes.{name_fits, has_target, is_marked, kind_in, longer, longest_fit, row_name, program_kind, unmarked};
+ghost use Rattle.ebpf_parts.specs.ProgramTypes.{name_fits, has_target, is_marked, kind_in, longer, longest_fit, row_name, program_kind, without_mark};
 
 use crate::programs::program_type::bpf_prog_type;
 
@@ -96,9 +96,9 @@ fn longest_fit<'a>(rows: &'a [NamedKind], name: &[u8]) -> Option<&'a NamedKind>
 }
 
 /// The name without the mark before it, `?`, and whether it has one.
-fn unmarked(name: &[u8]) -> (bool, &[u8])
+fn without_mark(name: &[u8]) -> (bool, &[u8])
     ensures mark { result.0 ≡ is_marked name.now }
-    ensures rest { result.1.now ≡ unmarked name.now }
+    ensures rest { result.1.now ≡ without_mark name.now }
 {
     match name.split_first() {
         Some((first, rest)) if *first == b'?' => (true, rest),
@@ -110,7 +110,7 @@ fn unmarked(name: &[u8]) -> (bool, &[u8])
 fn kind_in(rows: &[NamedKind], name: &[u8]) -> Option<ProgramKind>
     ensures { result ≡ kind_in rows.now name.now }
 {
-    let (is_optional, name) = unmarked(name);
+    let (is_optional, name) = without_mark(name);
     match longest_fit(rows, name) {
         Some(row) => Some(ProgramKind {
             is_optional,

@@ -7,4 +7,4 @@ pub returns-clause-refused : goal.returns-clause-refused
 returns-clause-refused c =
     refused_with CannotLink c.link_programs-answer.result _ _ c.deref_mut.result.now _ _ _ _ _
     (ap Some c.deref_mut.ensures.value ∙ c.in-Some.ensures.object) c.put.ensures c.link_programs-answer.ensures.unchanged
-    c.link_programs-answer.ensures.why c.answered.ensures.number c.answered.ensures.told
+    c.link_programs-answer.ensures.why c.reported_number.ensures.number c.reported_number.ensures.told

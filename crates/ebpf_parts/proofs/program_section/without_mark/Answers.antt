@@ -1,7 +1,7 @@
 use Rattle.std.proofs.Common.{None, arith}
 use Rattle.std.proofs.lemmas.Str.Pattern.{strip_prefix_char}
 use Rattle.ebpf_parts.proofs.NamesRead.{unmarked_plain}
-use Rattle.ebpf_parts.proofs.program_section.unmarked.Goals as goal
+use Rattle.ebpf_parts.proofs.program_section.without_mark.Goals as goal
 
 pub returns-in-None : goal.returns-in-None
 returns-in-None c = unmarked_plain c.args.name.now (strip_prefix_char 63 c.args.name.now None c.in-None.ensures.cases (omega arith))

@@ -24,9 +24,9 @@ use Rattle.core.proofs.option.Made.{Some-of, none_of}
 use Rattle.std.specs.contracts.alloc.Global as heap
 use Rattle.capi_exports.proofs.Handles.{Handle, word, handle_out, held_out, object_types}
 use Rattle.capi_exports.proofs.Texts.{Apart, pair, pair_fits, apart_in, freeing_of}
-use Rattle.capi_exports.specs.contracts.handle.ebpf_handle.opened as f
-use Rattle.capi_exports.proofs.handle.ebpf_handle.opened.Statement.{statement}
-use Rattle.capi_exports.proofs.handle.ebpf_handle.opened.Code as code
+use Rattle.capi_exports.specs.contracts.handle.ebpf_handle.into_pointer as f
+use Rattle.capi_exports.proofs.handle.ebpf_handle.into_pointer.Statement.{statement}
+use Rattle.capi_exports.proofs.handle.ebpf_handle.into_pointer.Code as code
 
 abbrev stayed : Stays f.ended.signature.params f.ended.kept
 stayed = (stay_dropped (plain (λ _. Handle)) yes, (stay_dropped (plain (λ _. heap.the_row)) yes, tt))
@@ -37,8 +37,8 @@ Parted = (Apart object_types).Denot
 abbrev Answer : RattleType
 Answer = option.the_row (Apart object_types)
 
-pub opened_spec : {M : Type 1} → statement M
-opened_spec 𝓤 𝓛 𝓜 𝓡 wired =
+pub into_pointer_spec : {M : Type 1} → statement M
+into_pointer_spec 𝓤 𝓛 𝓜 𝓡 wired =
     let c = f.clauses 𝓛 𝓜.mem 𝓡.returns in let 𝓣 = tables 𝓤 𝓛.H 𝓜 𝓡 𝓡.env in let W = walk_of 𝓛 f.ended stayed c in
     proved_at 𝓛 f.ended stayed c 𝓜 𝓡 (Goes-blank 𝓛 0 (plain (λ _. Handle)) yes (λ κs x w. tt), (Goes-blank 𝓛 0 (plain (λ _. heap.the_row)) yes (λ κs x w. tt), tt))
     f.Key.name code.function (code.unfolded 𝓤 𝓛.H 𝓜 𝓡 wired) (λ y are.

@@ -11,12 +11,12 @@ use denote.Steps.{nothing}
 use denote.Triple.Entry.{on_entry}
 use denote.Triple.Walked.{walk_of, says, ends_at}
 use Rattle.capi_exports.proofs.Handles.{word, handle_in}
-use Rattle.capi_exports.specs.contracts.handle.ebpf_handle.closed as f
-use Rattle.capi_exports.proofs.handle.ebpf_handle.closed.Statement.{statement}
-use Rattle.capi_exports.proofs.handle.ebpf_handle.closed.Code as code
+use Rattle.capi_exports.specs.contracts.handle.ebpf_handle.without_object as f
+use Rattle.capi_exports.proofs.handle.ebpf_handle.without_object.Statement.{statement}
+use Rattle.capi_exports.proofs.handle.ebpf_handle.without_object.Code as code
 
-pub closed_spec : {M : Type 1} → statement M
-closed_spec 𝓤 𝓛 𝓜 𝓡 wired =
+pub without_object_spec : {M : Type 1} → statement M
+without_object_spec 𝓤 𝓛 𝓜 𝓡 wired =
     let c = f.clauses 𝓛 𝓜.mem 𝓡.returns in let W = walk_of 𝓛 f.ended tt c in
     proved 𝓛 f.ended tt c 𝓜 𝓡 tt f.Key.name code.function (code.unfolded 𝓤 𝓛.H 𝓜 𝓡 wired)
     (λ κs. tt) (λ κs. tt) (λ κs qs bounds a _ are.

@@ -1,7 +1,7 @@
 use Rattle.std.proofs.Common.{◌≡◌, drop, sym, ◌∙◌, ap, arith}
 use Rattle.std.specs.Prelude.{slice_range}
 use Rattle.ebpf_btf.proofs.Cut.{part_is, holds_behind}
-use Rattle.ebpf_btf.proofs.parse.taken.Goals as goal
+use Rattle.ebpf_btf.proofs.parse.take_parts.Goals as goal
 
 pub from_parts-requires : goal.from_parts-requires
 from_parts-requires c =
