@@ -16,6 +16,9 @@ TOP = Path(__file__).parents[1]
 COLUMNS = 100
 # Operators of terms by their strength, the weakest first; a term breaks before the weakest that it has.
 OPERATORS = [{"→"}, {"↔"}, {"then", "else"}, {"×"}, {"||"}, {"&&"}, {"≡", "≤", "<", "∈", "=="}, {"++", "∷"}, {"+", "-"}]
+# At these operators short parts share lines.
+FILLED = {"→", "∷", "++"}
+SHORT = 40
 OPENING, CLOSING = "({⟨", ")}⟩"
 CLAUSE = re.compile(r"( *)((?:ensures|requires|ghost)\*?(?: [\w*]+:?)?(?: =)?) \{ (.*) \}(;|,|)$")
 
@@ -145,6 +148,8 @@ def broken(words, indent, start=None):
             lines += [" " * indent + (inner := broken(field, indent + 4, indent))[0], *inner[1:]]
         return lines
     parts = operands(words)
+    if parts and {name for name, _ in parts} <= {"", *FILLED} and all(len(flat(part)) <= SHORT for _, part in parts):
+        return filled([[f"{name} {flat(part)}".lstrip()] for name, part in parts], indent, [""], start)
     if parts:
         lines = broken(parts[0][1], indent, start)
         for name, part in parts[1:]:
@@ -209,11 +214,13 @@ def definition_lines(line):
     """A line of a definition over several: its type goes on behind the `:`, its body begins behind the `=`."""
     indent = len(line) - len(line.lstrip())
     text = line.strip()
-    head, found, rest = text.partition(" : ")
-    if found and flat_brackets(head) and len(head) < COLUMNS - 30:
+    head, rest = split_outside(text, " : ")
+    if rest and len(head) < COLUMNS - 30:
         return term_lines(rest, indent + 4, " " * indent + f"{head} : ")
-    head, found, rest = text.partition(" = ")
-    if found and flat_brackets(head):
+    if rest:
+        return [*term_lines(head, indent + 4, " " * indent), *term_lines(rest, indent + 4, " " * (indent + 4) + ": ")]
+    head, rest = split_outside(text, " = ")
+    if rest:
         return [" " * indent + f"{head} =", *term_lines(rest, indent + 4, " " * (indent + 4))]
     operator, _, rest = text.partition(" ")
     if any(operator in strength for strength in OPERATORS):
@@ -221,13 +228,14 @@ def definition_lines(line):
     return term_lines(text, indent, " " * indent)
 
 
-def flat_brackets(text):
-    """Whether each bracket of a text has its partner there."""
-    try:
-        read_words(text)
-    except ValueError:
-        return False
-    return True
+def split_outside(text, mark):
+    """What is before and behind the first mark outside brackets; nothing is behind where there is none."""
+    depth = 0
+    for place, char in enumerate(text):
+        depth += (char in OPENING) - (char in CLOSING)
+        if not depth and text.startswith(mark, place):
+            return text[:place], text[place + len(mark) :]
+    return text, ""
 
 
 def wrapped(line, is_spec):
@@ -262,11 +270,27 @@ def words_of(text):
     return re.sub(r"\s", "", re.sub(r"(?m)^\s*--", "", text))
 
 
+def goes_on(line, after):
+    """Whether a comment's sentence goes on in the line behind it."""
+    indent = line[: len(line) - len(line.lstrip())]
+    return line.strip().startswith("-- ") and re.match(rf"{indent}-- [a-z(`]", after) is not None
+
+
 def wrap(path, is_spec):
     """Breaks the long lines of a file."""
     text = path.read_text()
-    lines = text.split("\n")
-    made = [new for line in lines for new in (wrapped(line, is_spec) if len(line) > COLUMNS and is_limited(line, is_spec) else [line])]
+    made, waiting = [], text.split("\n")
+    while waiting:
+        line = waiting.pop(0)
+        if len(line) <= COLUMNS or not is_limited(line, is_spec):
+            made.append(line)
+            continue
+        new = wrapped(line, is_spec)
+        if is_spec and waiting and goes_on(line, waiting[0]):
+            # the comment's next line takes what is left of this one
+            rest = waiting.pop(0)
+            waiting.insert(0, f"{new.pop()} {rest.strip().removeprefix('--').strip()}")
+        made += new
     new = "\n".join(made)
     assert words_of(new) == words_of(text), path
     if new != text:
