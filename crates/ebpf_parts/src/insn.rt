@@ -29,6 +29,9 @@ pub struct bpf_insn {
 }
 
 impl bpf_insn {
+    /// The length of a slot in bytes.
+    pub const SIZE: usize = 8;
+
     /// The destination register's number, 0 to 15.
     pub fn dst_reg(&self) -> u8
         ensures { result ≡ dst_of self.now }
@@ -114,12 +117,12 @@ pub fn copy_instructions(alloc: Global, bytes: &[u8]) -> Result<Vec<bpf_insn>, P
     ensures slots { IfOk result (λ slots. slots.items ≡ slots_of bytes.now) }
     ensures fault { Refuses is_parse_memory result (first_of (code_faults bytes.now)) }
 {
-    if bytes.len() % 8 != 0 {
+    if bytes.len() % bpf_insn::SIZE != 0 {
         return Err(ParseError::InvalidProgramCode);
     }
     let mut slots = Vec::new(alloc);
-    for k in 0..bytes.len() / 8 {
-        slots.push(read_slot(bytes, 8 * k))?;
+    for k in 0..bytes.len() / bpf_insn::SIZE {
+        slots.push(read_slot(bytes, bpf_insn::SIZE * k))?;
     }
     Ok(slots)
 }
