@@ -46,7 +46,7 @@ impl bpf_insn {
         self.regs / 16
     }
 
-    /// Whether it calls a function of the same object.
+    /// Whether the instruction calls a function of the same object.
     pub fn is_pseudo_call(&self) -> bool
         ensures { result ≡ is_pseudo_call self.now }
     {
@@ -56,7 +56,7 @@ impl bpf_insn {
             && self.off == 0
     }
 
-    /// Whether it calls a helper function by its number.
+    /// Whether the instruction calls a helper function by its number.
     pub fn is_helper_call(&self) -> bool
         ensures { result ≡ is_helper_call self.now }
     {

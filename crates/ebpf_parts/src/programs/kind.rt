@@ -15,13 +15,13 @@ pub struct ProgramKind {
     pub program_type: bpf_prog_type,
     /// The kernel's number of the way of attaching it (of its `enum bpf_attach_type`), where the name says one.
     pub attach_type: Option<u32>,
-    /// Whether it may sleep.
+    /// Whether the program may sleep.
     pub is_sleepable: bool,
-    /// Whether it takes packets in fragments.
+    /// Whether the program takes packets in fragments.
     pub has_frags: bool,
-    /// Whether it is loaded with the number of a type of what it is attached to.
+    /// Whether the program is loaded with the id of its attach target's type.
     pub wants_target_type: bool,
-    /// Whether it is loaded only where it is asked for.
+    /// Whether the program is loaded only where a caller asks for it.
     pub is_optional: bool,
 }
 
