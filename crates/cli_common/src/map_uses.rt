@@ -13,6 +13,7 @@ use ebpf_base::{ByIndex, ByKey, ByName, ByOffset, Items, Text};
 use ebpf_model::Function;
 use ebpf_object::Object;
 use ebpf_parts::Relocation;
+use ebpf_parts::insn::bpf_insn;
 use std::alloc::{AllocError, Global};
 
 /// A map that a function uses.
@@ -141,7 +142,7 @@ fn slots_among(
         let Some(name) = map_of(object, names, relocation) else {
             continue;
         };
-        let slot = (offset.saturating_sub(start) / 8) as usize;
+        let slot = (offset.saturating_sub(start) / bpf_insn::SIZE as u64) as usize;
         note_slot(alloc, &mut slots, name, slot)?;
     }
     Ok(slots)

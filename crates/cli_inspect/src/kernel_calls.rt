@@ -4,13 +4,14 @@ use ebpf_base::{ByKey, Items, Text};
 use ebpf_model::Function;
 use ebpf_object::Object;
 use ebpf_parts::Relocation;
+use ebpf_parts::insn::bpf_insn;
 use ebpf_parts::insn::opcodes::CALL;
 use std::alloc::{AllocError, Global};
 use std::collections::BTreeSet;
 
 /// The slot of a function that an offset into its section is.
 fn slot_at(function: &Function, offset: u64) -> usize {
-    (offset.saturating_sub(function.section_offset as u64) / 8) as usize
+    (offset.saturating_sub(function.section_offset as u64) / bpf_insn::SIZE as u64) as usize
 }
 
 /// Whether a slot is a call.

@@ -2,6 +2,7 @@
 
 use ebpf_model::{EbpfRelocationError, Function, RelocationError, Symbol};
 use ebpf_object::Object;
+use ebpf_parts::insn::bpf_insn;
 
 /// The function of a name, where one alone has it.
 fn function_named<'a>(object: &'a Object, name: &str) -> Option<&'a Function> {
@@ -21,7 +22,7 @@ fn function_named<'a>(object: &'a Object, name: &str) -> Option<&'a Function> {
 /// The slot that an offset into a function's section is; none where the function hasn't got it.
 fn slot_at(function: &Function, offset: u64) -> Option<usize> {
     let within = offset.checked_sub(function.section_offset as u64)?;
-    let slot = (within / 8) as usize;
+    let slot = (within / bpf_insn::SIZE as u64) as usize;
     if slot < function.instructions.len() {
         Some(slot)
     } else {

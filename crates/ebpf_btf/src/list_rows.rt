@@ -136,7 +136,7 @@ impl<'a, R: ListRow> Rows<'a, R> {
         }
     }
 
-    /// The one at an offset from 0 on where there is one.
+    /// The row with an index, from 0 on.
     #[inline]
     #[tactic(auto, using(crate::proofs::InOrder::item_some, crate::proofs::InOrder::item_read, crate::proofs::InOrder::items_length, crate::proofs::InOrder::record_inside))]
     pub fn at(&self, index: usize) -> R
@@ -151,7 +151,7 @@ impl<'a, R: ListRow> Rows<'a, R> {
         R::read(self.order, self.bytes, offset)
     }
 
-    /// The one at an offset from 0 on; None where there are not so many.
+    /// The row with an index, from 0 on; `None` past the last.
     #[inline]
     #[tactic(auto, using(crate::proofs::InOrder::item_some, crate::proofs::InOrder::item_none, crate::proofs::InOrder::record_inside))]
     pub fn get(&self, index: usize) -> Option<R>

@@ -12,7 +12,7 @@ use Rattle.ebpf_core.specs.declared.outcome.Outcome.{Outcome}
 use Rattle.ebpf_core_relo.specs.declared.carried.Carrier.{Carrier}
 use Rattle.ebpf_core_relo.specs.declared.carried.Carrier.TheVariants.{Immediate, Offset, WideLoad, Nothing}
 use Rattle.ebpf_parts.specs.declared.insn.bpf_insn.{bpf_insn}
-use Rattle.ebpf_parts.specs.Slots.{call, class_alu, class_alu64, class_jmp, class_jmp32, class_ld, ld_imm64, size_b, size_dw, size_h, size_w, src_of}
+use Rattle.ebpf_parts.specs.Slots.{call, class_alu, class_alu64, class_jmp, class_jmp32, class_ld, ld_imm64, poison_call, size_b, size_dw, size_h, size_w, src_of}
 
 -- where a slot carries a number, by its class in the low three bits: arithmetic (4 and 7) in the immediate, a load or
 -- store through a register (1, 2 and 3) in the offset, a wide load (0) in two immediates, a jump (5 and 6) nowhere
@@ -80,7 +80,7 @@ carried_by Nothing slot number outcome = None
 
 -- a slot that fails where it is reached: a call of a helper function that no kernel has
 abbrev pub poison : bpf_insn
-poison = record { code = call; regs = 0; off = pos 0; imm = pos 195896080 }
+poison = record { code = call; regs = 0; off = pos 0; imm = pos poison_call }
 
 abbrev pub is_wide_load : Carrier → Bool
 is_wide_load WideLoad = true

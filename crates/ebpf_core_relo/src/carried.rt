@@ -10,7 +10,7 @@ use ebpf_base::Text;
 use ebpf_core::{FieldClass, LoadedField, Outcome, RelocationError};
 use ebpf_parts::insn::bpf_insn;
 use ebpf_parts::insn::opcodes::{
-    ALU, ALU64, BPF_B, BPF_DW, BPF_H, BPF_W, CALL, JMP, JMP32, LD, LD_IMM64,
+    ALU, ALU64, BPF_B, BPF_DW, BPF_H, BPF_W, CALL, JMP, JMP32, LD, LD_IMM64, POISON_CALL,
 };
 use std::alloc::Global;
 
@@ -138,7 +138,7 @@ fn poison() -> bpf_insn
         code: CALL,
         regs: 0,
         off: 0,
-        imm: 195_896_080,
+        imm: POISON_CALL,
     }
 }
 

@@ -10,7 +10,7 @@ ghost use Rattle.ebpf_core_relo.specs.declared.outcomes.RecordResult.TheVariants
 use crate::absence::Absence;
 use crate::error::unless_memory_of_types;
 use crate::record_search::RecordSearch;
-use crate::spans::{FunctionSpans, SLOT, span_in};
+use crate::spans::{FunctionSpans, span_in};
 use ebpf_base::{ByKey, ByName, Items};
 use ebpf_btf::{Btf, BtfError};
 use ebpf_core::{Outcome, RelocationError};
@@ -72,7 +72,7 @@ fn slot_of_record(
     let span = span_in(&function_spans.spans, section, offset)?;
     Some(RecordSlot {
         function: (section, span.address),
-        slot: offset.saturating_sub(span.start) / SLOT,
+        slot: offset.saturating_sub(span.start) / bpf_insn::SIZE,
     })
 }
 

@@ -11,7 +11,7 @@ ghost use Rattle.ebpf_core_relo.specs.Carried as carried;
 
 use crate::carried::{CarryingSlots, carrying_slots, put_slots_at};
 use crate::error::BtfRelocationError;
-use crate::spans::{FunctionSpans, SLOT, Span, span_in};
+use crate::spans::{FunctionSpans, Span, span_in};
 use ebpf_base::{ByKey, Items, Text};
 use ebpf_btf::{Btf, BtfError};
 use ebpf_core::{CoreSearch, Outcome, RelocationError};
@@ -196,7 +196,7 @@ fn put_outcome(
 {
     let outcome = search.outcome(alloc, relocation)?;
     let key = (section, span.address);
-    let at = (relocation.insn_off as usize).saturating_sub(span.start) / SLOT;
+    let at = (relocation.insn_off as usize).saturating_sub(span.start) / bpf_insn::SIZE;
     let carrying = carrying_in(
         alloc,
         function_spans,

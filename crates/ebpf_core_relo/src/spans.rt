@@ -9,12 +9,10 @@ ghost use Rattle.std.specs.FinMap as map;
 use ebpf_base::{ByKey, ByName, BySection};
 use ebpf_elf::SectionIndex;
 use ebpf_model::Function;
+use ebpf_parts::insn::bpf_insn;
 use std::alloc::{AllocError, Global};
 use std::marker::Model;
 use std::mem;
-
-/// The size of a slot in bytes.
-pub const SLOT: usize = 8;
 
 /// What a function takes of its section's data.
 #[derive(Clone, Copy)]
@@ -172,7 +170,7 @@ impl RisingSpans {
     pub fn at(&self, offset: usize) -> Option<Span>
         ensures { result ≡ span_at offset self.now }
     {
-        let number = upper_bound(&self.ends, offset / SLOT);
+        let number = upper_bound(&self.ends, offset / bpf_insn::SIZE);
         begun(&self.spans, number, offset)
     }
 }
@@ -194,7 +192,7 @@ fn span_of(address: u64, function: &Function) -> Span
     Span {
         address,
         start: function.section_offset,
-        end: function.section_offset / SLOT + function.instructions.as_slice().len(),
+        end: function.section_offset / bpf_insn::SIZE + function.instructions.as_slice().len(),
     }
 }
 

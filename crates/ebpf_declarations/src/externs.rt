@@ -47,7 +47,7 @@ pub enum FunctionOrFault {
     UnreadableType(BtfError),
 }
 
-/// What it meets at an entry.
+/// What a search for a function meets at an entry.
 #[tactic(auto, unfolding(crate::specs::Externs::function_or_fault))]
 fn function_or_fault(btf: &Btf, entry: &DataSecEntry) -> Option<FunctionOrFault>
     ensures { result ≡ function_or_fault btf.now entry.now }
@@ -59,7 +59,7 @@ fn function_or_fault(btf: &Btf, entry: &DataSecEntry) -> Option<FunctionOrFault>
     }
 }
 
-/// What it meets first.
+/// What a search for a function meets first among entries.
 #[tactic(auto, using(ebpf_base::proofs::Lists::rest_more, ebpf_base::proofs::Lists::rest_none))]
 fn first_function_or_fault(btf: &Btf, entries: &[DataSecEntry]) -> Option<FunctionOrFault>
     ensures { result ≡ first_function_or_fault btf.now entries.now }

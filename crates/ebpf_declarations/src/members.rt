@@ -93,7 +93,7 @@ pub enum MemberValue {
     Value { type_id: u32, size: u32 },
     /// The maps that it holds.
     Values(BtfMapDef),
-    /// That it holds programs.
+    /// A map that holds programs.
     Programs,
     /// What the map's type asks further, in 64 bits.
     Extra(u64),

@@ -1,6 +1,6 @@
 //! A file.
 
-ghost use Rattle.std.specs.Prelude.{◌≡◌, ◌<◌, ◌^◌, length, List, ℕ, None, Some, IfOk, OnOk, IfErr, option_map};
+ghost use Rattle.std.specs.Prelude.{◌≡◌, ◌<◌, ◌==◌, ◌^◌, length, List, ℕ, None, Some, IfOk, OnOk, IfErr, option_map};
 ghost use Rattle.std.specs.List.{find};
 ghost use Rattle.std.specs.Option.{ForSome};
 ghost use Rattle.ebpf_base.specs.Faults.{IsFirstFault, IsClear, rows_of, first_of, first_in, fault_of};
@@ -14,7 +14,7 @@ ghost use Rattle.ebpf_elf.specs.Symbols.{symbol_table_section, symbols};
 use crate::error::ElfReadError;
 use crate::header::{SectionTable, identify, section_table};
 use crate::relocation::RelocationSections;
-use crate::section::{ElfSection, Sections, first_named};
+use crate::section::{ElfSection, Sections, first_named, first_with_index};
 use crate::symbol::{SymbolTable, Symbols, find_symbol_table, open_symbol_table};
 use ebpf_base::Endianness;
 use ebpf_base::numbers::read_u16;
@@ -147,6 +147,13 @@ impl<'a> ElfFile<'a> {
         ensures { result ≡ find (λ s. is_name name.now (section_name s)) (sections self.now) }
     {
         first_named(self.sections(), name)
+    }
+
+    /// The section with this index, from 1 on.
+    pub fn section_at(&self, index: usize) -> Option<ElfSection<'a>>
+        ensures { result ≡ find (λ s. s.index == index) (sections self.now) }
+    {
+        first_with_index(self.sections(), index)
     }
 
     /// The symbols from index 1 on, in order.

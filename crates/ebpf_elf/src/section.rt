@@ -1,6 +1,6 @@
 //! The sections of a file.
 
-ghost use Rattle.std.specs.Prelude.{◌≡◌, ◌<◌, List, None, Some, IfOk, IfErr};
+ghost use Rattle.std.specs.Prelude.{◌≡◌, ◌<◌, ◌==◌, List, None, Some, IfOk, IfErr};
 ghost use Rattle.std.specs.Iterator.{YieldsFirst, item_count};
 ghost use Rattle.std.specs.List.{find};
 ghost use Rattle.ebpf_base.specs.Faults.{first_of, fault_of};
@@ -171,6 +171,18 @@ pub fn first_named<'a>(sections: Sections<'a>, name: &str) -> Option<ElfSection<
 {
     for section in sections {
         if section.has_name(name) {
+            return Some(section);
+        }
+    }
+    None
+}
+
+/// The section with this index.
+pub fn first_with_index<'a>(sections: Sections<'a>, index: usize) -> Option<ElfSection<'a>>
+    ensures { result ≡ find (λ s. s.index == index) sections.entry }
+{
+    for section in sections {
+        if section.index == index {
             return Some(section);
         }
     }

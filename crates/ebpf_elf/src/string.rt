@@ -64,7 +64,7 @@ fn reads_as(names: &[u8], index: usize, text: &str) -> bool
     }
 }
 
-/// The same, where one byte more than the text has is looked at, and no other.
+/// Whether the name with this index can be read and is this text. Of the name one byte more than the text has is read.
 pub fn is_name_in(names: &[u8], index: usize, text: &str) -> bool
     ensures { result ≡ is_name text.now (string_table_name names.now index) }
 {

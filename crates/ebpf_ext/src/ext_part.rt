@@ -138,8 +138,8 @@ fn read_section_head(
     })
 }
 
-/// The length of a slot in bytes.
-const SLOT: u32 = 8;
+/// The length of an instruction slot in bytes; `bpf_insn::SIZE` lies in a crate above this one.
+const INSN_SIZE: u32 = 8;
 
 impl Row for bpf_func_info {
     ghost least = { 8 };
@@ -149,7 +149,7 @@ impl Row for bpf_func_info {
     #[tactic(auto, unfolding(crate::specs::ExtFormat::func_record))]
     fn read(order: Endianness, bytes: &[u8], offset: usize) -> bpf_func_info {
         bpf_func_info {
-            insn_off: read_u32(order, bytes, offset) / SLOT,
+            insn_off: read_u32(order, bytes, offset) / INSN_SIZE,
             type_id: read_u32(order, bytes, offset + 4),
         }
     }
@@ -163,7 +163,7 @@ impl Row for bpf_line_info {
     #[tactic(auto, unfolding(crate::specs::ExtFormat::line_record))]
     fn read(order: Endianness, bytes: &[u8], offset: usize) -> bpf_line_info {
         bpf_line_info {
-            insn_off: read_u32(order, bytes, offset) / SLOT,
+            insn_off: read_u32(order, bytes, offset) / INSN_SIZE,
             file_name_off: read_u32(order, bytes, offset + 4),
             line_off: read_u32(order, bytes, offset + 8),
             line_col: read_u32(order, bytes, offset + 12),

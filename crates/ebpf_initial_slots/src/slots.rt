@@ -1,11 +1,10 @@
 //! The initial values of an object's maps: what relocations put into them, by map and index.
 
-ghost use Rattle.std.specs.Prelude.{◌≡◌, ◌<◌, ◌/◌, ◌++◌, map, IfOk, IfSome, IsTrue, OnOk, ◌==◌, [], unwrap_or};
+ghost use Rattle.std.specs.Prelude.{◌≡◌, ◌<◌, ◌/◌, ◌++◌, map, IfOk, IfSome, IsTrue, OnOk, [], unwrap_or};
 ghost use Rattle.std.specs.List.{find};
 ghost use Rattle.std.specs.Option.{option_copied};
 ghost use Rattle.ebpf_base.specs.Faults.{Gives, Refuses};
 ghost use Rattle.ebpf_initial_slots.specs.InitialSlots.{is_initial_slot_memory, by_map_and_index, holds_slot, index_from, initial_slot, slot_index, slots_fault, slots_in_order, slots_put, initial_slots, initial_slots_fault, maps_section, relocations_at, slots_of_section, with_slot_in};
-ghost use Rattle.ebpf_elf.specs.Sections.{sections};
 ghost use Rattle.ebpf_initial_slots.specs.MapVariables.{map_variables, last_member, values_at, values_offset};
 ghost use Rattle.std.specs.FinMap as finite;
 
@@ -15,7 +14,7 @@ use crate::variables::{MAPS, MapVariable, map_variables};
 use ebpf_base::{ByName, ByNumber, Items, Text};
 use ebpf_btf::strings::is_text_at;
 use ebpf_btf::{Btf, BtfMember, BtfType};
-use ebpf_elf::{ElfFile, ElfRelocation, ElfSection, Relocations, Sections};
+use ebpf_elf::{ElfFile, ElfRelocation, Relocations};
 use ebpf_object::Object;
 use std::alloc::{AllocError, Global};
 
@@ -184,18 +183,6 @@ pub fn slots_in_order(
     Ok(all)
 }
 
-/// The section with an index.
-fn section_at<'a>(sections: Sections<'a>, index: usize) -> Option<ElfSection<'a>>
-    ensures { result ≡ find (λ s. s.index == index) sections.entry }
-{
-    for section in sections {
-        if section.index().0 == index {
-            return Some(section);
-        }
-    }
-    None
-}
-
 /// The index of the section `.maps`.
 fn maps_section(object: &Object) -> Option<usize>
     ensures { result ≡ maps_section object.now }
@@ -208,7 +195,7 @@ fn maps_section(object: &Object) -> Option<usize>
 fn relocations_at<'a>(file: &ElfFile<'a>, index: usize) -> Option<Relocations<'a>>
     ensures { relocations_at file.now index ≡ unwrap_or result [] }
 {
-    let section = section_at(file.sections(), index)?;
+    let section = file.section_at(index)?;
     Some(section.relocations())
 }
 

@@ -13,6 +13,7 @@ use ebpf_elf::{ElfFile, ElfSection, ElfSymbol, SymbolKind};
 use ebpf_ext::{BtfExt, FoundSections, FuncSecInfo, LineSecInfo, bpf_func_info, bpf_line_info};
 use ebpf_parsing::{NamesSlot, is_in_order, lower_bound};
 use ebpf_parts::EbpfSectionKind;
+use ebpf_parts::insn::bpf_insn;
 use std::alloc::{AllocError, Global};
 use std::marker::Model;
 
@@ -130,9 +131,6 @@ impl<'e> FoundRecords<'e> {
     }
 }
 
-/// The length of a slot in bytes.
-const SLOT: u64 = 8;
-
 /// What a section has for its symbols: its place, and the records of its name, lent.
 #[derive(Drop)]
 pub struct Facts<'e> {
@@ -215,7 +213,7 @@ impl<'e> Facts<'e> {
     fn first_slot(&self, symbol: &ElfSymbol<'_>) -> u64
         ensures { result ≡ first_slot self.now (entry symbol.now) }
     {
-        offset_by(self.kind, self.address, symbol.address()) / SLOT
+        offset_by(self.kind, self.address, symbol.address()) / bpf_insn::SIZE as u64
     }
 
     /// The bytes of a symbol's function.
@@ -227,7 +225,7 @@ impl<'e> Facts<'e> {
     {
         let first = self.first_slot(symbol);
         let funcs = self.func_count(first) as u128;
-        let lines = self.line_count(first, symbol.size() / SLOT) as u128;
+        let lines = self.line_count(first, symbol.size() / bpf_insn::SIZE as u64) as u128;
         let code = u128::from(self.size.min(symbol.size()));
         named + code + record_bytes(funcs, lines)
     }

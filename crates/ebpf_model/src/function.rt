@@ -18,7 +18,7 @@ pub struct Function {
     pub name: Text,
     /// The section that it stands in.
     pub section_index: SectionIndex,
-    /// Where it begins in the section's data, in bytes.
+    /// The offset of the function in the section's data, in bytes.
     pub section_offset: usize,
     /// Its slots.
     pub instructions: Items<bpf_insn>,
@@ -33,7 +33,7 @@ pub struct Function {
 }
 
 impl Function {
-    /// Where it ends in its section, in bytes.
+    /// The offset of the function's end in its section, in bytes.
     pub fn end(&self) -> u128
         ensures { result ≡ self.now.section_offset + 8 * length self.now.instructions }
     {

@@ -20,16 +20,16 @@ pub struct Symbol {
     pub address: u64,
     /// Its size in bytes.
     pub size: u64,
-    /// What it names.
+    /// The kind of the thing that the symbol names.
     pub kind: SymbolKind,
     /// Whether the file defines it.
     pub is_definition: bool,
-    /// Whether it may stay without a definition.
+    /// Whether the symbol may stay without a definition.
     pub is_weak: bool,
 }
 
 impl Symbol {
-    /// Whether it names something of the kernel: it has no section, no definition and no type.
+    /// Whether the symbol names something of the kernel: it has no section, no definition and no type.
     pub fn is_extern(&self) -> bool
         ensures { result ≡ is_extern self.now }
     {
@@ -73,7 +73,7 @@ pub struct ExternDesc {
     pub btf_id: u32,
     /// Whether the kernel's type is compared with it.
     pub is_typed: bool,
-    /// Whether it may stay unresolved.
+    /// Whether the extern may stay unresolved.
     pub is_weak: bool,
     /// The id of the kernel's FUNC or VAR, where it is known.
     pub kernel_btf_id: Option<u32>,

@@ -10,17 +10,35 @@ use Rattle.ebpf_parts.specs.Slots.{is_helper_call}
 use Rattle.ebpf_model.specs.Symbols.{FunctionKey}
 use Rattle.ebpf_model.specs.declared.function.Function.{Function}
 
--- probe_read_user, probe_read_kernel
+-- BPF_FUNC_probe_read and BPF_FUNC_probe_read_str, which every kernel has
+abbrev pub probe_read : ℤ
+probe_read = pos 4
+
+abbrev pub probe_read_str : ℤ
+probe_read_str = pos 45
+
+-- the same for addresses of a process and of the kernel, which older kernels lack
+abbrev pub probe_read_user : ℤ
+probe_read_user = pos 112
+
+abbrev pub probe_read_kernel : ℤ
+probe_read_kernel = pos 113
+
+abbrev pub probe_read_user_str : ℤ
+probe_read_user_str = pos 114
+
+abbrev pub probe_read_kernel_str : ℤ
+probe_read_kernel_str = pos 115
+
 abbrev pub reads_bytes : ℤ → Bool
-reads_bytes helper = int_eq helper (pos 112) || int_eq helper (pos 113)
+reads_bytes helper = int_eq helper probe_read_user || int_eq helper probe_read_kernel
 
--- probe_read_user_str, probe_read_kernel_str
 abbrev pub reads_text : ℤ → Bool
-reads_text helper = int_eq helper (pos 114) || int_eq helper (pos 115)
+reads_text helper = int_eq helper probe_read_user_str || int_eq helper probe_read_kernel_str
 
--- probe_read and probe_read_str, which every kernel has
+-- the function that every kernel has, in the place of one that older kernels lack
 abbrev pub older_helper : ℤ → ℤ
-older_helper helper = if reads_bytes helper then pos 4 else (if reads_text helper then pos 45 else helper)
+older_helper helper = if reads_bytes helper then probe_read else (if reads_text helper then probe_read_str else helper)
 
 abbrev pub calls_newer : bpf_insn → Bool
 calls_newer slot = is_helper_call slot && (reads_bytes slot.imm || reads_text slot.imm)

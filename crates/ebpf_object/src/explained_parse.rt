@@ -2,7 +2,7 @@
 
 ghost use Rattle.std.specs.Prelude.{◌≡◌};
 
-use crate::queries::SectionWords;
+use crate::queries::{SectionWords, section_name};
 use crate::refused_places::{section_without_symbol, symbol_without_name, uneven_function};
 use ebpf_btf::BtfError;
 use ebpf_elf::ElfFile;
@@ -31,23 +31,15 @@ impl<'a> ExplainedParse<'a> {
 }
 
 /// The name of a file's section by its index, where it can be read.
-fn section_name(file: &[u8], number: usize) -> Option<&str> {
-    let Ok(file) = ElfFile::parse(file) else {
-        return None;
-    };
-    for section in file.sections() {
-        if section.index().0 == number {
-            return section.name().ok();
-        }
-    }
-    None
+fn name_of_section(file: &[u8], number: usize) -> Option<&str> {
+    section_name(&ElfFile::parse(file).ok()?, number)
 }
 
 /// The index of a file's section, and its name.
 fn section_of(file: &[u8], number: usize) -> SectionWords<'_> {
     SectionWords {
         number,
-        name: section_name(file, number),
+        name: name_of_section(file, number),
     }
 }
 

@@ -1,7 +1,7 @@
 //! What an object has by a name or a number, and what its functions ask for.
 
-ghost use Rattle.std.specs.Prelude.{◌≡◌, not, ◌&&◌, ◌==◌, IfOk, ℕ, List, is_some, codes};
-ghost use Rattle.std.specs.List.{list_any, find};
+ghost use Rattle.std.specs.Prelude.{◌≡◌, not, ◌&&◌, IfOk, ℕ, List, is_some, codes};
+ghost use Rattle.std.specs.List.{list_any};
 ghost use Rattle.std.specs.List.Sorted.{IsStrictlySortedBy};
 ghost use Rattle.std.specs.Map.{keys_of, values_of};
 ghost use Rattle.std.specs.String.{string_cmp};
@@ -18,7 +18,7 @@ ghost use Rattle.ebpf_parts.specs.declared.reading.Reading.{Reading};
 
 use crate::object::Object;
 use ebpf_base::ByName;
-use ebpf_elf::{ElfFile, ElfSection, Sections};
+use ebpf_elf::ElfFile;
 use ebpf_model::{ExternDesc, Function};
 use ebpf_parts::insn::bpf_insn;
 use std::alloc::{AllocError, Global};
@@ -97,25 +97,13 @@ impl Object {
     }
 }
 
-/// The section with this index.
-fn section_at<'a>(sections: Sections<'a>, index: usize) -> Option<ElfSection<'a>>
-    ensures { result ≡ find (λ s. s.index == index) sections.entry }
-{
-    for section in sections {
-        if section.index().0 == index {
-            return Some(section);
-        }
-    }
-    None
-}
-
 /// The name of the section with this index in a file. So a program's `section_index` gives the name of its section, by
 /// which it says where it is to be attached; also where two sections share one name, of which `Object::section_infos`
 /// has the later one alone. `None` where no section has the index, or its name can't be read.
 pub fn section_name<'a>(file: &ElfFile<'a>, index: usize) -> Option<&'a str>
     ensures { option_copied result ≡ name_in_file file.now index }
 {
-    let Some(section) = section_at(file.sections(), index) else {
+    let Some(section) = file.section_at(index) else {
         return None;
     };
     match section.name() {

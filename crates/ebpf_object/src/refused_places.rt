@@ -2,23 +2,11 @@
 
 use ebpf_elf::{ElfFile, ElfRelocationSection, ElfSection, ElfSymbol, SymbolKind};
 use ebpf_parts::EbpfSectionKind;
-
-/// The length in bytes of a slot.
-const SLOT: u64 = 8;
-
-/// The section of an index.
-fn section_at<'a>(file: &ElfFile<'a>, number: usize) -> Option<ElfSection<'a>> {
-    for section in file.sections() {
-        if section.index().0 == number {
-            return Some(section);
-        }
-    }
-    None
-}
+use ebpf_parts::insn::bpf_insn;
 
 /// Whether a section is read in its turn by index: type information is read by name, before.
 fn is_read_by_number(file: &ElfFile<'_>, number: usize) -> bool {
-    let Some(section) = section_at(file, number) else {
+    let Some(section) = file.section_at(number) else {
         return false;
     };
     match section.name() {
@@ -100,7 +88,10 @@ fn has_name(symbol: &ElfSymbol<'_>) -> bool {
 /// The first program of a Program section, by symbol, that is no whole slots.
 fn uneven_program<'a>(file: &ElfFile<'a>, section: usize) -> Option<ElfSymbol<'a>> {
     for symbol in file.symbols() {
-        if is_function_of(&symbol, section) && has_name(&symbol) && symbol.size() % SLOT != 0 {
+        if is_function_of(&symbol, section)
+            && has_name(&symbol)
+            && symbol.size() % bpf_insn::SIZE as u64 != 0
+        {
             return Some(symbol);
         }
     }
@@ -123,7 +114,7 @@ fn uneven_text<'a>(file: &ElfFile<'a>, section: &ElfSection<'a>) -> Option<ElfSy
         if offset >= size || !is_at(&symbol, section, offset) {
             continue;
         }
-        if symbol.size() % SLOT != 0 {
+        if symbol.size() % bpf_insn::SIZE as u64 != 0 {
             return Some(symbol);
         }
         offset = offset.saturating_add(symbol.size());

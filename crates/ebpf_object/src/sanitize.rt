@@ -1,4 +1,4 @@
-//! Helper functions that older kernels lack.
+//! Helper functions that older kernels lack, by the names and numbers of the kernel's `enum bpf_func_id`.
 
 ghost use Rattle.std.specs.Prelude.{◌≡◌, map, option_map, false};
 ghost use Rattle.std.specs.FinMap as finite;
@@ -11,13 +11,26 @@ use ebpf_base::ByKey;
 use ebpf_model::Function;
 use ebpf_parts::insn::bpf_insn;
 
+/// The helper function that reads memory.
+const BPF_FUNC_probe_read: i32 = 4;
+/// The helper function that reads a string.
+const BPF_FUNC_probe_read_str: i32 = 45;
+/// The helper function that reads memory of a process.
+const BPF_FUNC_probe_read_user: i32 = 112;
+/// The helper function that reads the kernel's memory.
+const BPF_FUNC_probe_read_kernel: i32 = 113;
+/// The helper function that reads a string of a process.
+const BPF_FUNC_probe_read_user_str: i32 = 114;
+/// The helper function that reads a string of the kernel's.
+const BPF_FUNC_probe_read_kernel_str: i32 = 115;
+
 /// The helper function that every kernel has, in the place of one by its number.
 fn older_helper(helper: i32) -> i32
     ensures { result ≡ older_helper helper }
 {
     match helper {
-        112 | 113 => 4,
-        114 | 115 => 45,
+        BPF_FUNC_probe_read_user | BPF_FUNC_probe_read_kernel => BPF_FUNC_probe_read,
+        BPF_FUNC_probe_read_user_str | BPF_FUNC_probe_read_kernel_str => BPF_FUNC_probe_read_str,
         _ => helper,
     }
 }
@@ -27,7 +40,10 @@ fn calls_newer(slot: &bpf_insn) -> bool
     ensures { result ≡ calls_newer slot.now }
 {
     slot.is_helper_call()
-        && (slot.imm == 112 || slot.imm == 113 || slot.imm == 114 || slot.imm == 115)
+        && (slot.imm == BPF_FUNC_probe_read_user
+            || slot.imm == BPF_FUNC_probe_read_kernel
+            || slot.imm == BPF_FUNC_probe_read_user_str
+            || slot.imm == BPF_FUNC_probe_read_kernel_str)
 }
 
 /// The slot with a helper function that every kernel has.

@@ -11,7 +11,7 @@ use Rattle.ebpf_parts.specs.declared.error.ParseError.TheVariants.{InvalidProgra
 use Rattle.ebpf_parts.specs.declared.program_section.ProgramSection.{ProgramSection}
 use Rattle.ebpf_parts.specs.declared.program_section.ProgramSection.TheVariants.{KRetProbe, KProbe, UProbe, URetProbe, TracePoint, SocketFilter, Xdp, SkMsg, SkSkbStream, SockOps, SchedClassifier, CgroupSkb, CgroupSockAddr, CgroupSysctl, CgroupSockopt, LircMode2, PerfEvent, RawTracePoint, Lsm, LsmCgroup, BtfTracePoint, FEntry, FExit, FlowDissector, Extension, SkLookup, SkReuseport, CgroupSock, CgroupDevice, Iter, Other}
 use Rattle.ebpf_parts.specs.declared.programs.attach_type.bpf_attach_type.{bpf_attach_type}
-use Rattle.ebpf_parts.specs.declared.programs.attach_type.bpf_attach_type.TheVariants.{BPF_CGROUP_INET_INGRESS, BPF_CGROUP_INET_EGRESS, BPF_CGROUP_INET_SOCK_CREATE, BPF_SK_SKB_STREAM_PARSER, BPF_SK_SKB_STREAM_VERDICT, BPF_CGROUP_INET4_BIND, BPF_CGROUP_INET6_BIND, BPF_CGROUP_INET4_CONNECT, BPF_CGROUP_INET6_CONNECT, BPF_CGROUP_INET4_POST_BIND, BPF_CGROUP_INET6_POST_BIND, BPF_CGROUP_UDP4_SENDMSG, BPF_CGROUP_UDP6_SENDMSG, BPF_CGROUP_UDP4_RECVMSG, BPF_CGROUP_UDP6_RECVMSG, BPF_CGROUP_GETSOCKOPT, BPF_CGROUP_SETSOCKOPT, BPF_CGROUP_INET4_GETPEERNAME, BPF_CGROUP_INET6_GETPEERNAME, BPF_CGROUP_INET4_GETSOCKNAME, BPF_CGROUP_INET6_GETSOCKNAME, BPF_XDP_DEVMAP, BPF_CGROUP_INET_SOCK_RELEASE, BPF_XDP_CPUMAP, BPF_XDP, BPF_SK_REUSEPORT_SELECT, BPF_SK_REUSEPORT_SELECT_OR_MIGRATE}
+use Rattle.ebpf_parts.specs.declared.programs.attach_type.bpf_attach_type.TheVariants.{BPF_CGROUP_INET_INGRESS, BPF_CGROUP_INET_EGRESS, BPF_CGROUP_INET_SOCK_CREATE, BPF_CGROUP_SOCK_OPS, BPF_SK_SKB_STREAM_PARSER, BPF_SK_SKB_STREAM_VERDICT, BPF_CGROUP_DEVICE, BPF_SK_MSG_VERDICT, BPF_CGROUP_INET4_BIND, BPF_CGROUP_INET6_BIND, BPF_CGROUP_INET4_CONNECT, BPF_CGROUP_INET6_CONNECT, BPF_CGROUP_INET4_POST_BIND, BPF_CGROUP_INET6_POST_BIND, BPF_CGROUP_UDP4_SENDMSG, BPF_CGROUP_UDP6_SENDMSG, BPF_LIRC_MODE2, BPF_FLOW_DISSECTOR, BPF_CGROUP_SYSCTL, BPF_CGROUP_UDP4_RECVMSG, BPF_CGROUP_UDP6_RECVMSG, BPF_CGROUP_GETSOCKOPT, BPF_CGROUP_SETSOCKOPT, BPF_TRACE_RAW_TP, BPF_TRACE_FENTRY, BPF_TRACE_FEXIT, BPF_MODIFY_RETURN, BPF_LSM_MAC, BPF_TRACE_ITER, BPF_CGROUP_INET4_GETPEERNAME, BPF_CGROUP_INET6_GETPEERNAME, BPF_CGROUP_INET4_GETSOCKNAME, BPF_CGROUP_INET6_GETSOCKNAME, BPF_XDP_DEVMAP, BPF_CGROUP_INET_SOCK_RELEASE, BPF_XDP_CPUMAP, BPF_SK_LOOKUP, BPF_XDP, BPF_SK_SKB_VERDICT, BPF_SK_REUSEPORT_SELECT, BPF_SK_REUSEPORT_SELECT_OR_MIGRATE, BPF_TRACE_KPROBE_MULTI, BPF_LSM_CGROUP, BPF_NETFILTER, BPF_TCX_INGRESS, BPF_TCX_EGRESS, BPF_TRACE_UPROBE_MULTI, BPF_CGROUP_UNIX_CONNECT, BPF_CGROUP_UNIX_SENDMSG, BPF_CGROUP_UNIX_RECVMSG, BPF_CGROUP_UNIX_GETPEERNAME, BPF_CGROUP_UNIX_GETSOCKNAME, BPF_NETKIT_PRIMARY, BPF_NETKIT_PEER, BPF_TRACE_KPROBE_SESSION}
 use Rattle.ebpf_parts.specs.declared.programs.attach_type.CgroupSkbAttachType.{CgroupSkbAttachType}
 use Rattle.ebpf_parts.specs.declared.programs.attach_type.CgroupSkbAttachType.TheVariants.{Ingress, Egress}
 use Rattle.ebpf_parts.specs.declared.programs.attach_type.CgroupSockAttachType.{CgroupSockAttachType}
@@ -272,8 +272,11 @@ unfoldable pub attach_type_number : bpf_attach_type → ℕ
 attach_type_number BPF_CGROUP_INET_INGRESS = 0
 attach_type_number BPF_CGROUP_INET_EGRESS = 1
 attach_type_number BPF_CGROUP_INET_SOCK_CREATE = 2
+attach_type_number BPF_CGROUP_SOCK_OPS = 3
 attach_type_number BPF_SK_SKB_STREAM_PARSER = 4
 attach_type_number BPF_SK_SKB_STREAM_VERDICT = 5
+attach_type_number BPF_CGROUP_DEVICE = 6
+attach_type_number BPF_SK_MSG_VERDICT = 7
 attach_type_number BPF_CGROUP_INET4_BIND = 8
 attach_type_number BPF_CGROUP_INET6_BIND = 9
 attach_type_number BPF_CGROUP_INET4_CONNECT = 10
@@ -282,10 +285,19 @@ attach_type_number BPF_CGROUP_INET4_POST_BIND = 12
 attach_type_number BPF_CGROUP_INET6_POST_BIND = 13
 attach_type_number BPF_CGROUP_UDP4_SENDMSG = 14
 attach_type_number BPF_CGROUP_UDP6_SENDMSG = 15
+attach_type_number BPF_LIRC_MODE2 = 16
+attach_type_number BPF_FLOW_DISSECTOR = 17
+attach_type_number BPF_CGROUP_SYSCTL = 18
 attach_type_number BPF_CGROUP_UDP4_RECVMSG = 19
 attach_type_number BPF_CGROUP_UDP6_RECVMSG = 20
 attach_type_number BPF_CGROUP_GETSOCKOPT = 21
 attach_type_number BPF_CGROUP_SETSOCKOPT = 22
+attach_type_number BPF_TRACE_RAW_TP = 23
+attach_type_number BPF_TRACE_FENTRY = 24
+attach_type_number BPF_TRACE_FEXIT = 25
+attach_type_number BPF_MODIFY_RETURN = 26
+attach_type_number BPF_LSM_MAC = 27
+attach_type_number BPF_TRACE_ITER = 28
 attach_type_number BPF_CGROUP_INET4_GETPEERNAME = 29
 attach_type_number BPF_CGROUP_INET6_GETPEERNAME = 30
 attach_type_number BPF_CGROUP_INET4_GETSOCKNAME = 31
@@ -293,9 +305,25 @@ attach_type_number BPF_CGROUP_INET6_GETSOCKNAME = 32
 attach_type_number BPF_XDP_DEVMAP = 33
 attach_type_number BPF_CGROUP_INET_SOCK_RELEASE = 34
 attach_type_number BPF_XDP_CPUMAP = 35
+attach_type_number BPF_SK_LOOKUP = 36
 attach_type_number BPF_XDP = 37
+attach_type_number BPF_SK_SKB_VERDICT = 38
 attach_type_number BPF_SK_REUSEPORT_SELECT = 39
 attach_type_number BPF_SK_REUSEPORT_SELECT_OR_MIGRATE = 40
+attach_type_number BPF_TRACE_KPROBE_MULTI = 42
+attach_type_number BPF_LSM_CGROUP = 43
+attach_type_number BPF_NETFILTER = 45
+attach_type_number BPF_TCX_INGRESS = 46
+attach_type_number BPF_TCX_EGRESS = 47
+attach_type_number BPF_TRACE_UPROBE_MULTI = 48
+attach_type_number BPF_CGROUP_UNIX_CONNECT = 49
+attach_type_number BPF_CGROUP_UNIX_SENDMSG = 50
+attach_type_number BPF_CGROUP_UNIX_RECVMSG = 51
+attach_type_number BPF_CGROUP_UNIX_GETPEERNAME = 52
+attach_type_number BPF_CGROUP_UNIX_GETSOCKNAME = 53
+attach_type_number BPF_NETKIT_PRIMARY = 54
+attach_type_number BPF_NETKIT_PEER = 55
+attach_type_number BPF_TRACE_KPROBE_SESSION = 56
 
 abbrev pub cgroup_skb_attach_type : CgroupSkbAttachType → bpf_attach_type
 cgroup_skb_attach_type Ingress = BPF_CGROUP_INET_INGRESS

@@ -82,6 +82,16 @@ pseudo_call = 1
 abbrev pub pseudo_kfunc_call : ℕ
 pseudo_kfunc_call = 2
 
+-- the immediate of a slot that a CO-RE relocation poisoned: the number of a helper function that no kernel has (libbpf's
+-- relo_core.c)
+abbrev pub poison_call : ℕ
+poison_call = 0x0bad2310
+
+-- the immediate of a call of a weak extern that the kernel lacks, less the index of the extern's symbol (libbpf's
+-- POISON_CALL_KFUNC_BASE)
+abbrev pub absent_kfunc : ℕ
+absent_kfunc = 2002000000
+
 -- the bits of a load's or store's code that say how many bytes it moves: 8, 4, 2 and 1 (section 5; BPF_DW, BPF_W,
 -- BPF_H, BPF_B)
 abbrev pub size_dw : ℕ

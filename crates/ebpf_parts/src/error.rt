@@ -134,7 +134,7 @@ impl fmt::Display for SymbolWords<'_> {
 /// empty, as it is where memory was refused.
 #[derive(Clone, Copy, Debug)]
 pub struct Within<'a> {
-    /// What it is.
+    /// The kind of the part: `function` or `section`.
     pub what: &'static str,
     /// Its name.
     pub name: &'a str,

@@ -29,6 +29,9 @@ pub struct bpf_insn {
 }
 
 impl bpf_insn {
+    /// The length of a slot in bytes.
+    pub const SIZE: usize = 8;
+
     /// The destination register's number, 0 to 15.
     pub fn dst_reg(&self) -> u8
         ensures { result ≡ dst_of self.now }
@@ -43,7 +46,7 @@ impl bpf_insn {
         self.regs / 16
     }
 
-    /// Whether it calls a function of the same object.
+    /// Whether the instruction calls a function of the same object.
     pub fn is_pseudo_call(&self) -> bool
         ensures { result ≡ is_pseudo_call self.now }
     {
@@ -53,7 +56,7 @@ impl bpf_insn {
             && self.off == 0
     }
 
-    /// Whether it calls a helper function by its number.
+    /// Whether the instruction calls a helper function by its number.
     pub fn is_helper_call(&self) -> bool
         ensures { result ≡ is_helper_call self.now }
     {
@@ -114,12 +117,12 @@ pub fn copy_instructions(alloc: Global, bytes: &[u8]) -> Result<Vec<bpf_insn>, P
     ensures slots { IfOk result (λ slots. slots.items ≡ slots_of bytes.now) }
     ensures fault { Refuses is_parse_memory result (first_of (code_faults bytes.now)) }
 {
-    if bytes.len() % 8 != 0 {
+    if bytes.len() % bpf_insn::SIZE != 0 {
         return Err(ParseError::InvalidProgramCode);
     }
     let mut slots = Vec::new(alloc);
-    for k in 0..bytes.len() / 8 {
-        slots.push(read_slot(bytes, 8 * k))?;
+    for k in 0..bytes.len() / bpf_insn::SIZE {
+        slots.push(read_slot(bytes, bpf_insn::SIZE * k))?;
     }
     Ok(slots)
 }

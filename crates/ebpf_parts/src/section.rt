@@ -115,7 +115,7 @@ pub use ebpf_elf::ElfRelocation as Relocation;
 pub struct Section<'a> {
     /// The index of the section.
     pub index: SectionIndex,
-    /// What it is for.
+    /// The kind of the section.
     pub kind: EbpfSectionKind,
     /// Its address.
     pub address: u64,

@@ -11,7 +11,7 @@ use Rattle.ebpf_model.specs.declared.error.EbpfRelocationError.{EbpfRelocationEr
 use Rattle.ebpf_model.specs.declared.symbol.ExternDesc.{ExternDesc}
 use Rattle.ebpf_model.specs.declared.function.Function.{Function}
 use Rattle.ebpf_model.specs.declared.symbol.Symbol.{Symbol}
-use Rattle.ebpf_parts.specs.Slots.{call, ld_imm64, pseudo_btf_id, pseudo_kfunc_call, dst_of, registers}
+use Rattle.ebpf_parts.specs.Slots.{absent_kfunc, call, ld_imm64, pseudo_btf_id, pseudo_kfunc_call, dst_of, registers}
 use Rattle.ebpf_parts.specs.declared.insn.bpf_insn.{bpf_insn}
 use Rattle.ebpf_passes.specs.Maps.{with_source, GivenMap, LentMap, given_map, MapInputs, tables_of, map_edit}
 use Rattle.ebpf_passes.specs.Relocated.{Relocations, relocated, first_fault, EditRule}
@@ -39,7 +39,7 @@ kernel_call slot id = record slot { regs = registers pseudo_kfunc_call (dst_of s
 
 -- a call that a verifier refuses where it is reached, by a number that tells the symbol
 abbrev pub absent_call : bpf_insn → ℕ → bpf_insn
-absent_call slot symbol = record slot { regs = 0; off = pos 0; imm = cast_signed w32 ((2002000000 + symbol) % 2 ^ 32) }
+absent_call slot symbol = record slot { regs = 0; off = pos 0; imm = cast_signed w32 ((absent_kfunc + symbol) % 2 ^ 32) }
 
 abbrev pub resolved_call : Option ℕ → bpf_insn → Result Edit SlotFault
 resolved_call None slot = Err UnresolvableSymbol

@@ -14,7 +14,9 @@ use ebpf_base::{ByIndex, ByKey, ByName, ByOffset, BySection};
 use ebpf_model::{EbpfRelocationError, ExternDesc, Function, Symbol};
 use ebpf_parts::Relocation;
 use ebpf_parts::insn::bpf_insn;
-use ebpf_parts::insn::opcodes::{BPF_PSEUDO_BTF_ID, BPF_PSEUDO_KFUNC_CALL, CALL, LD_IMM64};
+use ebpf_parts::insn::opcodes::{
+    ABSENT_KFUNC, BPF_PSEUDO_BTF_ID, BPF_PSEUDO_KFUNC_CALL, CALL, LD_IMM64,
+};
 use std::alloc::Global;
 
 /// What is read to write the kernel's ids and addresses.
@@ -55,7 +57,7 @@ fn absent_call(slot: bpf_insn, symbol: usize) -> bpf_insn
     ensures { result ≡ absent_call slot symbol }
 {
     let low = symbol as u64 % BITS;
-    let number = (2_002_000_000 + low) % BITS;
+    let number = (u64::from(ABSENT_KFUNC) + low) % BITS;
     bpf_insn {
         regs: 0,
         off: 0,

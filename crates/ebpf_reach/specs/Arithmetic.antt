@@ -3,21 +3,22 @@ use Rattle.std.specs.Prelude.{ℕ, ℤ, Bool, not, Option, Some, None, bit_and, 
 use Rattle.std.specs.Int.{Width, cast_signed, w8, w16, w32, w64, cast_unsigned, int_shr, int_wrapping_div, swap_bytes}
 use Rattle.std.specs.Ordering.{int_eq}
 use mir.Val.{bits}
+use Rattle.ebpf_reach.specs.Operations.{jeq, jgt, jge, jset, jne, jsgt, jsge, jlt, jle, jslt, jsle, op_add, op_sub, op_mul, op_div, op_or, op_and, op_lsh, op_rsh, op_mod, op_xor, op_arsh}
 
 -- the operands as unsigned numbers, and as signed ones
 abbrev pub tested : ℕ → ℕ → ℕ → ℤ → ℤ → Option Bool
 tested operation x y signed_x signed_y =
-    if operation == 1 then Some (x == y)
-    else (if operation == 2 then Some (nat_lt y x)
-    else (if operation == 3 then Some (nat_le y x)
-    else (if operation == 4 then Some (not (bit_and x y == 0))
-    else (if operation == 5 then Some (not (x == y))
-    else (if operation == 6 then Some (int_lt signed_y signed_x)
-    else (if operation == 7 then Some (int_le signed_y signed_x)
-    else (if operation == 10 then Some (nat_lt x y)
-    else (if operation == 11 then Some (nat_le x y)
-    else (if operation == 12 then Some (int_lt signed_x signed_y)
-    else (if operation == 13 then Some (int_le signed_x signed_y)
+    if operation == jeq then Some (x == y)
+    else (if operation == jgt then Some (nat_lt y x)
+    else (if operation == jge then Some (nat_le y x)
+    else (if operation == jset then Some (not (bit_and x y == 0))
+    else (if operation == jne then Some (not (x == y))
+    else (if operation == jsgt then Some (int_lt signed_y signed_x)
+    else (if operation == jsge then Some (int_le signed_y signed_x)
+    else (if operation == jlt then Some (nat_lt x y)
+    else (if operation == jle then Some (nat_le x y)
+    else (if operation == jslt then Some (int_lt signed_x signed_y)
+    else (if operation == jsle then Some (int_le signed_x signed_y)
     else None))))))))))
 
 abbrev pub compared : Width → ℕ → ℕ → ℕ → Option Bool
@@ -54,27 +55,27 @@ shifted_signed w x y = cast_unsigned w (int_shr (cast_signed w x) (y % bits w))
 abbrev pub negated : Width → ℕ → ℕ
 negated w x = (2 ^ bits w - x) % 2 ^ bits w
 
--- the operations with offset 0, but for NEG (8), MOV (11) and END (13)
+-- the operations with offset 0, but for NEG, MOV and END
 abbrev pub operation_at_offset_0 : Width → ℕ → ℕ → ℕ → Option ℕ
 operation_at_offset_0 w operation x y =
-    if operation == 0 then Some ((x + y) % 2 ^ bits w)
-    else (if operation == 1 then Some ((x + (2 ^ bits w - y)) % 2 ^ bits w)
-    else (if operation == 2 then Some ((x * y) % 2 ^ bits w)
-    else (if operation == 3 then Some (quotient x y)
-    else (if operation == 4 then Some (bit_or x y)
-    else (if operation == 5 then Some (bit_and x y)
-    else (if operation == 6 then Some (shifted_left w x y)
-    else (if operation == 7 then Some (shifted_right w x y)
-    else (if operation == 9 then Some (remainder x y)
-    else (if operation == 10 then Some (bit_xor x y)
-    else (if operation == 12 then Some (shifted_signed w x y)
+    if operation == op_add then Some ((x + y) % 2 ^ bits w)
+    else (if operation == op_sub then Some ((x + (2 ^ bits w - y)) % 2 ^ bits w)
+    else (if operation == op_mul then Some ((x * y) % 2 ^ bits w)
+    else (if operation == op_div then Some (quotient x y)
+    else (if operation == op_or then Some (bit_or x y)
+    else (if operation == op_and then Some (bit_and x y)
+    else (if operation == op_lsh then Some (shifted_left w x y)
+    else (if operation == op_rsh then Some (shifted_right w x y)
+    else (if operation == op_mod then Some (remainder x y)
+    else (if operation == op_xor then Some (bit_xor x y)
+    else (if operation == op_arsh then Some (shifted_signed w x y)
     else None))))))))))
 
 -- those with offset 1: SDIV and SMOD
 abbrev pub signed : Width → ℕ → ℕ → ℕ → Option ℕ
 signed w operation x y =
-    if operation == 3 then Some (signed_quotient w x y)
-    else (if operation == 9 then Some (signed_remainder w x y)
+    if operation == op_div then Some (signed_quotient w x y)
+    else (if operation == op_mod then Some (signed_remainder w x y)
     else None)
 
 unfoldable pub computed : Width → ℕ → ℤ → ℕ → ℕ → Option ℕ

@@ -3,8 +3,9 @@ use Rattle.std.specs.Prelude.{◌≡◌, ℕ, Option, Some, None, length, replic
 use Rattle.std.specs.Option.{option_and_then, option_map}
 use Rattle.std.specs.Int.{w32, w64, cast_unsigned}
 use Rattle.std.specs.Ordering.{int_eq}
-use Rattle.ebpf_parts.specs.Slots.{call, class_alu, class_alu64, class_jmp32, class_ld, class_ldx, class_st, class_stx, dst_of, src_of}
+use Rattle.ebpf_parts.specs.Slots.{call, class_alu, class_alu64, class_jmp32, class_ld, class_ldx, class_st, class_stx, dst_of, poison_call, src_of}
 use Rattle.ebpf_parts.specs.declared.insn.bpf_insn.{bpf_insn}
+use Rattle.ebpf_reach.specs.Operations.{op_end, op_mov, op_neg}
 use Rattle.ebpf_reach.specs.Arithmetic.{computed, negated, extended_32, extended_64, truncated, swapped, compared}
 use Rattle.ebpf_reach.specs.declared.registers.Registers.{Registers}
 
@@ -84,14 +85,14 @@ binary_result slot a = option_and_then (λ x. option_and_then (λ y. calculated 
 -- what arithmetic leaves in its destination; nothing is known where it is no valid instruction
 abbrev pub arithmetic : bpf_insn → Registers → Option ℕ
 arithmetic slot a =
-    if operation slot == 11 then option_and_then (moved slot) (source slot a)
-    else (if operation slot == 8 then option_and_then (negation slot) (destination slot a)
-    else (if operation slot == 13 then option_and_then (byte_swapped slot) (destination slot a)
+    if operation slot == op_mov then option_and_then (moved slot) (source slot a)
+    else (if operation slot == op_neg then option_and_then (negation slot) (destination slot a)
+    else (if operation slot == op_end then option_and_then (byte_swapped slot) (destination slot a)
     else binary_result slot a))
 
--- Whether a slot is one that a CO-RE relocation poisoned: a call of the helper function 0x0bad2310, which no kernel has.
+-- Whether a slot is one that a CO-RE relocation poisoned: a call of the helper function which no kernel has.
 abbrev pub is_poisoned : bpf_insn → Bool
-is_poisoned slot = (slot.code == call) && ((slot.regs == 0) && (int_eq slot.off (pos 0) && int_eq slot.imm (pos 195896080)))
+is_poisoned slot = (slot.code == call) && ((slot.regs == 0) && (int_eq slot.off (pos 0) && int_eq slot.imm (pos poison_call)))
 
 -- an atomic operation (mode 6 of class 3)
 abbrev pub is_atomic : bpf_insn → Bool

@@ -1,4 +1,5 @@
 pub mod Effects
+pub mod Operations
 pub mod Arithmetic
 pub mod Steps
 pub mod Reached

@@ -4,6 +4,8 @@ ghost use Rattle.std.specs.Prelude.{◌≡◌, ◌<◌, ◌%◌, ◌^◌};
 ghost use Rattle.std.specs.Int.{w8, w16, w32, w64};
 ghost use Rattle.ebpf_reach.specs.Arithmetic.{computed, extended, extended_32, extended_64, negated, operation_at_offset_0, quotient, remainder, shifted_left, shifted_right, shifted_signed, signed, signed_quotient, signed_remainder, swapped, truncated};
 
+use crate::operations::{ADD, AND, ARSH, DIV, LSH, MOD, MUL, OR, RSH, SUB, XOR};
+
 fn quotient_32(x: u32, y: u32) -> u32
     ensures { result ≡ quotient x y }
 {
@@ -128,17 +130,17 @@ fn plain_32(operation: u8, x: u32, y: u32) -> Option<u32>
     ensures { result ≡ operation_at_offset_0 w32 operation x y }
 {
     match operation {
-        0 => Some(x.wrapping_add(y)),
-        1 => Some(x.wrapping_sub(y)),
-        2 => Some(x.wrapping_mul(y)),
-        3 => Some(quotient_32(x, y)),
-        4 => Some(x | y),
-        5 => Some(x & y),
-        6 => Some(shifted_left_32(x, y)),
-        7 => Some(shifted_right_32(x, y)),
-        9 => Some(remainder_32(x, y)),
-        10 => Some(x ^ y),
-        12 => Some(shifted_signed_32(x, y)),
+        ADD => Some(x.wrapping_add(y)),
+        SUB => Some(x.wrapping_sub(y)),
+        MUL => Some(x.wrapping_mul(y)),
+        DIV => Some(quotient_32(x, y)),
+        OR => Some(x | y),
+        AND => Some(x & y),
+        LSH => Some(shifted_left_32(x, y)),
+        RSH => Some(shifted_right_32(x, y)),
+        MOD => Some(remainder_32(x, y)),
+        XOR => Some(x ^ y),
+        ARSH => Some(shifted_signed_32(x, y)),
         _ => None,
     }
 }
@@ -148,17 +150,17 @@ fn plain_64(operation: u8, x: u64, y: u64) -> Option<u64>
     ensures { result ≡ operation_at_offset_0 w64 operation x y }
 {
     match operation {
-        0 => Some(x.wrapping_add(y)),
-        1 => Some(x.wrapping_sub(y)),
-        2 => Some(x.wrapping_mul(y)),
-        3 => Some(quotient_64(x, y)),
-        4 => Some(x | y),
-        5 => Some(x & y),
-        6 => Some(shifted_left_64(x, y)),
-        7 => Some(shifted_right_64(x, y)),
-        9 => Some(remainder_64(x, y)),
-        10 => Some(x ^ y),
-        12 => Some(shifted_signed_64(x, y)),
+        ADD => Some(x.wrapping_add(y)),
+        SUB => Some(x.wrapping_sub(y)),
+        MUL => Some(x.wrapping_mul(y)),
+        DIV => Some(quotient_64(x, y)),
+        OR => Some(x | y),
+        AND => Some(x & y),
+        LSH => Some(shifted_left_64(x, y)),
+        RSH => Some(shifted_right_64(x, y)),
+        MOD => Some(remainder_64(x, y)),
+        XOR => Some(x ^ y),
+        ARSH => Some(shifted_signed_64(x, y)),
         _ => None,
     }
 }
@@ -168,8 +170,8 @@ fn signed_32(operation: u8, x: u32, y: u32) -> Option<u32>
     ensures { result ≡ signed w32 operation x y }
 {
     match operation {
-        3 => Some(signed_quotient_32(x, y)),
-        9 => Some(signed_remainder_32(x, y)),
+        DIV => Some(signed_quotient_32(x, y)),
+        MOD => Some(signed_remainder_32(x, y)),
         _ => None,
     }
 }
@@ -179,8 +181,8 @@ fn signed_64(operation: u8, x: u64, y: u64) -> Option<u64>
     ensures { result ≡ signed w64 operation x y }
 {
     match operation {
-        3 => Some(signed_quotient_64(x, y)),
-        9 => Some(signed_remainder_64(x, y)),
+        DIV => Some(signed_quotient_64(x, y)),
+        MOD => Some(signed_remainder_64(x, y)),
         _ => None,
     }
 }

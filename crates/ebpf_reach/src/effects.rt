@@ -8,13 +8,10 @@ use crate::arithmetic::{
     computed_32, computed_64, extended_32, extended_64, low_32, negated_32, negated_64, swapped,
     truncated,
 };
+use crate::operations::{END, MOV, NEG};
 use crate::registers::{Registers, compared_32, compared_64};
 use ebpf_parts::insn::bpf_insn;
-use ebpf_parts::insn::opcodes::{ALU, ALU64, CALL, JMP32, LD, LDX, ST, STX};
-
-/// What CO-RE relocations write in the immediate of a slot that they poison: the number of a helper function which no
-/// kernel has.
-pub const POISON: i32 = 195896080;
+use ebpf_parts::insn::opcodes::{ALU, ALU64, CALL, JMP32, LD, LDX, POISON_CALL, ST, STX};
 
 fn class(slot: bpf_insn) -> u8
     ensures { result ≡ class slot }
@@ -141,9 +138,9 @@ fn arithmetic(slot: bpf_insn, registers: &Registers) -> Option<u64>
     ensures { result ≡ arithmetic slot registers.now }
 {
     match operation(slot) {
-        11 => moved(slot, source(slot, registers)?),
-        8 => negation(slot, destination(slot, registers)?),
-        13 => byte_swapped(slot, destination(slot, registers)?),
+        MOV => moved(slot, source(slot, registers)?),
+        NEG => negation(slot, destination(slot, registers)?),
+        END => byte_swapped(slot, destination(slot, registers)?),
         _ => binary_result(slot, registers),
     }
 }
@@ -152,7 +149,7 @@ fn arithmetic(slot: bpf_insn, registers: &Registers) -> Option<u64>
 fn is_poisoned(slot: bpf_insn) -> bool
     ensures { result ≡ is_poisoned slot }
 {
-    slot.code == CALL && slot.regs == 0 && slot.off == 0 && slot.imm == POISON
+    slot.code == CALL && slot.regs == 0 && slot.off == 0 && slot.imm == POISON_CALL
 }
 
 // The registers behind an atomic operation or a plain store.

@@ -4,6 +4,7 @@
 mod arithmetic;
 mod effects;
 pub mod laws;
+mod operations;
 mod registers;
 mod search;
 mod steps;

@@ -6,6 +6,8 @@ ghost use Rattle.ebpf_reach.specs.Arithmetic.{compared, tested};
 ghost use Rattle.ebpf_reach.specs.Effects.{called, forgotten, known, learned, unknown};
 ghost use Rattle.ebpf_reach.specs.PrivateContracts.{common, least_upper_bound};
 
+use crate::operations::{JEQ, JGE, JGT, JLE, JLT, JNE, JSET, JSGE, JSGT, JSLE, JSLT};
+
 /// How many registers a program has: r0 to r10.
 pub const COUNT: usize = 11;
 
@@ -94,17 +96,17 @@ fn tested(operation: u8, x: u64, y: u64, signed_x: i64, signed_y: i64) -> Option
     ensures { result ≡ tested operation x y signed_x signed_y }
 {
     match operation {
-        1 => Some(x == y),
-        2 => Some(x > y),
-        3 => Some(x >= y),
-        4 => Some(x & y != 0),
-        5 => Some(x != y),
-        6 => Some(signed_x > signed_y),
-        7 => Some(signed_x >= signed_y),
-        10 => Some(x < y),
-        11 => Some(x <= y),
-        12 => Some(signed_x < signed_y),
-        13 => Some(signed_x <= signed_y),
+        JEQ => Some(x == y),
+        JGT => Some(x > y),
+        JGE => Some(x >= y),
+        JSET => Some(x & y != 0),
+        JNE => Some(x != y),
+        JSGT => Some(signed_x > signed_y),
+        JSGE => Some(signed_x >= signed_y),
+        JLT => Some(x < y),
+        JLE => Some(x <= y),
+        JSLT => Some(signed_x < signed_y),
+        JSLE => Some(signed_x <= signed_y),
         _ => None,
     }
 }

@@ -7,13 +7,13 @@ ghost use Rattle.ebpf_parts.specs.Memory.{is_parse_memory};
 ghost use Rattle.ebpf_sections.specs.Programs.{is_program_symbol, program_bytes, range_faults, program_function, program_fault, program_functions, programs_fault, programs_of, with_key, last_programs};
 
 use crate::metadata::FileMetadata;
-use crate::section_records::{SLOT, SectionRecords};
+use crate::section_records::SectionRecords;
 use crate::sections::is_index;
 use crate::symbols::NamedSymbol;
 use ebpf_base::{ByKey, ByName, ByOffset, Items, Text};
 use ebpf_elf::SymbolKind;
 use ebpf_model::{Function, Program};
-use ebpf_parts::insn::copy_instructions;
+use ebpf_parts::insn::{bpf_insn, copy_instructions};
 use ebpf_parts::{ParseError, ProgramSection, Section};
 use std::alloc::Global;
 
@@ -61,7 +61,7 @@ fn function_of(
     ensures fault { Refuses is_parse_memory result (program_fault section.now symbol.now) }
 {
     let bytes = bytes_of(alloc, section, symbol)?;
-    let first = (symbol.address - section.address) as usize / SLOT;
+    let first = (symbol.address - section.address) as usize / bpf_insn::SIZE;
     let instructions = copy_instructions(alloc, bytes)?;
     Ok(Function {
         address: symbol.address,
@@ -72,7 +72,7 @@ fn function_of(
         func_info: records.funcs.at(alloc, first, first)?,
         line_info: records
             .lines
-            .within(alloc, first, symbol.size as usize / SLOT, first)?,
+            .within(alloc, first, symbol.size as usize / bpf_insn::SIZE, first)?,
         func_info_rec_size: records.func_size,
         line_info_rec_size: records.line_size,
     })
@@ -88,7 +88,7 @@ fn check_program(
     ensures { Refuses is_parse_memory result (program_fault section.now symbol.now) }
 {
     let bytes = bytes_of(alloc, section, symbol)?;
-    if bytes.len() % SLOT != 0 {
+    if bytes.len() % bpf_insn::SIZE != 0 {
         return Err(ParseError::InvalidProgramCode);
     }
     Ok(())

@@ -13,9 +13,6 @@ use ebpf_parts::ParseError;
 use std::alloc::Global;
 use std::marker::Model;
 
-/// The length of a slot in bytes.
-pub const SLOT: usize = 8;
-
 /// The func info of a section, lent.
 #[derive(Drop)]
 pub struct FuncRecords<'e> {

@@ -11,12 +11,12 @@ ghost use Rattle.ebpf_parts.specs.Memory.{is_parse_memory};
 ghost use Rattle.ebpf_sections.specs.Programs.{with_key};
 ghost use Rattle.ebpf_sections.specs.Texts.{conflict_fault, is_defined_text, is_text_at, is_at, function_at, text_fault_at, size_at, text_function, text_fault_of, text_functions, walk_fault, text_fault};
 
-use crate::section_records::{SLOT, SectionRecords};
+use crate::section_records::SectionRecords;
 use crate::symbols::NamedSymbol;
 use ebpf_base::{ByKey, Items, Text};
 use ebpf_elf::SymbolKind;
 use ebpf_model::Function;
-use ebpf_parts::insn::copy_instructions;
+use ebpf_parts::insn::{bpf_insn, copy_instructions};
 use ebpf_parts::{ParseError, Section};
 use std::alloc::{AllocError, Global};
 use std::cell::Cell;
@@ -241,10 +241,13 @@ fn function_of(
         section_index: section.index,
         section_offset: offset,
         instructions: Items::from_vec(instructions),
-        func_info: records.funcs.at(alloc, offset / SLOT, 0)?,
-        line_info: records
-            .lines
-            .within(alloc, offset / SLOT, symbol.size as usize / SLOT, 0)?,
+        func_info: records.funcs.at(alloc, offset / bpf_insn::SIZE, 0)?,
+        line_info: records.lines.within(
+            alloc,
+            offset / bpf_insn::SIZE,
+            symbol.size as usize / bpf_insn::SIZE,
+            0,
+        )?,
         func_info_rec_size: records.func_size,
         line_info_rec_size: records.line_size,
     };

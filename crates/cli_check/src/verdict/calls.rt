@@ -7,15 +7,9 @@ use cli_common::kinds::Kind;
 use ebpf_loading::KernelNumbers;
 use ebpf_object::Object;
 use ebpf_parts::insn::bpf_insn;
-use ebpf_parts::insn::opcodes::CALL;
+use ebpf_parts::insn::opcodes::{ABSENT_KFUNC, CALL, POISON_CALL};
 use ebpf_reloc::CodeCopy;
 use std::alloc::{AllocError, Global};
-
-/// The number that a poisoned slot calls.
-const POISON: u32 = 195_896_080;
-
-/// The number from which on a slot calls an extern that the kernel lacks: this and the index of the extern's symbol.
-const ABSENT: u32 = 2_002_000_000;
 
 /// What a slot calls by a number.
 #[derive(Clone, Copy)]
@@ -31,11 +25,11 @@ fn called_by(instruction: bpf_insn) -> Option<Called> {
     if instruction.code != CALL || instruction.src_reg() != 0 {
         return None;
     }
-    let number = instruction.imm.cast_unsigned();
-    if number == POISON {
+    if instruction.imm == POISON_CALL {
         return None;
     }
-    match number.checked_sub(ABSENT) {
+    let number = instruction.imm.cast_unsigned();
+    match number.checked_sub(ABSENT_KFUNC) {
         Some(symbol) => Some(Called::Absent(symbol as usize)),
         None => Some(Called::Helper(number)),
     }

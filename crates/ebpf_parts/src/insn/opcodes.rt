@@ -42,6 +42,12 @@ pub const BPF_PSEUDO_CALL: u8 = 1;
 /// The source of a call of a kernel function, by the id of its type.
 pub const BPF_PSEUDO_KFUNC_CALL: u8 = 2;
 
+/// The immediate of a poisoned slot: the number of a helper function that no kernel has. libbpf poisons with it.
+pub const POISON_CALL: i32 = 0x0bad_2310;
+/// The immediate of a call of a weak extern that the kernel lacks, less the index of the extern's symbol: libbpf's
+/// `POISON_CALL_KFUNC_BASE`.
+pub const ABSENT_KFUNC: u32 = 2_002_000_000;
+
 /// The bits of the code of a load or store of eight bytes.
 pub const BPF_DW: u8 = 0x18;
 /// The bits of the code of a load or store of four bytes.

@@ -21,7 +21,7 @@ pub struct LegacyMap {
     pub inner_def: Option<bpf_map_def>,
     /// The index of the section that declares it, 0 where none does.
     pub section_index: usize,
-    /// What that section is for.
+    /// The kind of the section that declares the map.
     pub section_kind: EbpfSectionKind,
     /// The index of the symbol that names it. A data section is named by none.
     pub symbol_index: Option<usize>,
@@ -247,7 +247,7 @@ impl Map {
         }
     }
 
-    /// What that section is for: `BtfMaps` for a map by type information.
+    /// The kind of the section that declares the map: `BtfMaps` for a map by type information.
     pub fn section_kind(&self) -> EbpfSectionKind
         ensures { result ≡ maps.section_kind_of self.now }
     {

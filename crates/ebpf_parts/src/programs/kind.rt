@@ -5,6 +5,7 @@ ghost use Rattle.std.specs.List.{position};
 ghost use Rattle.std.specs.Option.{option_copied};
 ghost use Rattle.ebpf_parts.specs.ProgramTypes.{name_fits, has_target, is_marked, kind_in, longer, longest_fit, row_name, program_kind, without_mark};
 
+use crate::programs::attach_type::bpf_attach_type;
 use crate::programs::program_type::bpf_prog_type;
 
 /// How a program is loaded.
@@ -14,13 +15,13 @@ pub struct ProgramKind {
     pub program_type: bpf_prog_type,
     /// The kernel's number of the way of attaching it (of its `enum bpf_attach_type`), where the name says one.
     pub attach_type: Option<u32>,
-    /// Whether it may sleep.
+    /// Whether the program may sleep.
     pub is_sleepable: bool,
-    /// Whether it takes packets in fragments.
+    /// Whether the program takes packets in fragments.
     pub has_frags: bool,
-    /// Whether it is loaded with the number of a type of what it is attached to.
+    /// Whether the program is loaded with the id of its attach target's type.
     pub wants_target_type: bool,
-    /// Whether it is loaded only where it is asked for.
+    /// Whether the program is loaded only where a caller asks for it.
     pub is_optional: bool,
 }
 
@@ -172,17 +173,26 @@ const SLEEPABLE_TARGETED: KindFlags = KindFlags {
     wants_target_type: true,
 };
 
-/// Rows: the name, how it may stand, the type of its programs, the kernel's number of the way of attaching them, and
-/// its flags.
+/// The number of a way of attaching programs, by its name in the kernel's `enum bpf_attach_type`, or `None`.
+macro_rules! attach_number {
+    (None) => {
+        None
+    };
+    ($name:ident) => {
+        Some(bpf_attach_type::$name as u32)
+    };
+}
+
+/// Rows: the name, how it may stand, the type of its programs, the way of attaching them, and its flags.
 macro_rules! rows {
-    ($($name:literal => $takes_target:expr, $program_type:ident, $attach_type:expr, $flags:expr;)*) => {
+    ($($name:literal => $takes_target:expr, $program_type:ident, $attach_type:tt, $flags:expr;)*) => {
         [
             $(NamedKind {
                 padded_name: *$name,
                 takes_target: $takes_target,
                 kind: ProgramKind {
                     program_type: bpf_prog_type::$program_type,
-                    attach_type: $attach_type,
+                    attach_type: attach_number!($attach_type),
                     is_sleepable: $flags.is_sleepable,
                     has_frags: $flags.has_frags,
                     wants_target_type: $flags.wants_target_type,
@@ -193,108 +203,108 @@ macro_rules! rows {
     };
 }
 
-/// The names, with what a loader does with programs of their sections (libbpf's Program Types and ELF Sections; the
-/// numbers of the kernel's `enum bpf_attach_type`).
+/// The names, with what a loader does with programs of their sections (libbpf's Program Types and ELF Sections). Each
+/// name is padded to 24 bytes, the length of the longest and a space, since all rows of an array have one type.
 pub const NAMED_KINDS: [NamedKind; 101] = rows! {
     b"socket                  " => EXACT, BPF_PROG_TYPE_SOCKET_FILTER, None, PLAIN;
-    b"sk_reuseport/migrate    " => EXACT, BPF_PROG_TYPE_SK_REUSEPORT, Some(40), PLAIN;
-    b"sk_reuseport            " => EXACT, BPF_PROG_TYPE_SK_REUSEPORT, Some(39), PLAIN;
+    b"sk_reuseport/migrate    " => EXACT, BPF_PROG_TYPE_SK_REUSEPORT, BPF_SK_REUSEPORT_SELECT_OR_MIGRATE, PLAIN;
+    b"sk_reuseport            " => EXACT, BPF_PROG_TYPE_SK_REUSEPORT, BPF_SK_REUSEPORT_SELECT, PLAIN;
     b"kprobe                  " => LONGER, BPF_PROG_TYPE_KPROBE, None, PLAIN;
     b"uprobe                  " => LONGER, BPF_PROG_TYPE_KPROBE, None, PLAIN;
     b"uprobe.s                " => LONGER, BPF_PROG_TYPE_KPROBE, None, SLEEPABLE;
     b"kretprobe               " => LONGER, BPF_PROG_TYPE_KPROBE, None, PLAIN;
     b"uretprobe               " => LONGER, BPF_PROG_TYPE_KPROBE, None, PLAIN;
     b"uretprobe.s             " => LONGER, BPF_PROG_TYPE_KPROBE, None, SLEEPABLE;
-    b"kprobe.multi            " => LONGER, BPF_PROG_TYPE_KPROBE, Some(42), PLAIN;
-    b"kretprobe.multi         " => LONGER, BPF_PROG_TYPE_KPROBE, Some(42), PLAIN;
-    b"kprobe.session          " => LONGER, BPF_PROG_TYPE_KPROBE, Some(56), PLAIN;
-    b"uprobe.multi            " => LONGER, BPF_PROG_TYPE_KPROBE, Some(48), PLAIN;
-    b"uretprobe.multi         " => LONGER, BPF_PROG_TYPE_KPROBE, Some(48), PLAIN;
-    b"uprobe.multi.s          " => LONGER, BPF_PROG_TYPE_KPROBE, Some(48), SLEEPABLE;
-    b"uretprobe.multi.s       " => LONGER, BPF_PROG_TYPE_KPROBE, Some(48), SLEEPABLE;
+    b"kprobe.multi            " => LONGER, BPF_PROG_TYPE_KPROBE, BPF_TRACE_KPROBE_MULTI, PLAIN;
+    b"kretprobe.multi         " => LONGER, BPF_PROG_TYPE_KPROBE, BPF_TRACE_KPROBE_MULTI, PLAIN;
+    b"kprobe.session          " => LONGER, BPF_PROG_TYPE_KPROBE, BPF_TRACE_KPROBE_SESSION, PLAIN;
+    b"uprobe.multi            " => LONGER, BPF_PROG_TYPE_KPROBE, BPF_TRACE_UPROBE_MULTI, PLAIN;
+    b"uretprobe.multi         " => LONGER, BPF_PROG_TYPE_KPROBE, BPF_TRACE_UPROBE_MULTI, PLAIN;
+    b"uprobe.multi.s          " => LONGER, BPF_PROG_TYPE_KPROBE, BPF_TRACE_UPROBE_MULTI, SLEEPABLE;
+    b"uretprobe.multi.s       " => LONGER, BPF_PROG_TYPE_KPROBE, BPF_TRACE_UPROBE_MULTI, SLEEPABLE;
     b"ksyscall                " => LONGER, BPF_PROG_TYPE_KPROBE, None, PLAIN;
     b"kretsyscall             " => LONGER, BPF_PROG_TYPE_KPROBE, None, PLAIN;
     b"usdt                    " => LONGER, BPF_PROG_TYPE_KPROBE, None, PLAIN;
     b"usdt.s                  " => LONGER, BPF_PROG_TYPE_KPROBE, None, SLEEPABLE;
-    b"tc/ingress              " => EXACT, BPF_PROG_TYPE_SCHED_CLS, Some(46), PLAIN;
-    b"tc/egress               " => EXACT, BPF_PROG_TYPE_SCHED_CLS, Some(47), PLAIN;
-    b"tcx/ingress             " => EXACT, BPF_PROG_TYPE_SCHED_CLS, Some(46), PLAIN;
-    b"tcx/egress              " => EXACT, BPF_PROG_TYPE_SCHED_CLS, Some(47), PLAIN;
+    b"tc/ingress              " => EXACT, BPF_PROG_TYPE_SCHED_CLS, BPF_TCX_INGRESS, PLAIN;
+    b"tc/egress               " => EXACT, BPF_PROG_TYPE_SCHED_CLS, BPF_TCX_EGRESS, PLAIN;
+    b"tcx/ingress             " => EXACT, BPF_PROG_TYPE_SCHED_CLS, BPF_TCX_INGRESS, PLAIN;
+    b"tcx/egress              " => EXACT, BPF_PROG_TYPE_SCHED_CLS, BPF_TCX_EGRESS, PLAIN;
     b"tc                      " => EXACT, BPF_PROG_TYPE_SCHED_CLS, None, PLAIN;
     b"classifier              " => EXACT, BPF_PROG_TYPE_SCHED_CLS, None, PLAIN;
     b"action                  " => EXACT, BPF_PROG_TYPE_SCHED_ACT, None, PLAIN;
-    b"netkit/primary          " => EXACT, BPF_PROG_TYPE_SCHED_CLS, Some(54), PLAIN;
-    b"netkit/peer             " => EXACT, BPF_PROG_TYPE_SCHED_CLS, Some(55), PLAIN;
+    b"netkit/primary          " => EXACT, BPF_PROG_TYPE_SCHED_CLS, BPF_NETKIT_PRIMARY, PLAIN;
+    b"netkit/peer             " => EXACT, BPF_PROG_TYPE_SCHED_CLS, BPF_NETKIT_PEER, PLAIN;
     b"tracepoint              " => LONGER, BPF_PROG_TYPE_TRACEPOINT, None, PLAIN;
     b"tp                      " => LONGER, BPF_PROG_TYPE_TRACEPOINT, None, PLAIN;
     b"raw_tracepoint          " => LONGER, BPF_PROG_TYPE_RAW_TRACEPOINT, None, PLAIN;
     b"raw_tp                  " => LONGER, BPF_PROG_TYPE_RAW_TRACEPOINT, None, PLAIN;
     b"raw_tracepoint.w        " => LONGER, BPF_PROG_TYPE_RAW_TRACEPOINT_WRITABLE, None, PLAIN;
     b"raw_tp.w                " => LONGER, BPF_PROG_TYPE_RAW_TRACEPOINT_WRITABLE, None, PLAIN;
-    b"tp_btf                  " => LONGER, BPF_PROG_TYPE_TRACING, Some(23), TARGETED;
-    b"fentry                  " => LONGER, BPF_PROG_TYPE_TRACING, Some(24), TARGETED;
-    b"fmod_ret                " => LONGER, BPF_PROG_TYPE_TRACING, Some(26), TARGETED;
-    b"fexit                   " => LONGER, BPF_PROG_TYPE_TRACING, Some(25), TARGETED;
-    b"fentry.s                " => LONGER, BPF_PROG_TYPE_TRACING, Some(24), SLEEPABLE_TARGETED;
-    b"fmod_ret.s              " => LONGER, BPF_PROG_TYPE_TRACING, Some(26), SLEEPABLE_TARGETED;
-    b"fexit.s                 " => LONGER, BPF_PROG_TYPE_TRACING, Some(25), SLEEPABLE_TARGETED;
+    b"tp_btf                  " => LONGER, BPF_PROG_TYPE_TRACING, BPF_TRACE_RAW_TP, TARGETED;
+    b"fentry                  " => LONGER, BPF_PROG_TYPE_TRACING, BPF_TRACE_FENTRY, TARGETED;
+    b"fmod_ret                " => LONGER, BPF_PROG_TYPE_TRACING, BPF_MODIFY_RETURN, TARGETED;
+    b"fexit                   " => LONGER, BPF_PROG_TYPE_TRACING, BPF_TRACE_FEXIT, TARGETED;
+    b"fentry.s                " => LONGER, BPF_PROG_TYPE_TRACING, BPF_TRACE_FENTRY, SLEEPABLE_TARGETED;
+    b"fmod_ret.s              " => LONGER, BPF_PROG_TYPE_TRACING, BPF_MODIFY_RETURN, SLEEPABLE_TARGETED;
+    b"fexit.s                 " => LONGER, BPF_PROG_TYPE_TRACING, BPF_TRACE_FEXIT, SLEEPABLE_TARGETED;
     b"freplace                " => LONGER, BPF_PROG_TYPE_EXT, None, TARGETED;
-    b"lsm                     " => LONGER, BPF_PROG_TYPE_LSM, Some(27), TARGETED;
-    b"lsm.s                   " => LONGER, BPF_PROG_TYPE_LSM, Some(27), SLEEPABLE_TARGETED;
-    b"lsm_cgroup              " => LONGER, BPF_PROG_TYPE_LSM, Some(43), TARGETED;
-    b"iter                    " => LONGER, BPF_PROG_TYPE_TRACING, Some(28), TARGETED;
-    b"iter.s                  " => LONGER, BPF_PROG_TYPE_TRACING, Some(28), SLEEPABLE_TARGETED;
+    b"lsm                     " => LONGER, BPF_PROG_TYPE_LSM, BPF_LSM_MAC, TARGETED;
+    b"lsm.s                   " => LONGER, BPF_PROG_TYPE_LSM, BPF_LSM_MAC, SLEEPABLE_TARGETED;
+    b"lsm_cgroup              " => LONGER, BPF_PROG_TYPE_LSM, BPF_LSM_CGROUP, TARGETED;
+    b"iter                    " => LONGER, BPF_PROG_TYPE_TRACING, BPF_TRACE_ITER, TARGETED;
+    b"iter.s                  " => LONGER, BPF_PROG_TYPE_TRACING, BPF_TRACE_ITER, SLEEPABLE_TARGETED;
     b"syscall                 " => EXACT, BPF_PROG_TYPE_SYSCALL, None, SLEEPABLE;
-    b"xdp.frags/devmap        " => EXACT, BPF_PROG_TYPE_XDP, Some(33), FRAGS;
-    b"xdp/devmap              " => EXACT, BPF_PROG_TYPE_XDP, Some(33), PLAIN;
-    b"xdp.frags/cpumap        " => EXACT, BPF_PROG_TYPE_XDP, Some(35), FRAGS;
-    b"xdp/cpumap              " => EXACT, BPF_PROG_TYPE_XDP, Some(35), PLAIN;
-    b"xdp.frags               " => EXACT, BPF_PROG_TYPE_XDP, Some(37), FRAGS;
-    b"xdp                     " => EXACT, BPF_PROG_TYPE_XDP, Some(37), PLAIN;
+    b"xdp.frags/devmap        " => EXACT, BPF_PROG_TYPE_XDP, BPF_XDP_DEVMAP, FRAGS;
+    b"xdp/devmap              " => EXACT, BPF_PROG_TYPE_XDP, BPF_XDP_DEVMAP, PLAIN;
+    b"xdp.frags/cpumap        " => EXACT, BPF_PROG_TYPE_XDP, BPF_XDP_CPUMAP, FRAGS;
+    b"xdp/cpumap              " => EXACT, BPF_PROG_TYPE_XDP, BPF_XDP_CPUMAP, PLAIN;
+    b"xdp.frags               " => EXACT, BPF_PROG_TYPE_XDP, BPF_XDP, FRAGS;
+    b"xdp                     " => EXACT, BPF_PROG_TYPE_XDP, BPF_XDP, PLAIN;
     b"perf_event              " => EXACT, BPF_PROG_TYPE_PERF_EVENT, None, PLAIN;
     b"lwt_in                  " => EXACT, BPF_PROG_TYPE_LWT_IN, None, PLAIN;
     b"lwt_out                 " => EXACT, BPF_PROG_TYPE_LWT_OUT, None, PLAIN;
     b"lwt_xmit                " => EXACT, BPF_PROG_TYPE_LWT_XMIT, None, PLAIN;
     b"lwt_seg6local           " => EXACT, BPF_PROG_TYPE_LWT_SEG6LOCAL, None, PLAIN;
-    b"sockops                 " => EXACT, BPF_PROG_TYPE_SOCK_OPS, Some(3), PLAIN;
-    b"sk_skb/stream_parser    " => EXACT, BPF_PROG_TYPE_SK_SKB, Some(4), PLAIN;
-    b"sk_skb/stream_verdict   " => EXACT, BPF_PROG_TYPE_SK_SKB, Some(5), PLAIN;
-    b"sk_skb/verdict          " => EXACT, BPF_PROG_TYPE_SK_SKB, Some(38), PLAIN;
+    b"sockops                 " => EXACT, BPF_PROG_TYPE_SOCK_OPS, BPF_CGROUP_SOCK_OPS, PLAIN;
+    b"sk_skb/stream_parser    " => EXACT, BPF_PROG_TYPE_SK_SKB, BPF_SK_SKB_STREAM_PARSER, PLAIN;
+    b"sk_skb/stream_verdict   " => EXACT, BPF_PROG_TYPE_SK_SKB, BPF_SK_SKB_STREAM_VERDICT, PLAIN;
+    b"sk_skb/verdict          " => EXACT, BPF_PROG_TYPE_SK_SKB, BPF_SK_SKB_VERDICT, PLAIN;
     b"sk_skb                  " => EXACT, BPF_PROG_TYPE_SK_SKB, None, PLAIN;
-    b"sk_msg                  " => EXACT, BPF_PROG_TYPE_SK_MSG, Some(7), PLAIN;
-    b"lirc_mode2              " => EXACT, BPF_PROG_TYPE_LIRC_MODE2, Some(16), PLAIN;
-    b"flow_dissector          " => EXACT, BPF_PROG_TYPE_FLOW_DISSECTOR, Some(17), PLAIN;
-    b"cgroup_skb/ingress      " => EXACT, BPF_PROG_TYPE_CGROUP_SKB, Some(0), PLAIN;
-    b"cgroup_skb/egress       " => EXACT, BPF_PROG_TYPE_CGROUP_SKB, Some(1), PLAIN;
+    b"sk_msg                  " => EXACT, BPF_PROG_TYPE_SK_MSG, BPF_SK_MSG_VERDICT, PLAIN;
+    b"lirc_mode2              " => EXACT, BPF_PROG_TYPE_LIRC_MODE2, BPF_LIRC_MODE2, PLAIN;
+    b"flow_dissector          " => EXACT, BPF_PROG_TYPE_FLOW_DISSECTOR, BPF_FLOW_DISSECTOR, PLAIN;
+    b"cgroup_skb/ingress      " => EXACT, BPF_PROG_TYPE_CGROUP_SKB, BPF_CGROUP_INET_INGRESS, PLAIN;
+    b"cgroup_skb/egress       " => EXACT, BPF_PROG_TYPE_CGROUP_SKB, BPF_CGROUP_INET_EGRESS, PLAIN;
     b"cgroup/skb              " => EXACT, BPF_PROG_TYPE_CGROUP_SKB, None, PLAIN;
-    b"cgroup/sock_create      " => EXACT, BPF_PROG_TYPE_CGROUP_SOCK, Some(2), PLAIN;
-    b"cgroup/sock_release     " => EXACT, BPF_PROG_TYPE_CGROUP_SOCK, Some(34), PLAIN;
-    b"cgroup/sock             " => EXACT, BPF_PROG_TYPE_CGROUP_SOCK, Some(2), PLAIN;
-    b"cgroup/post_bind4       " => EXACT, BPF_PROG_TYPE_CGROUP_SOCK, Some(12), PLAIN;
-    b"cgroup/post_bind6       " => EXACT, BPF_PROG_TYPE_CGROUP_SOCK, Some(13), PLAIN;
-    b"cgroup/bind4            " => EXACT, BPF_PROG_TYPE_CGROUP_SOCK_ADDR, Some(8), PLAIN;
-    b"cgroup/bind6            " => EXACT, BPF_PROG_TYPE_CGROUP_SOCK_ADDR, Some(9), PLAIN;
-    b"cgroup/connect4         " => EXACT, BPF_PROG_TYPE_CGROUP_SOCK_ADDR, Some(10), PLAIN;
-    b"cgroup/connect6         " => EXACT, BPF_PROG_TYPE_CGROUP_SOCK_ADDR, Some(11), PLAIN;
-    b"cgroup/connect_unix     " => EXACT, BPF_PROG_TYPE_CGROUP_SOCK_ADDR, Some(49), PLAIN;
-    b"cgroup/sendmsg4         " => EXACT, BPF_PROG_TYPE_CGROUP_SOCK_ADDR, Some(14), PLAIN;
-    b"cgroup/sendmsg6         " => EXACT, BPF_PROG_TYPE_CGROUP_SOCK_ADDR, Some(15), PLAIN;
-    b"cgroup/sendmsg_unix     " => EXACT, BPF_PROG_TYPE_CGROUP_SOCK_ADDR, Some(50), PLAIN;
-    b"cgroup/recvmsg4         " => EXACT, BPF_PROG_TYPE_CGROUP_SOCK_ADDR, Some(19), PLAIN;
-    b"cgroup/recvmsg6         " => EXACT, BPF_PROG_TYPE_CGROUP_SOCK_ADDR, Some(20), PLAIN;
-    b"cgroup/recvmsg_unix     " => EXACT, BPF_PROG_TYPE_CGROUP_SOCK_ADDR, Some(51), PLAIN;
-    b"cgroup/getpeername4     " => EXACT, BPF_PROG_TYPE_CGROUP_SOCK_ADDR, Some(29), PLAIN;
-    b"cgroup/getpeername6     " => EXACT, BPF_PROG_TYPE_CGROUP_SOCK_ADDR, Some(30), PLAIN;
-    b"cgroup/getpeername_unix " => EXACT, BPF_PROG_TYPE_CGROUP_SOCK_ADDR, Some(52), PLAIN;
-    b"cgroup/getsockname4     " => EXACT, BPF_PROG_TYPE_CGROUP_SOCK_ADDR, Some(31), PLAIN;
-    b"cgroup/getsockname6     " => EXACT, BPF_PROG_TYPE_CGROUP_SOCK_ADDR, Some(32), PLAIN;
-    b"cgroup/getsockname_unix " => EXACT, BPF_PROG_TYPE_CGROUP_SOCK_ADDR, Some(53), PLAIN;
-    b"cgroup/sysctl           " => EXACT, BPF_PROG_TYPE_CGROUP_SYSCTL, Some(18), PLAIN;
-    b"cgroup/getsockopt       " => EXACT, BPF_PROG_TYPE_CGROUP_SOCKOPT, Some(21), PLAIN;
-    b"cgroup/setsockopt       " => EXACT, BPF_PROG_TYPE_CGROUP_SOCKOPT, Some(22), PLAIN;
-    b"cgroup/dev              " => EXACT, BPF_PROG_TYPE_CGROUP_DEVICE, Some(6), PLAIN;
+    b"cgroup/sock_create      " => EXACT, BPF_PROG_TYPE_CGROUP_SOCK, BPF_CGROUP_INET_SOCK_CREATE, PLAIN;
+    b"cgroup/sock_release     " => EXACT, BPF_PROG_TYPE_CGROUP_SOCK, BPF_CGROUP_INET_SOCK_RELEASE, PLAIN;
+    b"cgroup/sock             " => EXACT, BPF_PROG_TYPE_CGROUP_SOCK, BPF_CGROUP_INET_SOCK_CREATE, PLAIN;
+    b"cgroup/post_bind4       " => EXACT, BPF_PROG_TYPE_CGROUP_SOCK, BPF_CGROUP_INET4_POST_BIND, PLAIN;
+    b"cgroup/post_bind6       " => EXACT, BPF_PROG_TYPE_CGROUP_SOCK, BPF_CGROUP_INET6_POST_BIND, PLAIN;
+    b"cgroup/bind4            " => EXACT, BPF_PROG_TYPE_CGROUP_SOCK_ADDR, BPF_CGROUP_INET4_BIND, PLAIN;
+    b"cgroup/bind6            " => EXACT, BPF_PROG_TYPE_CGROUP_SOCK_ADDR, BPF_CGROUP_INET6_BIND, PLAIN;
+    b"cgroup/connect4         " => EXACT, BPF_PROG_TYPE_CGROUP_SOCK_ADDR, BPF_CGROUP_INET4_CONNECT, PLAIN;
+    b"cgroup/connect6         " => EXACT, BPF_PROG_TYPE_CGROUP_SOCK_ADDR, BPF_CGROUP_INET6_CONNECT, PLAIN;
+    b"cgroup/connect_unix     " => EXACT, BPF_PROG_TYPE_CGROUP_SOCK_ADDR, BPF_CGROUP_UNIX_CONNECT, PLAIN;
+    b"cgroup/sendmsg4         " => EXACT, BPF_PROG_TYPE_CGROUP_SOCK_ADDR, BPF_CGROUP_UDP4_SENDMSG, PLAIN;
+    b"cgroup/sendmsg6         " => EXACT, BPF_PROG_TYPE_CGROUP_SOCK_ADDR, BPF_CGROUP_UDP6_SENDMSG, PLAIN;
+    b"cgroup/sendmsg_unix     " => EXACT, BPF_PROG_TYPE_CGROUP_SOCK_ADDR, BPF_CGROUP_UNIX_SENDMSG, PLAIN;
+    b"cgroup/recvmsg4         " => EXACT, BPF_PROG_TYPE_CGROUP_SOCK_ADDR, BPF_CGROUP_UDP4_RECVMSG, PLAIN;
+    b"cgroup/recvmsg6         " => EXACT, BPF_PROG_TYPE_CGROUP_SOCK_ADDR, BPF_CGROUP_UDP6_RECVMSG, PLAIN;
+    b"cgroup/recvmsg_unix     " => EXACT, BPF_PROG_TYPE_CGROUP_SOCK_ADDR, BPF_CGROUP_UNIX_RECVMSG, PLAIN;
+    b"cgroup/getpeername4     " => EXACT, BPF_PROG_TYPE_CGROUP_SOCK_ADDR, BPF_CGROUP_INET4_GETPEERNAME, PLAIN;
+    b"cgroup/getpeername6     " => EXACT, BPF_PROG_TYPE_CGROUP_SOCK_ADDR, BPF_CGROUP_INET6_GETPEERNAME, PLAIN;
+    b"cgroup/getpeername_unix " => EXACT, BPF_PROG_TYPE_CGROUP_SOCK_ADDR, BPF_CGROUP_UNIX_GETPEERNAME, PLAIN;
+    b"cgroup/getsockname4     " => EXACT, BPF_PROG_TYPE_CGROUP_SOCK_ADDR, BPF_CGROUP_INET4_GETSOCKNAME, PLAIN;
+    b"cgroup/getsockname6     " => EXACT, BPF_PROG_TYPE_CGROUP_SOCK_ADDR, BPF_CGROUP_INET6_GETSOCKNAME, PLAIN;
+    b"cgroup/getsockname_unix " => EXACT, BPF_PROG_TYPE_CGROUP_SOCK_ADDR, BPF_CGROUP_UNIX_GETSOCKNAME, PLAIN;
+    b"cgroup/sysctl           " => EXACT, BPF_PROG_TYPE_CGROUP_SYSCTL, BPF_CGROUP_SYSCTL, PLAIN;
+    b"cgroup/getsockopt       " => EXACT, BPF_PROG_TYPE_CGROUP_SOCKOPT, BPF_CGROUP_GETSOCKOPT, PLAIN;
+    b"cgroup/setsockopt       " => EXACT, BPF_PROG_TYPE_CGROUP_SOCKOPT, BPF_CGROUP_SETSOCKOPT, PLAIN;
+    b"cgroup/dev              " => EXACT, BPF_PROG_TYPE_CGROUP_DEVICE, BPF_CGROUP_DEVICE, PLAIN;
     b"struct_ops              " => LONGER, BPF_PROG_TYPE_STRUCT_OPS, None, PLAIN;
     b"struct_ops.s            " => LONGER, BPF_PROG_TYPE_STRUCT_OPS, None, SLEEPABLE;
-    b"sk_lookup               " => EXACT, BPF_PROG_TYPE_SK_LOOKUP, Some(36), PLAIN;
-    b"netfilter               " => EXACT, BPF_PROG_TYPE_NETFILTER, Some(45), PLAIN;
+    b"sk_lookup               " => EXACT, BPF_PROG_TYPE_SK_LOOKUP, BPF_SK_LOOKUP, PLAIN;
+    b"netfilter               " => EXACT, BPF_PROG_TYPE_NETFILTER, BPF_NETFILTER, PLAIN;
 };
