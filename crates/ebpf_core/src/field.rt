@@ -2,10 +2,10 @@
 
 ghost use Rattle.std.specs.Prelude.{◌≡◌, ◌*◌, ◌<◌, ◌≤◌, ◌^◌, IfOk, IfSome};
 ghost use Rattle.ebpf_btf.specs.Steps.{size_of};
-ghost use Rattle.ebpf_core.specs.Fields.{member_number, class_of, element_value, field_value, member_extent, loaded_field, member_with_index, member_field_value, shift, value_of_member, value_with, aligned, bit_field_extent, container, container_holds, is_container, plain_extent};
+ghost use Rattle.ebpf_core.specs.Fields.{member_number, class_of, element_value, field_value, member_extent, loaded_field, member_with_index, member_field_value, shift, value_of_member, value_with, container_start, bit_field_extent, container, container_holds, is_container, plain_extent};
 
 use ebpf_btf::{Btf, BtfError, BtfMember, BtfType};
-use ebpf_core_places::{Place, PlaceEnd};
+use ebpf_core_places::{FieldPlace, PlaceEnd};
 use ebpf_ext::RelocationKind;
 
 /// What a load of a field of another size goes by.
@@ -219,7 +219,11 @@ fn value_of_member(
 /// `MaximumTypeDepth` and `UnexpectedBtfType` where the field's type can't be resolved or has no size;
 /// `InvalidTypeInfo` where a bit field has no container, or a shift is negative.
 #[tactic(auto, unfolding(crate::specs::Fields::field_value))]
-pub fn field_value(btf: &Btf, kind: RelocationKind, place: Place) -> Result<FieldValue, FieldFault>
+pub fn field_value(
+    btf: &Btf,
+    kind: RelocationKind,
+    place: FieldPlace,
+) -> Result<FieldValue, FieldFault>
     ensures { result ≡ field_value btf.now kind place }
 {
     if kind == RelocationKind::FieldExists {
@@ -245,10 +249,10 @@ pub struct Extent {
 }
 
 /// The first byte of the aligned container of `size` bytes that has the bit.
-fn aligned(bit: u64, size: u64) -> u64
+fn container_start(bit: u64, size: u64) -> u64
     requires few { bit < 2 ^ 32 }
     requires some { 0 < size }
-    ensures value { result ≡ aligned bit size }
+    ensures value { result ≡ container_start bit size }
     ensures low { result * 8 ≤ bit }
 {
     let byte = bit / 8;
@@ -263,7 +267,7 @@ fn container_holds(bit: u64, width: u64, size: u64) -> bool
     requires some { 0 < size }
     ensures { result ≡ container_holds bit width size }
 {
-    bit + width <= (aligned(bit, size) + size) * 8
+    bit + width <= (container_start(bit, size) + size) * 8
 }
 
 /// Whether a container of `doubled` bytes is one for a bit field whose type has `size`: a size is doubled while it is
@@ -331,7 +335,7 @@ pub fn bit_field_extent(bit: u32, width: u32, stated: Option<u32>) -> Result<Ext
         return Err(BtfError::InvalidTypeInfo);
     };
     Ok(Extent {
-        start: aligned(u64::from(bit), found),
+        start: container_start(u64::from(bit), found),
         size: found,
         width: u64::from(width),
     })

@@ -11,7 +11,7 @@ use crate::error::{
 use crate::paths::NamedPath;
 use ebpf_base::{Items, Text};
 use ebpf_btf::{Btf, BtfArray, BtfMember, BtfType, Rows};
-use ebpf_core_places::{Place, PlaceEnd, Step, checked_place, element_place, is_last_of};
+use ebpf_core_places::{FieldPlace, PlaceEnd, Step, checked_place, element_place, is_last_of};
 use std::alloc::Global;
 
 /// How far a path has come.
@@ -20,7 +20,7 @@ pub struct LocalSpot {
     /// The steps: the root index, names and indices. A member without a name is none.
     pub steps: Items<Step>,
     /// The bits from the start of the root type, and the last step.
-    pub place: Place,
+    pub place: FieldPlace,
     /// The number of the last step: that of the element, or of the member.
     pub index: usize,
     /// The type there.

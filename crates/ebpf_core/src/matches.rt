@@ -15,19 +15,19 @@ use crate::paths::NamedPath;
 use ebpf_base::{Items, Text};
 use ebpf_btf::{Btf, BtfError, BtfType};
 use ebpf_core_candidates::types_are_compatible;
-use ebpf_core_places::{Place, PlaceFault, Step, place_in};
+use ebpf_core_places::{FieldPlace, PlaceFault, Step, place_in};
 use ebpf_ext::RelocationKind;
 use std::alloc::Global;
 
 /// What a path leads to in a type that matches.
 #[derive(Clone, Copy)]
-pub enum Found {
+pub enum FoundMatch {
     /// The type as a whole.
     WholeType,
     /// A variant with its value.
     Variant { value: u64 },
     /// A field.
-    Field { place: Place },
+    Field { place: FieldPlace },
 }
 
 /// A candidate that matches.
@@ -36,7 +36,7 @@ pub struct Match {
     /// The candidate's id.
     pub candidate: u32,
     /// What the path leads to there.
-    pub found: Found,
+    pub found: FoundMatch,
 }
 
 /// The name of the type with an id.
@@ -77,7 +77,7 @@ fn too_nested_in(
     alloc: Global,
     target: &Btf,
     candidate: u32,
-) -> Result<Option<Found>, RelocationError>
+) -> Result<Option<FoundMatch>, RelocationError>
     ensures { Tells result (by_place target.now candidate (Err NestingLevel)) }
 {
     let name = type_name_at(alloc, target, candidate)?;
@@ -92,11 +92,11 @@ fn field_found(
     target: &Btf,
     candidate: u32,
     steps: &[Step],
-) -> Result<Option<Found>, RelocationError>
+) -> Result<Option<FoundMatch>, RelocationError>
     ensures { Tells result (by_place target.now candidate (place_of local.now target.now candidate steps.now)) }
 {
     match place_in(local, target, candidate, steps) {
-        Ok(Some(place)) => Ok(Some(Found::Field { place })),
+        Ok(Some(place)) => Ok(Some(FoundMatch::Field { place })),
         Ok(None) => Ok(None),
         Err(PlaceFault::NestingLevel) => too_nested_in(alloc, target, candidate),
         Err(PlaceFault::Btf(error)) => Err(RelocationError::from(error)),
@@ -112,18 +112,18 @@ fn found_at_candidate(
     local_id: u32,
     path: &NamedPath,
     candidate: u32,
-) -> Result<Option<Found>, RelocationError>
+) -> Result<Option<FoundMatch>, RelocationError>
     ensures { Tells result (found_at_candidate local.now target.now local_id path.now candidate) }
 {
     match path {
         NamedPath::WholeType => {
             if types_are_compatible(local, local_id, target, candidate)? {
-                return Ok(Some(Found::WholeType));
+                return Ok(Some(FoundMatch::WholeType));
             }
             Ok(None)
         }
         NamedPath::Variant { name } => match variant_in(target, name.as_str(), candidate)? {
-            Some(value) => Ok(Some(Found::Variant { value })),
+            Some(value) => Ok(Some(FoundMatch::Variant { value })),
             None => Ok(None),
         },
         NamedPath::Field { steps, .. } => {
@@ -205,7 +205,7 @@ fn variant_value(kind: RelocationKind, value: u64) -> u64
 }
 
 /// What a kind asks of a field, where it can be had.
-fn field_in(target: &Btf, kind: RelocationKind, candidate: u32, place: Place) -> MatchValue
+fn field_in(target: &Btf, kind: RelocationKind, candidate: u32, place: FieldPlace) -> MatchValue
     ensures { result ≡ field_in candidate place.bits (result_ok (field_value target.now kind place)) }
 {
     let value = field_value(target, kind, place).ok();
@@ -227,15 +227,15 @@ fn match_value(
     ensures { Tells result (match_value target.now kind found) }
 {
     match found.found {
-        Found::WholeType => Ok(match_of_number(
+        FoundMatch::WholeType => Ok(match_of_number(
             found.candidate,
             type_value(target, kind, found.candidate)?,
         )),
-        Found::Variant { value } => Ok(match_of_number(
+        FoundMatch::Variant { value } => Ok(match_of_number(
             found.candidate,
             variant_value(kind, value),
         )),
-        Found::Field { place } => Ok(field_in(target, kind, found.candidate, place)),
+        FoundMatch::Field { place } => Ok(field_in(target, kind, found.candidate, place)),
     }
 }
 

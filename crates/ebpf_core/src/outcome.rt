@@ -13,7 +13,7 @@ use crate::matches::{MatchValue, match_values, matches_among, type_name_at};
 use crate::paths::{LocalPath, NamedPath};
 use ebpf_base::{Items, Text};
 use ebpf_btf::Btf;
-use ebpf_core_places::{Place, Step};
+use ebpf_core_places::{FieldPlace, Step};
 use ebpf_ext::{Relocation, RelocationKind};
 use std::alloc::Global;
 
@@ -48,7 +48,7 @@ fn field_loaded(
     relocation: &Relocation,
     type_name: &str,
     steps: &[Step],
-    place: Place,
+    place: FieldPlace,
 ) -> Result<Option<LoadedField>, RelocationError>
     ensures { Tells result (loaded_by relocation.now.number (field_value local.now relocation.now.kind place)) }
 {

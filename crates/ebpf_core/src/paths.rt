@@ -3,7 +3,7 @@
 ghost use Rattle.std.specs.Prelude.{◌≡◌, ◌==◌, IfOk, map};
 ghost use Rattle.std.specs.List.{slice_split};
 ghost use Rattle.ebpf_core.specs.Answers.{Tells, TellsSo};
-ghost use Rattle.ebpf_core.specs.LocalPaths.{LocalSideIs, local_path, lone, named_variant, path_for, type_path, variant_path, basis_of, accessors, all_of, accessor_of, accessors_of};
+ghost use Rattle.ebpf_core.specs.LocalPaths.{LocalSideIs, local_path, only_accessor, named_variant, path_for, type_path, variant_path, basis_of, accessors, all_of, accessor_of, accessors_of};
 
 use crate::error::{
     RelocationError, Request, invalid_access_index, invalid_access_string, invalid_kind,
@@ -12,7 +12,7 @@ use crate::error::{
 use crate::local_walk::field_path;
 use ebpf_base::{Items, Text};
 use ebpf_btf::{Btf, BtfType, BtfVariant};
-use ebpf_core_places::{Place, Step};
+use ebpf_core_places::{FieldPlace, Step};
 use ebpf_ext::{Relocation, RelocationKind};
 use std::alloc::{AllocError, Global};
 
@@ -22,9 +22,14 @@ pub enum NamedPath {
     /// The type as a whole.
     WholeType,
     /// The variant of an enumeration with a name.
-    Variant { name: Text },
+    Variant {
+        name: Text,
+    },
     /// The field that the steps lead to, which lies at `place` in the local type.
-    Field { steps: Items<Step>, place: Place },
+    Field {
+        steps: Items<Step>,
+        place: FieldPlace,
+    },
 }
 
 /// The local side of a record.
@@ -37,8 +42,8 @@ pub struct LocalPath {
 }
 
 /// The only accessor.
-fn lone(parts: &[usize]) -> Option<usize>
-    ensures { result ≡ lone parts.now }
+fn only_accessor(parts: &[usize]) -> Option<usize>
+    ensures { result ≡ only_accessor parts.now }
 {
     match parts {
         [part] => Some(*part),
@@ -50,7 +55,7 @@ fn lone(parts: &[usize]) -> Option<usize>
 fn type_path(alloc: Global, access: &str, parts: &[usize]) -> Result<NamedPath, RelocationError>
     ensures { Tells result (type_path access.now parts.now) }
 {
-    if lone(parts) == Some(0) {
+    if only_accessor(parts) == Some(0) {
         return Ok(NamedPath::WholeType);
     }
     invalid_access_string(alloc, access)
@@ -91,7 +96,7 @@ fn variant_path(
             kind_words(ty.kind()),
         );
     };
-    let Some(part) = lone(parts) else {
+    let Some(part) = only_accessor(parts) else {
         return invalid_access_string(alloc, request.access);
     };
     match ty.variant(part) {

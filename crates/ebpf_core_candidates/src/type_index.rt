@@ -26,7 +26,7 @@ use std::marker::Model;
 
 /// What one pass over the types finds.
 #[derive(Drop)]
-struct Found {
+struct FoundTypes {
     rows: Vec<TypeRow>,
     anonymous: AnonymousTypes,
     unreadable: UnreadableNames,
@@ -39,7 +39,7 @@ fn read_rows(
     names: &TypeNames<'_>,
     kinds: &SomeKinds,
     marks: &[bool],
-) -> Result<Found, AllocError>
+) -> Result<FoundTypes, AllocError>
     requires kinds { length kinds.now ≡ 20 }
     ensures rows { IfOk result (λ found. found.rows.items ≡ rows kinds.now marks.now names.now) }
     ensures anonymous { IfOk result (λ found. (kind : BtfKind) → has_kind kinds.now kind ≡ true → slice_index_or found.anonymous.items (kind_number kind) [] ≡ candidates names.now kind []) }
@@ -77,7 +77,7 @@ fn read_rows(
             id: id as u32,
         })?;
     }
-    Ok(Found {
+    Ok(FoundTypes {
         rows,
         anonymous,
         unreadable,
@@ -120,7 +120,7 @@ fn index_of<'a>(
     ensures memory { IfErr result (λ e. e ≡ OutOfMemory) }
 {
     let names = TypeNames::new(alloc, btf)?;
-    let Found {
+    let FoundTypes {
         mut rows,
         anonymous,
         unreadable,

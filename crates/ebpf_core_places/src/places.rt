@@ -20,7 +20,7 @@ pub enum PlaceEnd {
 
 /// Where a path leads.
 #[derive(Clone, Copy, Debug, PartialEq, Eq)]
-pub struct Place {
+pub struct FieldPlace {
     /// The bits from the start of the root type.
     pub bits: u32,
     /// The last step.
@@ -28,13 +28,13 @@ pub struct Place {
 }
 
 /// A place so many bits from the start of the root type. `InvalidTypeInfo` where they are past 4,294,967,295.
-pub fn checked_place(bits: u128, end: PlaceEnd) -> Result<Place, BtfError>
+pub fn checked_place(bits: u128, end: PlaceEnd) -> Result<FieldPlace, BtfError>
     ensures { result ≡ checked_place bits end }
 {
     if bits >= 0x1_0000_0000 {
         return Err(BtfError::InvalidTypeInfo);
     }
-    Ok(Place {
+    Ok(FieldPlace {
         bits: bits as u32,
         end,
     })
@@ -42,7 +42,12 @@ pub fn checked_place(bits: u128, end: PlaceEnd) -> Result<Place, BtfError>
 
 /// The element with an index, of a type of which the first begins so many bits from the start of the root type. Errors
 /// as in `Btf::type_size` and `checked_place`.
-pub fn element_place(btf: &Btf, bits: u32, type_id: u32, index: usize) -> Result<Place, BtfError>
+pub fn element_place(
+    btf: &Btf,
+    bits: u32,
+    type_id: u32,
+    index: usize,
+) -> Result<FieldPlace, BtfError>
     ensures { result ≡ element_place btf.now.types bits type_id index }
 {
     let size = btf.type_size(type_id)?;

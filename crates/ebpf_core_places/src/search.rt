@@ -36,7 +36,7 @@ pub enum Answer {
 
 /// Looks through the members of a type that lies inside so many anonymous ones and begins at a bit, over so many entries.
 fn search(
-    wanted: Wanted<'_>,
+    wanted: WantedMember<'_>,
     parent: u32,
     inside: u32,
     bits: u64,
@@ -89,7 +89,7 @@ fn search(
 
 /// Looks through all members of a type.
 #[tactic(auto, unfolding(crate::specs::Members::first_fitting))]
-fn find(wanted: Wanted<'_>, parent: u32) -> Result<Option<FoundMember>, PlaceFault>
+fn find(wanted: WantedMember<'_>, parent: u32) -> Result<Option<FoundMember>, PlaceFault>
     ensures same { let name_search = member_search wanted.entry.local.now wanted.entry.target.now wanted.entry.name.now wanted.entry.local_type in
         Gives is_place_memory result (first_fitting name_search search_entries (members_in wanted.entry.target.now.types parent)) }
     ensures small { IsFoundSmall result }
@@ -121,7 +121,7 @@ pub fn find_member(
     ensures same { Gives is_place_memory result (first_fitting (member_search local.now target.now name.now local_type) search_entries (members_in target.now.types parent)) }
     ensures small { IsFoundSmall result }
 {
-    let wanted = Wanted {
+    let wanted = WantedMember {
         local,
         target,
         name,
@@ -148,7 +148,7 @@ pub enum Role {
 
 /// A member that is searched for in the target: its name, and the type of the local member.
 #[derive(Clone, Copy)]
-pub struct Wanted<'a> {
+pub struct WantedMember<'a> {
     pub local: &'a Btf,
     pub target: &'a Btf,
     pub name: &'a str,
@@ -167,7 +167,7 @@ fn anonymous_role(target: &Btf, inside: u32, member: &BtfMember) -> Result<Role,
 }
 
 /// What a member with a name is.
-fn named_role(wanted: Wanted<'_>, member: &BtfMember) -> Result<Role, PlaceFault>
+fn named_role(wanted: WantedMember<'_>, member: &BtfMember) -> Result<Role, PlaceFault>
     ensures { Gives is_place_memory result (named_role wanted.entry.local.now wanted.entry.target.now wanted.entry.name.now wanted.entry.local_type member.now.name_offset member.now.btf_type) }
 {
     if !wanted.target.is_name_at(member.name_offset, wanted.name)? {
@@ -185,7 +185,11 @@ fn named_role(wanted: Wanted<'_>, member: &BtfMember) -> Result<Role, PlaceFault
 }
 
 /// What a member is, inside so many anonymous ones.
-pub fn role_of(wanted: Wanted<'_>, inside: u32, member: &BtfMember) -> Result<Role, PlaceFault>
+pub fn role_of(
+    wanted: WantedMember<'_>,
+    inside: u32,
+    member: &BtfMember,
+) -> Result<Role, PlaceFault>
     ensures { Gives is_place_memory result (role wanted.entry.local.now wanted.entry.target.now wanted.entry.name.now wanted.entry.local_type inside member.now.name_offset member.now.btf_type) }
 {
     if member.name_offset == 0 {

@@ -2,10 +2,10 @@
 
 ghost use Rattle.std.specs.Prelude.{◌≡◌, ◌<◌, ◌≤◌};
 ghost use Rattle.ebpf_base.specs.Faults.{Gives};
-ghost use Rattle.ebpf_core_places.specs.Places.{MemoryAside, is_place_memory, PathLeads, root_spot, by_index, by_name, followed, is_accepted, ends_in_last_member, place_of, stepped, element_spot, member_spot};
+ghost use Rattle.ebpf_core_places.specs.Places.{MemoryAside, is_place_memory, PathLeads, root_spot, by_index, by_name, place_after, is_accepted, ends_in_last_member, place_of, next_spot, element_spot, member_spot};
 
 use crate::places::{
-    Place, PlaceEnd, PlaceFault, Step, checked_place, element_place, is_last_of, type_at,
+    FieldPlace, PlaceEnd, PlaceFault, Step, checked_place, element_place, is_last_of, type_at,
 };
 use crate::search::{FoundMember, find_member};
 use ebpf_btf::Btf;
@@ -15,8 +15,8 @@ const PATH_PARTS: u32 = 64;
 
 /// How far a path has come: a place, the type there, and how many steps and anonymous members led to it.
 #[derive(Clone, Copy)]
-pub struct Spot {
-    pub place: Place,
+pub struct TargetSpot {
+    pub place: FieldPlace,
     pub type_id: u32,
     pub parts: u32,
 }
@@ -48,11 +48,11 @@ fn element_spot(
     parts: u32,
     type_id: u32,
     index: usize,
-) -> Result<Spot, PlaceFault>
+) -> Result<TargetSpot, PlaceFault>
     ensures { result ≡ element_spot target.now bits parts type_id index }
 {
     let place = element_place(target, bits, type_id, index)?;
-    Ok(Spot {
+    Ok(TargetSpot {
         place,
         type_id,
         parts,
@@ -62,10 +62,10 @@ fn element_spot(
 /// Where an index leads in the type with an id.
 fn by_index(
     target: &Btf,
-    from: Spot,
+    from: TargetSpot,
     type_id: u32,
     index: usize,
-) -> Result<Option<Spot>, PlaceFault>
+) -> Result<Option<TargetSpot>, PlaceFault>
     requires { from.parts < 64 }
     ensures { result ≡ by_index target.now from type_id index }
 {
@@ -89,7 +89,7 @@ fn by_index(
 }
 
 /// The member that was found from a spot.
-fn member_spot(from: Spot, member: FoundMember) -> Result<Spot, PlaceFault>
+fn member_spot(from: TargetSpot, member: FoundMember) -> Result<TargetSpot, PlaceFault>
     requires parts { from.parts < 64 }
     requires shallow { member.inside ≤ 64 }
     ensures { result ≡ member_spot from member }
@@ -99,7 +99,7 @@ fn member_spot(from: Spot, member: FoundMember) -> Result<Spot, PlaceFault>
         parent: member.parent,
         index: member.index,
     };
-    Ok(Spot {
+    Ok(TargetSpot {
         place: checked_place(bits, end)?,
         type_id: member.type_id,
         parts: from.parts + member.inside + 1,
@@ -110,11 +110,11 @@ fn member_spot(from: Spot, member: FoundMember) -> Result<Spot, PlaceFault>
 fn by_name(
     local: &Btf,
     target: &Btf,
-    from: Spot,
+    from: TargetSpot,
     type_id: u32,
     name: &str,
     local_type: u32,
-) -> Result<Option<Spot>, PlaceFault>
+) -> Result<Option<TargetSpot>, PlaceFault>
     requires { from.parts < 64 }
     ensures { Gives is_place_memory result (by_name local.now target.now from type_id name.now local_type) }
 {
@@ -125,8 +125,13 @@ fn by_name(
 }
 
 /// Where a step leads from a spot.
-fn follow(local: &Btf, target: &Btf, from: Spot, by: &Step) -> Result<Option<Spot>, PlaceFault>
-    ensures { Gives is_place_memory result (stepped local.now target.now from by.now) }
+fn follow(
+    local: &Btf,
+    target: &Btf,
+    from: TargetSpot,
+    by: &Step,
+) -> Result<Option<TargetSpot>, PlaceFault>
+    ensures { Gives is_place_memory result (next_spot local.now target.now from by.now) }
 {
     if from.parts >= PATH_PARTS {
         return Err(PlaceFault::NestingLevel);
@@ -145,9 +150,9 @@ fn follow_all(
     local: &Btf,
     target: &Btf,
     path: &[Step],
-    from: Spot,
-) -> Result<Option<Place>, PlaceFault>
-    ensures { Gives is_place_memory result (followed local.now target.now path.now from) }
+    from: TargetSpot,
+) -> Result<Option<FieldPlace>, PlaceFault>
+    ensures { Gives is_place_memory result (place_after local.now target.now path.now from) }
 {
     let mut spot = from;
     for by in path {
@@ -160,7 +165,7 @@ fn follow_all(
 }
 
 /// The spot of the root index: its elements are of the type that the root type stands for.
-fn begin(target: &Btf, root_type: u32, index: usize) -> Result<Spot, PlaceFault>
+fn begin(target: &Btf, root_type: u32, index: usize) -> Result<TargetSpot, PlaceFault>
     ensures { result ≡ root_spot target.now root_type index }
 {
     let type_id = target.resolve_type(root_type)?;
@@ -173,7 +178,7 @@ fn place(
     target: &Btf,
     root_type: u32,
     path: &[Step],
-) -> Result<Option<Place>, PlaceFault>
+) -> Result<Option<FieldPlace>, PlaceFault>
     ensures { Gives is_place_memory result (place_of local.now target.now root_type path.now) }
 {
     let Some((first, path)) = path.split_first() else {
@@ -202,7 +207,7 @@ pub fn place_in(
     target: &Btf,
     root_type: u32,
     path: &[Step],
-) -> Result<Option<Place>, PlaceFault>
+) -> Result<Option<FieldPlace>, PlaceFault>
     ensures leads { MemoryAside result (PathLeads local.now target.now root_type path.now) }
     ensures same { Gives is_place_memory result (place_of local.now target.now root_type path.now) }
 {

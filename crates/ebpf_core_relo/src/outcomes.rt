@@ -77,7 +77,11 @@ fn slot_of_record(
 }
 
 /// What a record comes to whose section is not found.
-fn unplaced(name: u32, relocation: &Relocation, fault: RelocationError) -> RecordOutcome
+fn outcome_without_section(
+    name: u32,
+    relocation: &Relocation,
+    fault: RelocationError,
+) -> RecordOutcome
     ensures { result ≡ record { section_name = name; number = relocation.now.number; slot = None; result = Refused fault } }
 {
     RecordOutcome {
@@ -113,9 +117,9 @@ fn outcome_in(
         }
         FoundSection::NoName(offset) => {
             let error = BtfError::InvalidStringOffset { offset };
-            Ok(unplaced(section.name, relocation, RelocationError::BtfError(error)))
+            Ok(outcome_without_section(section.name, relocation, RelocationError::BtfError(error)))
         }
-        FoundSection::NoSection => Ok(unplaced(
+        FoundSection::NoSection => Ok(outcome_without_section(
             section.name,
             relocation,
             RelocationError::SectionNotFound,

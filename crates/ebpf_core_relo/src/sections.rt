@@ -9,7 +9,7 @@ ghost use Rattle.ebpf_core.specs.Searches.{outcome_of};
 ghost use Rattle.std.specs.FinMap as map;
 ghost use Rattle.ebpf_core_relo.specs.Carried as carried;
 
-use crate::carried::{CarryingSlots, carrying_slots, put_slots_at};
+use crate::carried::{PatchedSlots, patched_slots, put_slots_at};
 use crate::error::BtfRelocationError;
 use crate::spans::{FunctionSpans, SLOT, Span, span_in};
 use ebpf_base::{ByKey, Items, Text};
@@ -51,7 +51,7 @@ fn answer_in_section(alloc: Global, name: &str, error: RelocationError) -> BtfRe
 }
 
 /// The fault of a section whose name can't be read.
-fn unnamed(alloc: Global, offset: u32, error: BtfError) -> BtfRelocationError
+fn unnamed_section_error(alloc: Global, offset: u32, error: BtfError) -> BtfRelocationError
     ensures { IsStatedRefusal result (error_in_section (unnamed_section offset) (of_type_error error)) }
 {
     let error = RelocationError::from(error);
@@ -77,7 +77,7 @@ fn apply_named(
 {
     let name = match local.string_at(offset) {
         Ok(name) => name,
-        Err(error) => return Err(unnamed(alloc, offset, error)),
+        Err(error) => return Err(unnamed_section_error(alloc, offset, error)),
     };
     match apply_section(
         alloc,
@@ -139,7 +139,7 @@ fn take_slots(
 
 /// What a record that came to an outcome makes of a slot of a function, over what records have left of it. Nothing is
 /// written.
-fn carrying_in(
+fn patched_slots_in(
     alloc: Global,
     function_spans: &FunctionSpans<'_>,
     written: &ByKey<Items<bpf_insn>>,
@@ -147,34 +147,34 @@ fn carrying_in(
     at: usize,
     record_number: usize,
     outcome: &Outcome,
-) -> Result<CarryingSlots, RelocationError>
-    ensures slots { IfOk result (λ carrying. carried.written record_number (slots_so_far function_spans.now.functions.now written.now key) at outcome.now ≡ Ok (put_at (slots_so_far function_spans.now.functions.now written.now key) at carrying)) }
-    ensures there { IfOk result (λ carrying. (at < length (slots_so_far function_spans.now.functions.now written.now key)) × HasRoom (slots_so_far function_spans.now.functions.now written.now key) at carrying.next) }
+) -> Result<PatchedSlots, RelocationError>
+    ensures slots { IfOk result (λ patched. carried.written record_number (slots_so_far function_spans.now.functions.now written.now key) at outcome.now ≡ Ok (put_at (slots_so_far function_spans.now.functions.now written.now key) at patched)) }
+    ensures there { IfOk result (λ patched. (at < length (slots_so_far function_spans.now.functions.now written.now key)) × HasRoom (slots_so_far function_spans.now.functions.now written.now key) at patched.next) }
     ensures fault { IfErr result (λ e. MatchBool (is_record_memory e) ⊤ (carried.written record_number (slots_so_far function_spans.now.functions.now written.now key) at outcome.now ≡ Err (without_texts e))) }
 {
     if let Some(slots) = written.get(key) {
-        return carrying_slots(alloc, slots.as_slice(), at, record_number, outcome);
+        return patched_slots(alloc, slots.as_slice(), at, record_number, outcome);
     }
     match function_spans.functions.get(key) {
-        Some(function) => carrying_slots(
+        Some(function) => patched_slots(
             alloc,
             function.instructions.as_slice(),
             at,
             record_number,
             outcome,
         ),
-        None => carrying_slots(alloc, &[], at, record_number, outcome),
+        None => patched_slots(alloc, &[], at, record_number, outcome),
     }
 }
 
 /// Slots of which one carries the outcome of a record.
-fn rewritten(slots: Items<bpf_insn>, at: usize, carrying: CarryingSlots) -> Items<bpf_insn>
+fn with_patched_slots(slots: Items<bpf_insn>, at: usize, patched: PatchedSlots) -> Items<bpf_insn>
     requires slot { at < length slots }
-    requires next { HasRoom slots at carrying.next }
-    ensures { result ≡ put_at slots at carrying }
+    requires next { HasRoom slots at patched.next }
+    ensures { result ≡ put_at slots at patched }
 {
     let mut slots = slots.into_vec();
-    put_slots_at(slots.as_mut_slice(), at, carrying);
+    put_slots_at(slots.as_mut_slice(), at, patched);
     Items::from_vec(slots)
 }
 
@@ -197,7 +197,7 @@ fn put_outcome(
     let outcome = search.outcome(alloc, relocation)?;
     let key = (section, span.address);
     let at = (relocation.insn_off as usize).saturating_sub(span.start) / SLOT;
-    let carrying = carrying_in(
+    let patched = patched_slots_in(
         alloc,
         function_spans,
         written,
@@ -207,7 +207,7 @@ fn put_outcome(
         &outcome,
     )?;
     let slots = take_slots(alloc, function_spans, written, key)?;
-    let slots = rewritten(slots, at, carrying);
+    let slots = with_patched_slots(slots, at, patched);
     written.insert(key, slots)?;
     Ok(outcome)
 }

@@ -173,12 +173,12 @@ impl RisingSpans {
         ensures { result ≡ span_at offset self.now }
     {
         let number = upper_bound(&self.ends, offset / SLOT);
-        begun(&self.spans, number, offset)
+        begun_span(&self.spans, number, offset)
     }
 }
 
 /// The span with a number, where it begins no later than an offset.
-fn begun(spans: &[Span], number: usize, offset: usize) -> Option<Span>
+fn begun_span(spans: &[Span], number: usize, offset: usize) -> Option<Span>
     ensures { result ≡ if_begun offset (slice_get spans.now number) }
 {
     match spans.get(number) {
