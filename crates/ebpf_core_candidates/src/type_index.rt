@@ -24,7 +24,7 @@ use ebpf_btf::{Btf, BtfError, BtfKind, essential_name};
 use std::alloc::{AllocError, Global};
 use std::marker::Model;
 
-/// What one pass over the types finds.
+/// The types of some kinds that one pass finds: rows of those with marked names, anonymous types, and unreadable names.
 #[derive(Drop)]
 struct FoundTypes {
     rows: Vec<TypeRow>,
@@ -106,6 +106,134 @@ fn ids_of_rows(alloc: Global, rows: &[TypeRow]) -> Result<Vec<u32>, AllocError>
     Ok(ids)
 }
 
+/// Types of some kinds by kind and name, the names without what follows three underscores: of all names, or of those
+/// that an object's types have.
+///
+/// Contracts see the type information that it was made for, the kinds, and the marks of the names.
+#[derive(Drop)]
+pub struct KindsIndex<'a> {
+    names: TypeNames<'a>,
+    kinds: SomeKinds,
+    marks: Vec<bool>,
+    rows: Vec<TypeRow>,
+    ids: Vec<u32>,
+    anonymous: AnonymousTypes,
+    unreadable: UnreadableNames,
+}
+
+impl<'a> Model for KindsIndex<'a> {
+    ghost use Rattle.ebpf_core_candidates.specs.Candidates.{IndexedTypes};
+    ghost use Rattle.ebpf_core_candidates.specs.TypeRows.{IsIndex};
+
+    ghost Value = { IndexedTypes };
+
+    ghost view = { λ x. record { info = x.names; kinds = x.kinds; marks = x.marks.items } };
+
+    ghost invariant = { λ x. IsIndex x.kinds x.marks.items x.names x.rows.items x.ids.items x.anonymous.items x.unreadable };
+}
+
+impl<'a> KindsIndex<'a> {
+    /// The types that the index was made for.
+    pub fn btf(&self) -> &'a Btf
+        ensures { result.now ≡ self.now.info }
+    {
+        self.names.btf()
+    }
+
+    /// Whether the index has the types of a kind and of a name.
+    pub fn has(&self, kind: BtfKind, name: &str) -> bool
+        ensures { result ≡ has_named self.now kind name.now }
+    {
+        let name = essential_name(name.as_bytes());
+        has_kind(&self.kinds, kind) && is_hash_marked(&self.marks, name_hash(name))
+    }
+
+    /// The first type of a kind whose name can't be read.
+    fn unreadable_of(&self, kind: BtfKind) -> Option<UnreadableName>
+        requires { has_kind self.now.kinds kind ≡ true }
+        ensures { result ≡ unreadable_from self.now.info kind 0 self.now.info.types }
+    {
+        self.unreadable[kind_number(kind) as usize]
+    }
+
+    /// The ids of the types of a kind and name, names that can't be read aside.
+    fn ids_of(&self, kind: BtfKind, name: &str) -> &[u32]
+        requires { has_named self.now kind name.now ≡ true }
+        ensures { result.now ≡ candidates self.now.info kind name.now }
+    {
+        let number = kind_number(kind);
+        let name = essential_name(name.as_bytes());
+        if name.is_empty() {
+            return self.anonymous[number as usize].as_slice();
+        }
+        let (start, end) = row_range(&self.names, &self.rows, number, name);
+        &self.ids[start..end]
+    }
+
+    /// The candidates of a kind and a name that the index has.
+    #[tactic(auto, using(crate::proofs::Unnamed::fault_of_kind))]
+    fn candidates_of(&self, kind: BtfKind, name: &str) -> Result<&[u32], BtfError>
+        requires { has_named self.now kind name.now ≡ true }
+        ensures ids { IfOk result (λ ids. ids.now ≡ candidates self.now.info kind name.now) }
+        ensures fault { fault_of result ≡ candidates_fault self.now.info kind }
+    {
+        match self.unreadable_of(kind) {
+            Some(unreadable) => Err(unreadable.fault()),
+            None => Ok(self.ids_of(kind, name)),
+        }
+    }
+
+    /// The candidates of a name and either of two kinds that the index has.
+    #[tactic(auto, using(crate::proofs::Unnamed::fault_of_kinds, crate::proofs::CandidateLaws::union_candidates))]
+    fn candidates_of_two(
+        &self,
+        alloc: Global,
+        first: BtfKind,
+        second: BtfKind,
+        name: &str,
+    ) -> Result<Vec<u32>, BtfError>
+        requires first { has_named self.now first name.now ≡ true }
+        requires second { has_named self.now second name.now ≡ true }
+        ensures ids { IfOk result (λ ids. ids.items ≡ candidates_of_both self.now.info first second name.now) }
+        ensures fault { Refuses is_btf_memory result (candidates_of_both_fault self.now.info first second) }
+    {
+        match lower(self.unreadable_of(first), self.unreadable_of(second)) {
+            Some(unreadable) => Err(unreadable.fault()),
+            None => Ok(union(alloc, self.ids_of(first, name), self.ids_of(second, name))?),
+        }
+    }
+
+    /// As `TypeIndex::candidates`. None of a kind or a name that the index lacks.
+    pub fn candidates(&self, kind: BtfKind, name: &str) -> Option<Result<&[u32], BtfError>>
+        ensures has { is_some result ≡ has_named self.now kind name.now }
+        ensures ids { ForSome result (λ found. IfOk found (λ ids. ids.now ≡ candidates self.now.info kind name.now)) }
+        ensures fault { ForSome result (λ found. fault_of found ≡ candidates_fault self.now.info kind) }
+    {
+        if !self.has(kind, name) {
+            return None;
+        }
+        Some(self.candidates_of(kind, name))
+    }
+
+    /// As `TypeIndex::candidates_of_both`. None where the index lacks a kind or the name.
+    pub fn candidates_of_both(
+        &self,
+        alloc: Global,
+        first: BtfKind,
+        second: BtfKind,
+        name: &str,
+    ) -> Option<Result<Vec<u32>, BtfError>>
+        ensures has { is_some result ≡ (has_named self.now first name.now && has_named self.now second name.now) }
+        ensures ids { ForSome result (λ found. IfOk found (λ ids. ids.items ≡ candidates_of_both self.now.info first second name.now)) }
+        ensures fault { ForSome result (λ found. Refuses is_btf_memory found (candidates_of_both_fault self.now.info first second)) }
+    {
+        if !self.has(first, name) || !self.has(second, name) {
+            return None;
+        }
+        Some(self.candidates_of_two(alloc, first, second, name))
+    }
+}
+
 /// The index of types of some kinds that have marked names.
 fn index_of<'a>(
     alloc: Global,
@@ -138,137 +266,6 @@ fn index_of<'a>(
     })
 }
 
-/// Types of some kinds by kind and name, the names without what follows three underscores: of all names, or of those
-/// that an object's types have.
-///
-/// Contracts see the type information that it was made for, the kinds, and the marks of the names.
-#[derive(Drop)]
-pub struct KindsIndex<'a> {
-    names: TypeNames<'a>,
-    kinds: SomeKinds,
-    marks: Vec<bool>,
-    rows: Vec<TypeRow>,
-    ids: Vec<u32>,
-    anonymous: AnonymousTypes,
-    unreadable: UnreadableNames,
-}
-
-impl<'a> Model for KindsIndex<'a> {
-    ghost use Rattle.ebpf_core_candidates.specs.Candidates.{IndexedTypes};
-    ghost use Rattle.ebpf_core_candidates.specs.TypeRows.{IsIndex};
-
-    ghost Value = { IndexedTypes };
-
-    ghost view = { λ x. record { info = x.names; kinds = x.kinds; marks = x.marks.items } };
-
-    ghost invariant = { λ x. IsIndex x.kinds x.marks.items x.names x.rows.items x.ids.items x.anonymous.items x.unreadable };
-}
-
-impl<'a> KindsIndex<'a> {
-    /// The types that it was made for.
-    pub fn btf(&self) -> &'a Btf
-        ensures { result.now ≡ self.now.info }
-    {
-        self.names.btf()
-    }
-
-    /// Whether it has the types of a kind and of a name.
-    pub fn has(&self, kind: BtfKind, name: &str) -> bool
-        ensures { result ≡ has_named self.now kind name.now }
-    {
-        let name = essential_name(name.as_bytes());
-        has_kind(&self.kinds, kind) && is_hash_marked(&self.marks, name_hash(name))
-    }
-
-    /// The first type of a kind whose name can't be read.
-    fn unreadable_of(&self, kind: BtfKind) -> Option<UnreadableName>
-        requires { has_kind self.now.kinds kind ≡ true }
-        ensures { result ≡ unreadable_from self.now.info kind 0 self.now.info.types }
-    {
-        self.unreadable[kind_number(kind) as usize]
-    }
-
-    /// The ids of the types of a kind and name, names that can't be read aside.
-    fn ids_of(&self, kind: BtfKind, name: &str) -> &[u32]
-        requires { has_named self.now kind name.now ≡ true }
-        ensures { result.now ≡ candidates self.now.info kind name.now }
-    {
-        let number = kind_number(kind);
-        let name = essential_name(name.as_bytes());
-        if name.is_empty() {
-            return self.anonymous[number as usize].as_slice();
-        }
-        let (start, end) = row_range(&self.names, &self.rows, number, name);
-        &self.ids[start..end]
-    }
-
-    /// The candidates of a kind and a name that it has.
-    #[tactic(auto, using(crate::proofs::Unnamed::fault_of_kind))]
-    fn candidates_of(&self, kind: BtfKind, name: &str) -> Result<&[u32], BtfError>
-        requires { has_named self.now kind name.now ≡ true }
-        ensures ids { IfOk result (λ ids. ids.now ≡ candidates self.now.info kind name.now) }
-        ensures fault { fault_of result ≡ candidates_fault self.now.info kind }
-    {
-        match self.unreadable_of(kind) {
-            Some(unreadable) => Err(unreadable.fault()),
-            None => Ok(self.ids_of(kind, name)),
-        }
-    }
-
-    /// The candidates of either of two kinds that it has, of a name that it has.
-    #[tactic(auto, using(crate::proofs::Unnamed::fault_of_kinds, crate::proofs::CandidateLaws::union_candidates))]
-    fn candidates_of_two(
-        &self,
-        alloc: Global,
-        first: BtfKind,
-        second: BtfKind,
-        name: &str,
-    ) -> Result<Vec<u32>, BtfError>
-        requires first { has_named self.now first name.now ≡ true }
-        requires second { has_named self.now second name.now ≡ true }
-        ensures ids { IfOk result (λ ids. ids.items ≡ candidates_of_both self.now.info first second name.now) }
-        ensures fault { Refuses is_btf_memory result (candidates_of_both_fault self.now.info first second) }
-    {
-        match lower(self.unreadable_of(first), self.unreadable_of(second)) {
-            Some(unreadable) => Err(unreadable.fault()),
-            None => {
-                let ids = union(alloc, self.ids_of(first, name), self.ids_of(second, name))?;
-                Ok(ids)
-            }
-        }
-    }
-
-    /// As `TypeIndex::candidates`. None of a kind or a name that it doesn't have.
-    pub fn candidates(&self, kind: BtfKind, name: &str) -> Option<Result<&[u32], BtfError>>
-        ensures has { is_some result ≡ has_named self.now kind name.now }
-        ensures ids { ForSome result (λ found. IfOk found (λ ids. ids.now ≡ candidates self.now.info kind name.now)) }
-        ensures fault { ForSome result (λ found. fault_of found ≡ candidates_fault self.now.info kind) }
-    {
-        if !self.has(kind, name) {
-            return None;
-        }
-        Some(self.candidates_of(kind, name))
-    }
-
-    /// As `TypeIndex::candidates_of_both`. None where it doesn't have both kinds, or the name.
-    pub fn candidates_of_both(
-        &self,
-        alloc: Global,
-        first: BtfKind,
-        second: BtfKind,
-        name: &str,
-    ) -> Option<Result<Vec<u32>, BtfError>>
-        ensures has { is_some result ≡ (has_named self.now first name.now && has_named self.now second name.now) }
-        ensures ids { ForSome result (λ found. IfOk found (λ ids. ids.items ≡ candidates_of_both self.now.info first second name.now)) }
-        ensures fault { ForSome result (λ found. Refuses is_btf_memory found (candidates_of_both_fault self.now.info first second)) }
-    {
-        if !self.has(first, name) || !self.has(second, name) {
-            return None;
-        }
-        Some(self.candidates_of_two(alloc, first, second, name))
-    }
-}
-
 /// Types by kind and name, the names without what follows three underscores.
 ///
 /// Contracts see the type information that it was made for.
@@ -292,7 +289,10 @@ impl<'a> Model for TypeIndex<'a> {
 
 impl<'a> TypeIndex<'a> {
     /// The index of some types: one pass over them, a sort, and a copy of each name that is not UTF-8.
-    /// `OutOfMemory` where memory is refused.
+    ///
+    /// # Errors
+    ///
+    /// - `OutOfMemory`: memory is refused.
     pub fn new(alloc: Global, btf: &'a Btf) -> Result<TypeIndex<'a>, BtfError>
         ensures types { IfOk result (λ index. index ≡ btf.now) }
         ensures memory { IfErr result (λ e. e ≡ OutOfMemory) }
@@ -301,22 +301,9 @@ impl<'a> TypeIndex<'a> {
         Ok(TypeIndex { index })
     }
 
-    /// The index of the types of some kinds: as `new`, but that types of other kinds are passed over.
-    pub fn of_kinds(
-        alloc: Global,
-        btf: &'a Btf,
-        kinds: &[BtfKind],
-    ) -> Result<KindsIndex<'a>, BtfError>
-        ensures types { IfOk result (λ index. index.info ≡ btf.now) }
-        ensures kinds { IfOk result (λ index. (kind : BtfKind) (name : List ℕ) → has_named index kind name ≡ is_among_kinds kinds.now kind) }
-        ensures memory { IfErr result (λ e. e ≡ OutOfMemory) }
-    {
-        index_of(alloc, btf, kinds_of(kinds), every_name(alloc))
-    }
-
-    /// The index of the types of some kinds that may stand for those of `local`: as `of_kinds`, but that types of other
-    /// names than those that types of `local` of these kinds have may be passed over. One pass over the types of
-    /// both, and a sort of those that are kept.
+    /// The index of the types of some kinds that may stand for those of `local`: as `new`, but types of other kinds are
+    /// passed over, and types of other names than those that types of `local` of these kinds have may be. One pass over
+    /// the types of both, and a sort of those that are kept.
     pub fn of_names(
         alloc: Global,
         btf: &'a Btf,
@@ -334,19 +321,14 @@ impl<'a> TypeIndex<'a> {
         index_of(alloc, btf, kinds, marks)
     }
 
-    /// The types that it was made for.
-    pub fn btf(&self) -> &'a Btf
-        ensures { result.now ≡ self.now }
-    {
-        self.index.btf()
-    }
-
     /// The ids, in increasing order, of the types of a kind whose name before the first three underscores equals
     /// that of `name`. Names are compared as `Btf::string_at` gives them. No memory is taken, and the cost grows
     /// by the logarithm of the number of types.
     ///
-    /// `InvalidStringOffset` where the name of a type of this kind can't be read, with the offset of the name that
-    /// has the lowest id; names of other kinds play no part.
+    /// # Errors
+    ///
+    /// - `InvalidStringOffset`: the name of a type of this kind can't be read. The offset is that of the type with the
+    ///   lowest id; names of other kinds play no part.
     pub fn candidates(&self, kind: BtfKind, name: &str) -> Result<&[u32], BtfError>
         ensures ids { IfOk result (λ ids. ids.now ≡ candidates self.now kind name.now) }
         ensures fault { fault_of result ≡ candidates_fault self.now kind }
@@ -357,8 +339,11 @@ impl<'a> TypeIndex<'a> {
     /// The ids of the types of either of two kinds with a name's essential part, lowest first: an enumeration of 64 bits
     /// may stand for an ENUM64 or a UNION.
     ///
-    /// `InvalidStringOffset` where the name of a type of either kind can't be read, with the offset of the name that
-    /// has the lowest id; `OutOfMemory` where memory for the list is refused.
+    /// # Errors
+    ///
+    /// - `InvalidStringOffset`: the name of a type of either kind can't be read. The offset is that of the type with
+    ///   the lowest id.
+    /// - `OutOfMemory`: memory for the list is refused.
     pub fn candidates_of_both(
         &self,
         alloc: Global,

@@ -49,7 +49,7 @@ fn odd_text_at(alloc: Global, btf: &Btf, offset: u32) -> Result<Option<Text>, Al
     }
 }
 
-/// That of the name of the type with an id.
+/// The text that the name of the type with an id is read as, where the name is not UTF-8.
 #[tactic(auto, using(crate::proofs::Names::odd_headed, crate::proofs::Names::odd_headless))]
 fn odd_at(alloc: Global, btf: &Btf, id: usize) -> Result<Option<Text>, AllocError>
     ensures { IfOk result (λ name. name ≡ odd_at btf.now id) }
@@ -60,7 +60,7 @@ fn odd_at(alloc: Global, btf: &Btf, id: usize) -> Result<Option<Text>, AllocErro
     }
 }
 
-/// These texts by the types' ids.
+/// The texts of the names that are not UTF-8, by the types' ids. Each name is looked at.
 fn gather_odd_names(alloc: Global, btf: &Btf) -> Result<ByOffset<Text>, AllocError>
     ensures { IfOk result (λ odd. (id : ℕ) → get odd id ≡ odd_at btf.now id) }
 {
@@ -132,9 +132,7 @@ impl<'a> TypeNames<'a> {
         if self.odd.is_empty() {
             return essential_at(self.btf.strings(), offset);
         }
-        let Ok(bytes) = self.btf.bytes_at(offset) else {
-            return None;
-        };
+        let bytes = self.btf.bytes_at(offset).ok()?;
         match self.odd.get(id as u64) {
             Some(text) => Some(essential_name(text.as_str().as_bytes())),
             None => Some(essential_name(bytes)),
@@ -194,10 +192,8 @@ fn before_marks(bytes: &[u8], index: usize) -> Option<&[u8]>
     requires inside { index < length bytes.now }
     ensures { option_copied result ≡ option_map (λ _. take (index - 2) bytes.now) (before_zero (drop (index + 1) bytes.now)) }
 {
-    match first_zero(&bytes[index + 1..]) {
-        Some(_) => Some(&bytes[..index - 2]),
-        None => None,
-    }
+    first_zero(&bytes[index + 1..])?;
+    Some(&bytes[..index - 2])
 }
 
 /// The bytes up to the first zero byte, without what follows three underscores.
