@@ -1,4 +1,4 @@
-//! Where a path leads.
+//! The places that paths lead to.
 
 ghost use Rattle.std.specs.Prelude.{◌≡◌, slice_get};
 ghost use Rattle.ebpf_core_places.specs.Places.{checked_place, element_place, is_last_of};
@@ -18,13 +18,42 @@ pub enum PlaceEnd {
     Member { parent: u32, index: usize },
 }
 
-/// Where a path leads.
+/// The place that a path leads to in a type.
 #[derive(Clone, Copy, Debug, PartialEq, Eq)]
 pub struct FieldPlace {
     /// The bits from the start of the root type.
     pub bits: u32,
     /// The last step.
     pub end: PlaceEnd,
+}
+
+/// The reason why the place of a path can't be found.
+#[derive(Debug, Drop, Error)]
+pub enum PlaceFault {
+    /// A path has too many parts, a view too many levels or too many entries.
+    #[error("a path has more than 64 parts, or a type more than 64 levels or 1048576 members to look at")]
+    NestingLevel,
+    /// A name, a type or a size can't be read, or a bit offset is past 32 bits.
+    #[error("{0}")]
+    Btf(BtfError),
+}
+
+impl From<BtfError> for PlaceFault {
+    ghost from_gives = { λ error fault. fault ≡ Btf error };
+
+    fn from(error: BtfError) -> PlaceFault {
+        PlaceFault::Btf(error)
+    }
+}
+
+/// A step of a path.
+#[derive(Debug, Drop)]
+pub enum Step {
+    /// To the member with a name. `local_type` is the id of the local member's type, which the target member's type has
+    /// to be compatible with.
+    Name { name: Text, local_type: u32 },
+    /// To the element with an index. The first step of a path counts in the root type itself.
+    Index { index: usize },
 }
 
 /// A place so many bits from the start of the root type. `InvalidTypeInfo` where they are past 4,294,967,295.
@@ -64,35 +93,6 @@ pub fn is_last_of(index: usize, ty: &BtfType<'_>) -> bool
         BtfType::Struct { members, .. } => index < members.len() && index + 1 == members.len(),
         _ => false,
     }
-}
-
-/// Why it could not be found out where a path leads.
-#[derive(Debug, Drop, Error)]
-pub enum PlaceFault {
-    /// A path has too many parts, a view too many levels or too many entries.
-    #[error("a path has more than 64 parts, or a type more than 64 levels or 1048576 members to look at")]
-    NestingLevel,
-    /// A name, a type or a size can't be read, or a bit offset is past 32 bits.
-    #[error("{0}")]
-    Btf(BtfError),
-}
-
-impl From<BtfError> for PlaceFault {
-    ghost from_gives = { λ error fault. fault ≡ Btf error };
-
-    fn from(error: BtfError) -> PlaceFault {
-        PlaceFault::Btf(error)
-    }
-}
-
-/// A step of a path.
-#[derive(Debug, Drop)]
-pub enum Step {
-    /// To the member with a name. `local_type` is the id of the local member's type, which the target member's type has
-    /// to be compatible with.
-    Name { name: Text, local_type: u32 },
-    /// To the element with an index. The first step of a path counts in the root type itself.
-    Index { index: usize },
 }
 
 /// The type with an id.

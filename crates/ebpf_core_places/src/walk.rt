@@ -10,10 +10,10 @@ use crate::places::{
 use crate::search::{FoundMember, find_member};
 use ebpf_btf::Btf;
 
-/// How many parts a path may have before a step.
+/// The maximum number of parts of a path before a step.
 const PATH_PARTS: u32 = 64;
 
-/// How far a path has come: a place, the type there, and how many steps and anonymous members led to it.
+/// The position of a path in a target type: a place, its type, and the number of steps and anonymous members up to it.
 #[derive(Clone, Copy)]
 pub struct TargetSpot {
     pub place: FieldPlace,
@@ -59,7 +59,7 @@ fn element_spot(
     })
 }
 
-/// Where an index leads in the type with an id.
+/// The spot of the element with an index, in the type with an id.
 fn by_index(
     target: &Btf,
     from: TargetSpot,
@@ -88,7 +88,7 @@ fn by_index(
     Ok(Some(spot))
 }
 
-/// The member that was found from a spot.
+/// The spot of a member that was found from another spot.
 fn member_spot(from: TargetSpot, member: FoundMember) -> Result<TargetSpot, PlaceFault>
     requires parts { from.parts < 64 }
     requires shallow { member.inside ≤ 64 }
@@ -106,7 +106,7 @@ fn member_spot(from: TargetSpot, member: FoundMember) -> Result<TargetSpot, Plac
     })
 }
 
-/// Where a name leads in the type with an id.
+/// The spot of the member with a name, in the type with an id.
 fn by_name(
     local: &Btf,
     target: &Btf,
@@ -124,7 +124,7 @@ fn by_name(
     }
 }
 
-/// Where a step leads from a spot.
+/// Follows a step from a spot.
 fn follow(
     local: &Btf,
     target: &Btf,
@@ -145,7 +145,7 @@ fn follow(
     }
 }
 
-/// Where some steps lead from a spot.
+/// Follows some steps from a spot.
 fn follow_all(
     local: &Btf,
     target: &Btf,
@@ -172,7 +172,7 @@ fn begin(target: &Btf, root_type: u32, index: usize) -> Result<TargetSpot, Place
     element_spot(target, 0, 1, type_id, index)
 }
 
-/// Where a path leads whose first step is the root index; another path leads nowhere.
+/// The place of a path whose first step is the root index; another path leads nowhere.
 fn place(
     local: &Btf,
     target: &Btf,
@@ -199,9 +199,13 @@ fn place(
 /// index where the ARRAY is the last member of a STRUCT; a name as in `find_member`, with the id of the local member's
 /// type in `local`.
 ///
-/// `NestingLevel` before a step where 64 steps and anonymous members were passed, and as in `find_member`; `Btf` as in
-/// `find_member`, and where a type or the size of an element (also for index 0) can't be read; `Btf(InvalidTypeInfo)`
-/// where the bits are past 4,294,967,295 after a step. The first fault on the way is given.
+/// # Errors
+///
+/// The first fault on the way:
+///
+/// - `NestingLevel`: 64 steps and anonymous members were passed before a step, or as in `find_member`.
+/// - `Btf`: a type or the size of an element (also for index 0) can't be read, or as in `find_member`.
+/// - `Btf(InvalidTypeInfo)`: the bits are past 4,294,967,295 after a step.
 pub fn place_in(
     local: &Btf,
     target: &Btf,
