@@ -1,4 +1,4 @@
-//! The candidates that a local path fits, and what a record learns of them.
+//! The candidates that a local path fits, and the values of a record in them.
 
 ghost use Rattle.std.specs.Prelude.{◌≡◌, [], unwrap_or, Err};
 ghost use Rattle.std.specs.Result.{result_ok};
@@ -19,7 +19,7 @@ use ebpf_core_places::{FieldPlace, PlaceFault, Step, place_in};
 use ebpf_ext::RelocationKind;
 use std::alloc::Global;
 
-/// What a path leads to in a type that matches.
+/// The end of a path in a type that matches.
 #[derive(Clone, Copy)]
 pub enum FoundMatch {
     /// The type as a whole.
@@ -35,7 +35,7 @@ pub enum FoundMatch {
 pub struct Match {
     /// The candidate's id.
     pub candidate: u32,
-    /// What the path leads to there.
+    /// The end of the path in the candidate.
     pub found: FoundMatch,
 }
 
@@ -84,7 +84,7 @@ fn too_nested_in(
     too_nested(alloc, name.as_str())
 }
 
-/// Whether a field path leads anywhere in a candidate.
+/// The field that a path leads to in a candidate, if any.
 #[tactic(auto, using(crate::proofs::Refusals::place_found, crate::proofs::Refusals::place_missing, crate::proofs::Refusals::place_nested, crate::proofs::Refusals::place_refused))]
 fn field_found(
     alloc: Global,
@@ -103,7 +103,7 @@ fn field_found(
     }
 }
 
-/// What a path of the local type `local_id` leads to in a candidate.
+/// The end of a path of the local type `local_id` in a candidate.
 #[tactic(auto, unfolding(crate::specs::Outcomes::found_at_candidate))]
 fn found_at_candidate(
     alloc: Global,
@@ -158,7 +158,7 @@ pub fn matches_among(
     Ok(matches)
 }
 
-/// What a match gives.
+/// The value of a match.
 #[derive(Clone, Copy)]
 pub struct MatchValue {
     /// The candidate's id.
@@ -171,7 +171,7 @@ pub struct MatchValue {
     pub loaded: Option<LoadedField>,
 }
 
-/// A number of a type or a variant.
+/// The value of a match of a type or a variant.
 fn match_of_number(candidate: u32, number: u64) -> MatchValue
     ensures { result ≡ match_of_number candidate number }
 {
@@ -183,7 +183,7 @@ fn match_of_number(candidate: u32, number: u64) -> MatchValue
     }
 }
 
-/// What a kind asks of a type.
+/// The number of a type that a kind asks for.
 fn type_value(target: &Btf, kind: RelocationKind, candidate: u32) -> Result<u64, BtfError>
     ensures { result ≡ type_value target.now kind candidate }
 {
@@ -194,7 +194,7 @@ fn type_value(target: &Btf, kind: RelocationKind, candidate: u32) -> Result<u64,
     }
 }
 
-/// What a kind asks of a variant.
+/// The number of a variant that a kind asks for.
 fn variant_value(kind: RelocationKind, value: u64) -> u64
     ensures { result ≡ variant_value kind value }
 {
@@ -204,7 +204,7 @@ fn variant_value(kind: RelocationKind, value: u64) -> u64
     }
 }
 
-/// What a kind asks of a field, where it can be had.
+/// The value of a field that a kind asks for, where there is one.
 fn field_in(target: &Btf, kind: RelocationKind, candidate: u32, place: FieldPlace) -> MatchValue
     ensures { result ≡ field_in candidate place.bits (result_ok (field_value target.now kind place)) }
 {
@@ -217,7 +217,7 @@ fn field_in(target: &Btf, kind: RelocationKind, candidate: u32, place: FieldPlac
     }
 }
 
-/// What a match gives. `BtfError` where the size of a type is asked that has none.
+/// The value of a match. `BtfError` where the kind asks for the size of a type that has none.
 #[tactic(auto, unfolding(crate::specs::Outcomes::match_value))]
 fn match_value(
     target: &Btf,
@@ -239,7 +239,7 @@ fn match_value(
     }
 }
 
-/// What all matches give, in order.
+/// The values of all matches, in order.
 #[tactic(auto, using(crate::proofs::LocalSides::each_more, crate::proofs::LocalSides::each_fault, crate::proofs::LocalSides::each_end, crate::proofs::Refusals::also))]
 pub fn match_values(
     alloc: Global,

@@ -1,4 +1,4 @@
-//! What a record says of its local type.
+//! The local side of a record: its type, and the meaning of its access string there.
 
 ghost use Rattle.std.specs.Prelude.{◌≡◌, ◌==◌, IfOk, map};
 ghost use Rattle.std.specs.List.{slice_split};
@@ -16,7 +16,7 @@ use ebpf_core_places::{FieldPlace, Step};
 use ebpf_ext::{Relocation, RelocationKind};
 use std::alloc::{AllocError, Global};
 
-/// What a record asks about, by the names that its local type has.
+/// The subject of a record, by the names that its local type has.
 #[derive(Debug, Drop)]
 pub enum NamedPath {
     /// The type as a whole.
@@ -32,12 +32,23 @@ pub enum NamedPath {
     },
 }
 
+/// The sort of a record's subject.
+#[derive(Clone, Copy)]
+pub enum RelocationBasis {
+    /// A field: a member or an element.
+    Field,
+    /// A type as a whole.
+    WholeType,
+    /// A variant of an enumeration.
+    Variant,
+}
+
 /// The local side of a record.
 #[derive(Debug, Drop)]
 pub struct LocalPath {
     /// The name of the local type.
     pub type_name: Text,
-    /// What is asked about in it.
+    /// The subject of the record in the local type.
     pub path: NamedPath,
 }
 
@@ -128,7 +139,7 @@ fn path_for(
     }
 }
 
-/// The name of a record's local type, and what the access string means there.
+/// The name of a record's local type, and the meaning of the access string there.
 #[tactic(auto, unfolding(crate::specs::LocalPaths::local_path))]
 fn local_side(
     alloc: Global,
@@ -155,16 +166,23 @@ fn local_side(
     })
 }
 
-/// The local side of a record: the name of its type, and what its access string means there.
+/// The local side of a record: the name of its type, and the meaning of its access string there.
 ///
-/// Faults in this order: `BtfError` of the type, its name or the string; `InvalidAccessString` where a piece between
-/// colons is no `usize`, `MaximumNestingLevelReached` where there are more than 64; `BtfError` where the type can't
-/// be resolved. Then, of a record on a type, `InvalidAccessString` where the string isn't one 0. On a variant
-/// `InvalidRelocationKindForType` where the type is no enumeration, `InvalidAccessString` where there is more than
-/// one part, `InvalidAccessIndex` where there is no such variant, `BtfError` of its name. On a field, part by part,
-/// `BtfError` of a size, a type or a name, or where the field lies past 4,294,967,295 bits; `InvalidAccessIndex`
-/// past the members or elements; `InvalidRelocationKindForType` in a type that has neither. `OutOfMemory` only where
-/// memory was refused.
+/// # Errors
+///
+/// The first of these, in this order:
+///
+/// - `BtfError`: the type, its name or the string can't be read.
+/// - `InvalidAccessString`: a piece between colons is no `usize`.
+/// - `MaximumNestingLevelReached`: there are more than 64 pieces.
+/// - `BtfError`: the type can't be resolved.
+/// - Of a record on a type: `InvalidAccessString` where the string isn't one 0.
+/// - Of a record on a variant: `InvalidRelocationKindForType` where the type is no enumeration, `InvalidAccessString`
+///   where there is more than one part, `InvalidAccessIndex` where there is no such variant, `BtfError` of its name.
+/// - Of a record on a field, part by part: `BtfError` of a size, a type or a name, or where the field lies past
+///   4,294,967,295 bits; `InvalidAccessIndex` past the members or elements; `InvalidRelocationKindForType` in a type
+///   that has neither.
+/// - `OutOfMemory`: memory is refused.
 pub fn local_path(
     alloc: Global,
     local: &Btf,
@@ -220,10 +238,13 @@ fn accessors_of(alloc: Global, access: &str) -> Result<Option<Items<usize>>, All
     all_parts(alloc, pieces.as_slice())
 }
 
-/// The accessors of an access string. The errors speak of it and of the name of the local type.
+/// The accessors of an access string. The errors name the string and the local type.
 ///
-/// `InvalidAccessString` where a piece between colons is no `usize`; `MaximumNestingLevelReached` where there are
-/// more than 64 accessors; `OutOfMemory` where memory is refused.
+/// # Errors
+///
+/// - `InvalidAccessString`: a piece between colons is no `usize`.
+/// - `MaximumNestingLevelReached`: there are more than 64 accessors.
+/// - `OutOfMemory`: memory is refused.
 pub fn accessors(
     alloc: Global,
     type_name: &str,
@@ -240,18 +261,7 @@ pub fn accessors(
     Ok(parts)
 }
 
-/// What a record asks about.
-#[derive(Clone, Copy)]
-pub enum RelocationBasis {
-    /// A field: a member or an element.
-    Field,
-    /// A type as a whole.
-    WholeType,
-    /// A variant of an enumeration.
-    Variant,
-}
-
-/// What the records of a kind ask about.
+/// The sort of subject that the records of a kind have.
 pub fn basis_of(kind: RelocationKind) -> RelocationBasis
     ensures { result ≡ basis_of kind }
 {
