@@ -17,7 +17,7 @@ use std::alloc::Global;
 /// The greatest offset of a load or store.
 const GREATEST_OFFSET: u64 = 32_767;
 
-/// Where a slot carries a number.
+/// The part of a slot that carries a number.
 #[derive(Clone, Copy)]
 pub enum Carrier {
     /// In its immediate.
@@ -30,7 +30,7 @@ pub enum Carrier {
     Nothing,
 }
 
-/// Where a slot carries a number, by its class (RFC 9669, section 3.3).
+/// The part of a slot that carries a number, by the class of the slot (RFC 9669, section 3.3).
 fn carrier_of(slot: &bpf_insn) -> Carrier
     ensures { result ≡ carrier_of slot.now }
 {
@@ -130,6 +130,9 @@ fn with_offset(slot: bpf_insn, number: u64, outcome: &Outcome) -> Option<bpf_ins
     })
 }
 
+/// The immediate of a poisoned call, as libbpf writes it.
+const BAD_RELO: i32 = 0x0bad_2310;
+
 /// A slot that fails where it is reached.
 fn poison() -> bpf_insn
     ensures { result ≡ poison }
@@ -138,7 +141,7 @@ fn poison() -> bpf_insn
         code: CALL,
         regs: 0,
         off: 0,
-        imm: 195_896_080,
+        imm: BAD_RELO,
     }
 }
 
@@ -158,7 +161,7 @@ fn slot_with_value(slot: bpf_insn, number: u64, outcome: &Outcome) -> Option<bpf
     }
 }
 
-/// What a slot becomes that carries an outcome, if it can.
+/// A slot that carries an outcome, if it can.
 fn patched_slot(slot: bpf_insn, outcome: &Outcome) -> Option<bpf_insn>
     ensures { result ≡ patched_slot outcome.now.value slot outcome.now }
 {
@@ -178,7 +181,7 @@ fn takes_next(value: Option<u64>, slot: &bpf_insn) -> bool
     }
 }
 
-/// What that slot becomes.
+/// The slot behind one that carries an outcome, where the outcome takes both.
 fn patched_next_slot(value: Option<u64>, next: bpf_insn) -> bpf_insn
     ensures { result ≡ patched_next_slot value next }
 {
@@ -224,21 +227,22 @@ fn no_carrier<X>(
     })
 }
 
-/// What a record makes of its slot, and of the one behind it where both carry its outcome.
+/// The slot of a record with the outcome of the record, and the slot behind it where the outcome takes both.
 #[derive(Clone, Copy)]
 pub struct PatchedSlots {
     pub slot: bpf_insn,
     pub next: Option<bpf_insn>,
 }
 
-/// What a record that came to an outcome makes of slot `at` of a function. Nothing is written.
+/// Slot `at` of a function with the outcome of a record. Nothing is written.
 ///
 /// # Errors
 ///
-/// `InvalidInstructionIndex` where the slot, or the second slot of a wide load, is not there; `InvalidInstruction`
-/// where the slot can't carry the number: a jump, arithmetic with a source register, a load or store of a number past
-/// 32,767, or of a field of another size that is not 1, 2, 4 or 8 bytes or not a pointer or an integer without a sign
-/// on both sides. `OutOfMemory` where memory is refused.
+/// - `InvalidInstructionIndex`: the slot, or the second slot of a wide load, is not there.
+/// - `InvalidInstruction`: the slot can't carry the number: a jump, arithmetic with a source register, a load or store of
+///   a number past 32,767, or of a field of another size that is not 1, 2, 4 or 8 bytes or not a pointer or an integer
+///   without a sign on both sides.
+/// - `OutOfMemory`: memory is refused.
 #[tactic(auto, unfolding(crate::specs::Carried::written))]
 pub fn patched_slots(
     alloc: Global,
@@ -273,7 +277,7 @@ pub fn patched_slots(
     })
 }
 
-/// Writes what a record makes of slot `at` of a function.
+/// Writes slot `at` of a function with the outcome of a record.
 pub fn put_slots_at(slots: &mut [bpf_insn], at: usize, patched: PatchedSlots)
     requires slot { at < length slots.old }
     requires next { HasRoom slots.old at patched.next }
