@@ -332,8 +332,12 @@ pub fn bit_field_extent(bit: u32, width: u32, stated: Option<u32>) -> Result<Ext
     ensures low { IfOk result (λ extent. extent.start * 8 ≤ bit) }
     ensures narrow { IfOk result (λ extent. extent.width < 2 ^ 36) }
 {
-    let size = stated.ok_or(BtfError::InvalidTypeInfo)?;
-    let found = container(bit, width, size).ok_or(BtfError::InvalidTypeInfo)?;
+    let Some(size) = stated else {
+        return Err(BtfError::InvalidTypeInfo);
+    };
+    let Some(found) = container(bit, width, size) else {
+        return Err(BtfError::InvalidTypeInfo);
+    };
     Ok(Extent {
         start: container_start(u64::from(bit), found),
         size: found,

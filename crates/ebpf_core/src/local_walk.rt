@@ -129,8 +129,11 @@ fn spot_at_member(
     }
     let name = local.string_at(member.name_offset)?;
     let name = Text::from_str(alloc, name.as_str())?;
-    let parent = parent.id;
-    let place = checked_place(bits, PlaceEnd::Member { parent, index })?;
+    let end = PlaceEnd::Member {
+        parent: parent.id,
+        index,
+    };
+    let place = checked_place(bits, end)?;
     let mut steps = from.steps;
     steps.push(Step::Name {
         name,

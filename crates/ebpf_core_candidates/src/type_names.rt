@@ -132,7 +132,9 @@ impl<'a> TypeNames<'a> {
         if self.odd.is_empty() {
             return essential_at(self.btf.strings(), offset);
         }
-        let bytes = self.btf.bytes_at(offset).ok()?;
+        let Ok(bytes) = self.btf.bytes_at(offset) else {
+            return None;
+        };
         match self.odd.get(id as u64) {
             Some(text) => Some(essential_name(text.as_str().as_bytes())),
             None => Some(essential_name(bytes)),
@@ -192,8 +194,10 @@ fn before_marks(bytes: &[u8], index: usize) -> Option<&[u8]>
     requires inside { index < length bytes.now }
     ensures { option_copied result ≡ option_map (λ _. take (index - 2) bytes.now) (before_zero (drop (index + 1) bytes.now)) }
 {
-    first_zero(&bytes[index + 1..])?;
-    Some(&bytes[..index - 2])
+    match first_zero(&bytes[index + 1..]) {
+        Some(_) => Some(&bytes[..index - 2]),
+        None => None,
+    }
 }
 
 /// The bytes up to the first zero byte, without what follows three underscores.
