@@ -274,9 +274,10 @@ fn compare(sides: Sides<'_>, levels: u32, left: u32, pair: Pair) -> Result<Verdi
 fn is_alike(found: Result<Verdict, BtfError>) -> Result<bool, BtfError>
     ensures { result ≡ is_alike found }
 {
-    match found? {
-        Verdict::Alike { .. } => Ok(true),
-        Verdict::Different => Ok(false),
+    match found {
+        Ok(Verdict::Alike { .. }) => Ok(true),
+        Ok(Verdict::Different) => Ok(false),
+        Err(e) => Err(e),
     }
 }
 

@@ -103,11 +103,7 @@ impl Spans {
         Ok(())
     }
 
-    /// Adds a span behind the others.
-    ///
-    /// # Errors
-    ///
-    /// - `AllocError`: memory is refused. Then nothing is known of these spans.
+    /// Adds a span behind the others. After an `AllocError` nothing is known of these spans.
     #[tactic(auto, using(crate::proofs::Tops::behind_last))]
     pub fn push(&mut self, alloc: Global, span: Span) -> Result<(), AllocError>
         ensures { OnOk result (self.new ≡ self.old ++ span ∷ []) }
@@ -156,11 +152,7 @@ impl RisingSpans {
         self.last_start
     }
 
-    /// Adds a span that begins no earlier than the last.
-    ///
-    /// # Errors
-    ///
-    /// - `AllocError`: memory is refused. Then nothing is known of these spans.
+    /// Adds a span that begins no earlier than the last. After an `AllocError` nothing is known of these spans.
     pub fn push(&mut self, span: Span) -> Result<(), AllocError>
         requires { last_start 0 self.old ≤ span.start }
         ensures { OnOk result (self.new ≡ self.old ++ span ∷ []) }
