@@ -14,7 +14,7 @@ use Rattle.ebpf_btf.specs.declared.error.BtfError.{BtfError}
 use Rattle.ebpf_btf.specs.declared.variants.BtfVariant.{BtfVariant}
 use Rattle.ebpf_btf.proofs.InOrder.{drop_some}
 use Rattle.ebpf_core.specs.declared.error.RelocationError.{RelocationError}
-use Rattle.ebpf_core.specs.declared.matches.Found.{Found}
+use Rattle.ebpf_core.specs.declared.matches.FoundMatch.{FoundMatch}
 use Rattle.ebpf_core.specs.declared.matches.Match.{Match}
 use Rattle.ebpf_core.specs.declared.paths.NamedPath.{NamedPath}
 use Rattle.ebpf_core.specs.Answers.{Tells, each, without_texts}
@@ -25,12 +25,12 @@ use Rattle.ebpf_core.proofs.Refusals.{refused_by}
 -- ---- candidates
 
 -- what is kept of a candidate, before those of others
-abbrev pub kept_with : ℕ → Option Found → List Match → List Match
+abbrev pub kept_with : ℕ → Option FoundMatch → List Match → List Match
 kept_with id None ms = ms
 kept_with id (Some what) ms = match_of id what ∷ ms
 
 module _ (local target : TypeInfo) (local_id : ℕ) (path : NamedPath) where
-  kept_one : (id : ℕ) (a : Result (Option Found) RelocationError) (r : Result (List (Option Match)) RelocationError)
+  kept_one : (id : ℕ) (a : Result (Option FoundMatch) RelocationError) (r : Result (List (Option Match)) RelocationError)
       → if_ok (if_ok (if_ok a (λ what. Ok (option_map (match_of id) what))) (λ y. if_ok r (λ ys. Ok (y ∷ ys)))) (λ all. Ok (filter_map (λ m. m) all))
       ≡ if_ok a (λ what. if_ok (if_ok r (λ all. Ok (filter_map (λ m. m) all))) (λ ms. Ok (kept_with id what ms)))
   kept_one id (Err e) r = refl
@@ -52,12 +52,12 @@ module _ (local target : TypeInfo) (local_id : ℕ) (path : NamedPath) where
   onto_same kept (Err e) = refl
 
   module _ (kept : List Match) (ids : List ℕ) (i : ℕ) (below : i < length ids) where
-    pub match_passed : (what : Option Found) → found_at_candidate local target local_id path (get_or ids i 0) ≡ Ok what → what ≡ None
+    pub match_passed : (what : Option FoundMatch) → found_at_candidate local target local_id path (get_or ids i 0) ≡ Ok what → what ≡ None
         → onto kept (matches local target local_id path (drop i ids)) ≡ onto kept (matches local target local_id path (drop (i + 1) ids))
     match_passed what is none =
         rw (drop_more ids i 0 below, match_more (get_or ids i 0) (drop (i + 1) ids), is, none) (onto_same kept (matches local target local_id path (drop (i + 1) ids)))
 
-    pub match_kept : (what : Option Found) (there : Found) → found_at_candidate local target local_id path (get_or ids i 0) ≡ Ok what → what ≡ Some there
+    pub match_kept : (what : Option FoundMatch) (there : FoundMatch) → found_at_candidate local target local_id path (get_or ids i 0) ≡ Ok what → what ≡ Some there
         → onto kept (matches local target local_id path (drop i ids)) ≡ onto (kept ++ match_of (get_or ids i 0) there ∷ []) (matches local target local_id path (drop (i + 1) ids))
     match_kept what there is some =
         rw (drop_more ids i 0 below, match_more (get_or ids i 0) (drop (i + 1) ids), is, some)
@@ -68,7 +68,7 @@ module _ (local target : TypeInfo) (local_id : ℕ) (path : NamedPath) where
     match_fault e is = rw (drop_more ids i 0 below, match_more (get_or ids i 0) (drop (i + 1) ids), is) refl
 
     pub match_refused : (all r : Result (List Match) RelocationError) (e : RelocationError) → IsErrAnd r (λ f. f ≡ e)
-        → Tells {X = Option Found} (Err e) (found_at_candidate local target local_id path (get_or ids i 0))
+        → Tells {X = Option FoundMatch} (Err e) (found_at_candidate local target local_id path (get_or ids i 0))
         → onto kept (matches local target local_id path (drop i ids)) ≡ all → Tells r all
     match_refused all r e is given so_far =
         refused_by e (found_at_candidate local target local_id path (get_or ids i 0)) r all is (λ fault. sym so_far ∙ match_fault (without_texts e) fault) given

@@ -10,12 +10,12 @@ use Rattle.ebpf_core.specs.declared.error.RelocationError.TheVariants as errors
 use Rattle.ebpf_base.specs.Faults.{if_ok}
 use Rattle.ebpf_core.specs.Answers.{Tells, TellsSo, of_type_error, of_types, without_texts, is_record_memory}
 use Rattle.ebpf_core.specs.Outcomes.{by_place}
-use Rattle.ebpf_core.specs.declared.matches.Found.{Found}
-use Rattle.ebpf_core.specs.declared.matches.Found.TheVariants as found
+use Rattle.ebpf_core.specs.declared.matches.FoundMatch.{FoundMatch}
+use Rattle.ebpf_core.specs.declared.matches.FoundMatch.TheVariants as found
 use Rattle.ebpf_btf.specs.TypeInfo.{TypeInfo}
 use Rattle.ebpf_core_places.specs.declared.places.PlaceFault.{PlaceFault}
 use Rattle.ebpf_core_places.specs.declared.places.PlaceFault.TheVariants.{NestingLevel, Btf}
-use Rattle.ebpf_core_places.specs.declared.places.Place.{Place}
+use Rattle.ebpf_core_places.specs.declared.places.FieldPlace.{FieldPlace}
 
 -- what holds of a fault of types as one of the record, and of what follows
 pub by_types : {A X : Type 0} (P : Result X RelocationError → Type 0) (r : Result A TypeError) (next : A → Result X RelocationError)
@@ -40,22 +40,22 @@ module _ {X : Type 0} (Holds : Result X RelocationError → Type 0) where
 
 -- ---- places
 
-module _ (target : TypeInfo) (id : ℕ) (stated : Result (Option Place) PlaceFault) where
-  pub place_found : (place : Place) → stated ≡ Ok (Some place) → by_place target id stated ≡ Ok (Some (found.Field place))
+module _ (target : TypeInfo) (id : ℕ) (stated : Result (Option FieldPlace) PlaceFault) where
+  pub place_found : (place : FieldPlace) → stated ≡ Ok (Some place) → by_place target id stated ≡ Ok (Some (found.Field place))
   place_found place is = rw is refl
 
   pub place_missing : stated ≡ Ok None → by_place target id stated ≡ Ok None
   place_missing is = rw is refl
 
-  pub place_nested : (r : Result (Option Found) RelocationError) → stated ≡ Err NestingLevel → Tells r (by_place target id (Err NestingLevel))
+  pub place_nested : (r : Result (Option FoundMatch) RelocationError) → stated ≡ Err NestingLevel → Tells r (by_place target id (Err NestingLevel))
       → Tells r (by_place target id stated)
   place_nested r is h = rw is h
 
   turned_place : (e : TypeError) (b : Bool) → types.is_btf_memory e ≡ b → MatchBool b ⊤ (stated ≡ Err (Btf e))
-      → Tells {X = Option Found} (Err (of_type_error e)) (by_place target id stated)
+      → Tells {X = Option FoundMatch} (Err (of_type_error e)) (by_place target id stated)
   turned_place e true is h = rw is tt
   turned_place e false is h = rw (is, h) refl
 
   pub place_refused : (e : TypeError) → MatchBool (types.is_btf_memory e) ⊤ (stated ≡ Err (Btf e))
-      → Tells {X = Option Found} (Err (of_type_error e)) (by_place target id stated)
+      → Tells {X = Option FoundMatch} (Err (of_type_error e)) (by_place target id stated)
   place_refused e h = turned_place e (types.is_btf_memory e) refl h

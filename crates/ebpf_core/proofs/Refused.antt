@@ -16,7 +16,7 @@ use Rattle.ebpf_core.specs.Searches.{candidates_for, is_local, outcome_of}
 use Rattle.ebpf_core.specs.declared.error.RelocationError.{RelocationError}
 use Rattle.ebpf_core.specs.declared.error.RelocationError.TheVariants.{ConflictingCandidates}
 use Rattle.ebpf_core.specs.declared.field.LoadedField.{LoadedField}
-use Rattle.ebpf_core.specs.declared.matches.Found.{Found}
+use Rattle.ebpf_core.specs.declared.matches.FoundMatch.{FoundMatch}
 use Rattle.ebpf_core.specs.declared.outcome.Outcome.{Outcome}
 use Rattle.ebpf_core.specs.declared.paths.LocalPath.{LocalPath}
 use Rattle.ebpf_core.specs.declared.matches.MatchValue.{MatchValue}
@@ -132,7 +132,7 @@ module _ (target : TypeInfo) (name : List ℕ) (loaded : Option LoadedField) whe
 -- ---- over candidates
 
 module _ (local target : TypeInfo) (r : Relocation) (path : LocalPath) (ids : List ℕ) where
-  abbrev finds : ℕ → Result (Option Found) RelocationError
+  abbrev finds : ℕ → Result (Option FoundMatch) RelocationError
   finds = found_at_candidate local target r.type_id path.path
 
   matching : IfErr (matches local target r.type_id path.path ids) (FirstFails finds ids)

@@ -13,7 +13,7 @@ use Rattle.ebpf_btf.specs.declared.types.BtfType.TheVariants.{Ptr, Int}
 use Rattle.ebpf_btf.specs.Steps.{resolved, resolved_type, size_of, type_at}
 use Rattle.ebpf_btf.specs.TypeInfo.{TypeInfo}
 use Rattle.ebpf_btf.specs.Types.{bit_field_size, is_signed, members_of, size_word}
-use Rattle.ebpf_core_places.specs.declared.places.Place.{Place}
+use Rattle.ebpf_core_places.specs.declared.places.FieldPlace.{FieldPlace}
 use Rattle.ebpf_core_places.specs.declared.places.PlaceEnd.{PlaceEnd}
 use Rattle.ebpf_core_places.specs.declared.places.PlaceEnd.TheVariants.{Element, Member}
 use Rattle.ebpf_core.specs.declared.field.Extent.{Extent}
@@ -27,12 +27,12 @@ use Rattle.ebpf_core.specs.declared.field.LoadedField.{LoadedField}
 -- ---- the container of a bit field
 
 -- the first byte of the aligned container of so many bytes that has the bit
-abbrev pub aligned : ℕ → ℕ → ℕ
-aligned bit size = bit / 8 / size * size
+abbrev pub container_start : ℕ → ℕ → ℕ
+container_start bit size = bit / 8 / size * size
 
 -- whether that container has all bits of a field, which are `width` from the bit on
 abbrev pub container_holds : ℕ → ℕ → ℕ → Bool
-container_holds bit width size = nat_le (bit + width) ((aligned bit size + size) * 8)
+container_holds bit width size = nat_le (bit + width) ((container_start bit size + size) * 8)
 
 -- the size of a field's type, and that size doubled
 abbrev pub doubled_sizes : ℕ → List ℕ
@@ -53,7 +53,7 @@ abbrev pub plain_extent : ℕ → ℕ → Extent
 plain_extent bit size = record { start = bit / 8; size = size; width = size * 8 }
 
 abbrev pub container_extent : ℕ → ℕ → ℕ → Extent
-container_extent bit width size = record { start = aligned bit size; size = size; width = width }
+container_extent bit width size = record { start = container_start bit size; size = size; width = width }
 
 -- of a bit field, where its type states a size
 abbrev pub bit_field_extent : ℕ → ℕ → Option ℕ → Result Extent BtfError
@@ -136,6 +136,6 @@ place_end_value info kind bits (Element id) = element_value info kind bits id
 place_end_value info kind bits (Member parent index) = by_types (value_of_member info kind bits parent index)
 
 -- what a kind asks of the field at a place; that it is there is a 1
-unfoldable pub field_value : TypeInfo → RelocationKind → Place → Result FieldValue FieldFault
+unfoldable pub field_value : TypeInfo → RelocationKind → FieldPlace → Result FieldValue FieldFault
 field_value info FieldExists place = Ok (value_with FieldExists 1 None)
 field_value info kind place = place_end_value info kind place.bits place.end

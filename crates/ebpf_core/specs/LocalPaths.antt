@@ -155,12 +155,12 @@ field_path info number access id (root ∷ parts) =
 -- ---- a type, and a variant of an enumeration
 
 -- the only accessor
-abbrev pub lone : List ℕ → Option ℕ
-lone (part ∷ []) = Some part
-lone _ = None
+abbrev pub only_accessor : List ℕ → Option ℕ
+only_accessor (part ∷ []) = Some part
+only_accessor _ = None
 
 abbrev pub type_path : List ℕ → List ℕ → Result NamedPath RelocationError
-type_path access parts = if_some (lone parts) (λ part. if part == 0 then Ok paths.WholeType else wrong_string access) (wrong_string access)
+type_path access parts = if_some (only_accessor parts) (λ part. if part == 0 then Ok paths.WholeType else wrong_string access) (wrong_string access)
 
 abbrev pub named_variant : TypeInfo → BtfVariant → Result NamedPath RelocationError
 named_variant info variant = if_ok (of_types (text_at info.strings variant.name_offset)) (λ name. Ok (paths.Variant name))
@@ -168,7 +168,7 @@ named_variant info variant = if_ok (of_types (text_at info.strings variant.name_
 unfoldable pub variant_path : TypeInfo → ℕ → List ℕ → BtfType → List ℕ → Result NamedPath RelocationError
 variant_path info number access t parts =
     if_some (variants_of t)
-    (λ variants. if_some (lone parts)
+    (λ variants. if_some (only_accessor parts)
     (λ part. if_some (slice_get variants part) (named_variant info) (past access part (length variants)))
     (wrong_string access))
     (wrong_kind number)

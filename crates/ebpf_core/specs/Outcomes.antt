@@ -14,7 +14,7 @@ use Rattle.ebpf_btf.specs.TypeInfo.{TypeInfo}
 use Rattle.ebpf_btf.specs.Variants.{variants_of}
 use Rattle.ebpf_core_places.specs.declared.places.PlaceFault.{PlaceFault}
 use Rattle.ebpf_core_places.specs.declared.places.PlaceFault.TheVariants.{NestingLevel, Btf}
-use Rattle.ebpf_core_places.specs.declared.places.Place.{Place}
+use Rattle.ebpf_core_places.specs.declared.places.FieldPlace.{FieldPlace}
 use Rattle.ebpf_core_places.specs.Places.{place_of}
 use Rattle.ebpf_ext.specs.declared.relocation.Relocation.{Relocation}
 use Rattle.ebpf_ext.specs.declared.relocation.RelocationKind.{RelocationKind}
@@ -22,7 +22,7 @@ use Rattle.ebpf_ext.specs.declared.relocation.RelocationKind.TheVariants.{FieldE
 use Rattle.ebpf_core.specs.declared.error.RelocationError.{RelocationError}
 use Rattle.ebpf_core.specs.declared.error.RelocationError.TheVariants.{MaximumNestingLevelReached, BtfError, ConflictingCandidates}
 use Rattle.ebpf_core.specs.declared.paths.NamedPath.{NamedPath}
-use Rattle.ebpf_core.specs.declared.matches.Found.{Found}
+use Rattle.ebpf_core.specs.declared.matches.FoundMatch.{FoundMatch}
 use Rattle.ebpf_core.specs.declared.matches.Match.{Match}
 use Rattle.ebpf_core.specs.Answers.{each, of_types}
 use Rattle.ebpf_core.specs.declared.field.FieldFault.{FieldFault}
@@ -35,7 +35,7 @@ use Rattle.ebpf_core.specs.declared.matches.MatchValue.{MatchValue}
 use Rattle.ebpf_core.specs.Fields.{field_value}
 use Rattle.ebpf_core.specs.LocalPaths.{wrong_kind}
 use Rattle.ebpf_core.specs.declared.paths.NamedPath.TheVariants as paths
-use Rattle.ebpf_core.specs.declared.matches.Found.TheVariants as found
+use Rattle.ebpf_core.specs.declared.matches.FoundMatch.TheVariants as found
 
 -- the name of the type with an id
 abbrev pub type_name_at : TypeInfo → ℕ → Result (List ℕ) TypeError
@@ -58,19 +58,19 @@ abbrev pub variant_in : TypeInfo → List ℕ → ℕ → Result (Option ℕ) Ty
 variant_in target name id = if_ok (resolved_type target.types id) (λ t. first_variant target name (unwrap_or (variants_of t) []))
 
 -- a place that was found; a limit that was reached is answered with the candidate's name
-abbrev pub by_place : TypeInfo → ℕ → Result (Option Place) PlaceFault → Result (Option Found) RelocationError
+abbrev pub by_place : TypeInfo → ℕ → Result (Option FieldPlace) PlaceFault → Result (Option FoundMatch) RelocationError
 by_place target id (Ok place) = Ok (option_map found.Field place)
 by_place target id (Err NestingLevel) = if_ok (of_types (type_name_at target id)) (λ name. Err (MaximumNestingLevelReached name))
 by_place target id (Err (Btf e)) = Err (BtfError e)
 
 -- what a path of the local type leads to in a candidate
-unfoldable pub found_at_candidate : TypeInfo → TypeInfo → ℕ → NamedPath → ℕ → Result (Option Found) RelocationError
+unfoldable pub found_at_candidate : TypeInfo → TypeInfo → ℕ → NamedPath → ℕ → Result (Option FoundMatch) RelocationError
 found_at_candidate local target local_id paths.WholeType id =
     if_ok (of_types (types_compatible local local_id target id)) (λ fits. Ok (if fits then Some found.WholeType else None))
 found_at_candidate local target local_id (paths.Variant name) id = if_ok (of_types (variant_in target name id)) (λ value. Ok (option_map found.Variant value))
 found_at_candidate local target local_id (paths.Field steps place) id = by_place target id (place_of local target id steps)
 
-abbrev pub match_of : ℕ → Found → Match
+abbrev pub match_of : ℕ → FoundMatch → Match
 match_of id what = record { candidate = id; found = what }
 
 -- whether a candidate matches, and how
@@ -118,7 +118,7 @@ abbrev pub field_in : ℕ → ℕ → Option FieldValue → MatchValue
 field_in id bits value =
     record { candidate = id; bits = bits; number = option_map (λ v. v.number) value; loaded = option_and_then (λ v. v.loaded) value }
 
-abbrev pub value_in : TypeInfo → RelocationKind → ℕ → Found → Result MatchValue RelocationError
+abbrev pub value_in : TypeInfo → RelocationKind → ℕ → FoundMatch → Result MatchValue RelocationError
 value_in target kind id found.WholeType = if_ok (of_types (type_value target kind id)) (λ number. Ok (match_of_number id number))
 value_in target kind id (found.Variant value) = Ok (match_of_number id (variant_value kind value))
 value_in target kind id (found.Field place) = Ok (field_in id place.bits (result_ok (field_value target kind place)))

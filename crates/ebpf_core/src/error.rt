@@ -175,7 +175,7 @@ pub fn invalid_kind<X>(
     })
 }
 
-/// A record, as its errors speak of it.
+/// A record, as its errors name it.
 #[derive(Clone, Copy)]
 pub struct Request<'a> {
     /// The place among the records of its section.
@@ -187,7 +187,7 @@ pub struct Request<'a> {
     pub type_name: &'a str,
 }
 
-/// What the records of a kind ask.
+/// The words for the question of the records of a kind.
 pub fn relocation_words(kind: RelocationKind) -> &'static str {
     match kind {
         RelocationKind::FieldByteOffset => "the byte offset of a field",
@@ -205,7 +205,7 @@ pub fn relocation_words(kind: RelocationKind) -> &'static str {
     }
 }
 
-/// What a kind is called.
+/// The words for a kind of type.
 pub fn kind_words(kind: BtfKind) -> &'static str {
     match kind {
         BtfKind::Unknown => "void",

@@ -1,14 +1,14 @@
-//! What a record learns of a field, and the bytes that a program loads for it.
+//! The values of a field that records ask for, and the bytes that a program loads for the field.
 
 ghost use Rattle.std.specs.Prelude.{◌≡◌, ◌*◌, ◌<◌, ◌≤◌, ◌^◌, IfOk, IfSome};
 ghost use Rattle.ebpf_btf.specs.Steps.{size_of};
-ghost use Rattle.ebpf_core.specs.Fields.{member_number, class_of, element_value, field_value, member_extent, loaded_field, member_with_index, member_field_value, shift, value_of_member, value_with, aligned, bit_field_extent, container, container_holds, is_container, plain_extent};
+ghost use Rattle.ebpf_core.specs.Fields.{member_number, class_of, element_value, field_value, member_extent, loaded_field, member_with_index, member_field_value, shift, value_of_member, value_with, container_start, bit_field_extent, container, container_holds, is_container, plain_extent};
 
 use ebpf_btf::{Btf, BtfError, BtfMember, BtfType};
-use ebpf_core_places::{Place, PlaceEnd};
+use ebpf_core_places::{FieldPlace, PlaceEnd};
 use ebpf_ext::RelocationKind;
 
-/// What a load of a field of another size goes by.
+/// The class of a field, by which a load of the field may change its size.
 #[derive(Clone, Copy, Debug, PartialEq, Eq)]
 pub enum FieldClass {
     /// A pointer.
@@ -19,7 +19,7 @@ pub enum FieldClass {
     Other,
 }
 
-/// What is loaded of a field that is no bit field.
+/// The load of a field that is no bit field.
 #[derive(Clone, Copy, Debug, PartialEq, Eq)]
 pub struct LoadedField {
     /// The number of bytes.
@@ -28,19 +28,19 @@ pub struct LoadedField {
     pub class: FieldClass,
 }
 
-/// What a record learns of a field.
+/// The value of a field that a record asks for.
 #[derive(Clone, Copy)]
 pub struct FieldValue {
     /// The number that the record asks for.
     pub number: u64,
-    /// What is loaded there, where the record asks for the place of a field that is no bit field.
+    /// The load of the field, where the record asks for the place of a field that is no bit field.
     pub loaded: Option<LoadedField>,
 }
 
-/// Why a record learns nothing of a field.
+/// The reason why a field has no value for a record.
 #[derive(Drop)]
 pub enum FieldFault {
-    /// Of an element it can't be asked.
+    /// The record's kind can't be asked of an element.
     OfElement,
     /// A type or size can't be read, or there is no container or no shift.
     Types(BtfError),
@@ -56,6 +56,17 @@ impl From<BtfError> for FieldFault {
     }
 }
 
+/// The bytes that a program loads for a field, counted from the start of its root type.
+#[derive(Clone, Copy)]
+pub struct Extent {
+    /// The first byte.
+    pub start: u64,
+    /// The number of bytes.
+    pub size: u64,
+    /// The number of bits that the field has.
+    pub width: u64,
+}
+
 /// The class of a type.
 #[tactic(auto, unfolding(crate::specs::Fields::class_of))]
 fn class_of(ty: &BtfType<'_>) -> FieldClass
@@ -68,7 +79,7 @@ fn class_of(ty: &BtfType<'_>) -> FieldClass
     }
 }
 
-/// What is loaded of a field of a type and size.
+/// The load of a field of a type and size.
 fn loaded_field(ty: &BtfType<'_>, size: u32) -> LoadedField
     ensures { result ≡ loaded_field ty.now size }
 {
@@ -78,14 +89,14 @@ fn loaded_field(ty: &BtfType<'_>, size: u32) -> LoadedField
     }
 }
 
-/// By how much a number of so many bits is shifted in 64. `InvalidTypeInfo` where it has more.
+/// The shift in 64 bits of a number of so many bits. `InvalidTypeInfo` where the number has more.
 fn shift(bits: u64) -> Result<u64, BtfError>
     ensures { result ≡ shift bits }
 {
     64u64.checked_sub(bits).ok_or(BtfError::InvalidTypeInfo)
 }
 
-/// Where a member lies whose resolved type has the id `type_id`, and what is loaded where it is no bit field.
+/// The extent of a member whose resolved type has the id `type_id`, and its load where it is no bit field.
 fn member_extent(
     btf: &Btf,
     parent: &BtfType<'_>,
@@ -107,7 +118,7 @@ fn member_extent(
     Ok((extent, None))
 }
 
-/// What a kind asks of a member.
+/// The number of a member that a kind asks for.
 fn member_number(
     kind: RelocationKind,
     is_signed: bool,
@@ -130,7 +141,7 @@ fn member_number(
     }
 }
 
-/// A number with what is loaded, which matters where the offset is asked.
+/// A number with the load of the field, which matters where the offset is asked for.
 fn value_with(kind: RelocationKind, number: u64, loaded: Option<LoadedField>) -> FieldValue
     ensures { result ≡ value_with kind number loaded }
 {
@@ -143,7 +154,7 @@ fn value_with(kind: RelocationKind, number: u64, loaded: Option<LoadedField>) ->
     }
 }
 
-/// What a kind asks of a member of a type at a bit.
+/// The value of a member of a type, at a bit, that a kind asks for.
 #[tactic(auto, unfolding(crate::specs::Fields::member_field_value))]
 fn member_field_value(
     btf: &Btf,
@@ -161,7 +172,7 @@ fn member_field_value(
     Ok(value_with(kind, number, loaded))
 }
 
-/// What a kind asks of an element at a bit.
+/// The value of an element, at a bit, that a kind asks for.
 fn element_value(
     btf: &Btf,
     kind: RelocationKind,
@@ -191,7 +202,7 @@ fn member_with_index(ty: &BtfType<'_>, index: usize) -> Option<BtfMember>
     ty.members()?.get(index)
 }
 
-/// What a kind asks of a member with a number of a type.
+/// The value of the member of a type with a number that a kind asks for.
 fn value_of_member(
     btf: &Btf,
     kind: RelocationKind,
@@ -208,18 +219,24 @@ fn value_of_member(
     }
 }
 
-/// What a kind asks of the field at a place: the first byte or the number of the bytes that are loaded, whether its
-/// type is signed (1 or 0), by how much the loaded bytes are shifted left and then right in 64 bits, or that it is
-/// there, a 1.
+/// The value of the field at a place that a kind asks for: the first byte or the number of the bytes that are loaded,
+/// whether its type is signed (1 or 0), the shift of the loaded bytes left or then right in 64 bits, or the 1 of a field
+/// that exists.
 ///
 /// A bit field is loaded by the smallest aligned container that holds it: the size of its type, doubled while it is
 /// below 8.
 ///
-/// `OfElement` where the place is an element and its offset, size or existence isn't what is asked. `UnknownBtfType`,
-/// `MaximumTypeDepth` and `UnexpectedBtfType` where the field's type can't be resolved or has no size;
-/// `InvalidTypeInfo` where a bit field has no container, or a shift is negative.
+/// # Errors
+///
+/// - `OfElement`: the place is an element, and the kind asks for neither offset, size nor existence.
+/// - `UnknownBtfType`, `MaximumTypeDepth`, `UnexpectedBtfType`: the field's type can't be resolved or has no size.
+/// - `InvalidTypeInfo`: a bit field has no container, or a shift is negative.
 #[tactic(auto, unfolding(crate::specs::Fields::field_value))]
-pub fn field_value(btf: &Btf, kind: RelocationKind, place: Place) -> Result<FieldValue, FieldFault>
+pub fn field_value(
+    btf: &Btf,
+    kind: RelocationKind,
+    place: FieldPlace,
+) -> Result<FieldValue, FieldFault>
     ensures { result ≡ field_value btf.now kind place }
 {
     if kind == RelocationKind::FieldExists {
@@ -233,29 +250,18 @@ pub fn field_value(btf: &Btf, kind: RelocationKind, place: Place) -> Result<Fiel
     }
 }
 
-/// The bytes that a program loads for a field, counted from the start of its root type.
-#[derive(Clone, Copy)]
-pub struct Extent {
-    /// The first byte.
-    pub start: u64,
-    /// The number of bytes.
-    pub size: u64,
-    /// The number of bits that the field has.
-    pub width: u64,
-}
-
 /// The first byte of the aligned container of `size` bytes that has the bit.
-fn aligned(bit: u64, size: u64) -> u64
+fn container_start(bit: u64, size: u64) -> u64
     requires few { bit < 2 ^ 32 }
     requires some { 0 < size }
-    ensures value { result ≡ aligned bit size }
+    ensures value { result ≡ container_start bit size }
     ensures low { result * 8 ≤ bit }
 {
     let byte = bit / 8;
     byte - byte % size
 }
 
-/// Whether that container has all `width` bits of a field.
+/// Whether the aligned container of `size` bytes that has a bit has all `width` bits of a field from there on.
 fn container_holds(bit: u64, width: u64, size: u64) -> bool
     requires few { bit < 2 ^ 32 }
     requires narrow { width < 2 ^ 32 }
@@ -263,7 +269,7 @@ fn container_holds(bit: u64, width: u64, size: u64) -> bool
     requires some { 0 < size }
     ensures { result ≡ container_holds bit width size }
 {
-    bit + width <= (aligned(bit, size) + size) * 8
+    bit + width <= (container_start(bit, size) + size) * 8
 }
 
 /// Whether a container of `doubled` bytes is one for a bit field whose type has `size`: a size is doubled while it is
@@ -318,7 +324,9 @@ pub fn plain_extent(bit: u32, size: u32) -> Extent
 
 /// The extent of a bit field of `width` bits, whose type states a size or none.
 ///
-/// `InvalidTypeInfo` where no size or size 0 is stated, or no container that it may have holds the field.
+/// # Errors
+///
+/// - `InvalidTypeInfo`: no size or size 0 is stated, or no container that the field may have holds it.
 pub fn bit_field_extent(bit: u32, width: u32, stated: Option<u32>) -> Result<Extent, BtfError>
     ensures value { result ≡ bit_field_extent bit width stated }
     ensures low { IfOk result (λ extent. extent.start * 8 ≤ bit) }
@@ -331,7 +339,7 @@ pub fn bit_field_extent(bit: u32, width: u32, stated: Option<u32>) -> Result<Ext
         return Err(BtfError::InvalidTypeInfo);
     };
     Ok(Extent {
-        start: aligned(u64::from(bit), found),
+        start: container_start(u64::from(bit), found),
         size: found,
         width: u64::from(width),
     })

@@ -11,20 +11,28 @@ use crate::error::{
 use crate::paths::NamedPath;
 use ebpf_base::{Items, Text};
 use ebpf_btf::{Btf, BtfArray, BtfMember, BtfType, Rows};
-use ebpf_core_places::{Place, PlaceEnd, Step, checked_place, element_place, is_last_of};
+use ebpf_core_places::{FieldPlace, PlaceEnd, Step, checked_place, element_place, is_last_of};
 use std::alloc::Global;
 
-/// How far a path has come.
+/// The position of a path in a local type.
 #[derive(Drop)]
 pub struct LocalSpot {
     /// The steps: the root index, names and indices. A member without a name is none.
     pub steps: Items<Step>,
     /// The bits from the start of the root type, and the last step.
-    pub place: Place,
+    pub place: FieldPlace,
     /// The number of the last step: that of the element, or of the member.
     pub index: usize,
-    /// The type there.
+    /// The type at the place.
     pub type_id: u32,
+}
+
+/// A STRUCT or UNION with its id and its members.
+#[derive(Clone, Copy)]
+struct ParentType<'a> {
+    id: u32,
+    ty: &'a BtfType<'a>,
+    members: &'a Rows<'a, BtfMember>,
 }
 
 /// A path that goes on to an element of a type, of which the first is at a bit.
@@ -104,14 +112,13 @@ fn spot_at_member(
     alloc: Global,
     local: &Btf,
     from: LocalSpot,
-    parent: u32,
-    ty: &BtfType<'_>,
+    parent: ParentType<'_>,
     index: usize,
     member: &BtfMember,
 ) -> Result<LocalSpot, RelocationError>
-    ensures { Tells result (spot_at_member local.now from parent ty.now index member.now) }
+    ensures { Tells result (spot_at_member local.now from parent.entry.id parent.entry.ty.now index member.now) }
 {
-    let bits = u128::from(from.place.bits) + u128::from(ty.member_bit_offset(member));
+    let bits = u128::from(from.place.bits) + u128::from(parent.ty.member_bit_offset(member));
     if member.name_offset == 0 {
         let place = checked_place(bits, from.place.end)?;
         return Ok(LocalSpot {
@@ -122,7 +129,11 @@ fn spot_at_member(
     }
     let name = local.string_at(member.name_offset)?;
     let name = Text::from_str(alloc, name.as_str())?;
-    let place = checked_place(bits, PlaceEnd::Member { parent, index })?;
+    let end = PlaceEnd::Member {
+        parent: parent.id,
+        index,
+    };
+    let place = checked_place(bits, end)?;
     let mut steps = from.steps;
     steps.push(Step::Name {
         name,
@@ -142,18 +153,16 @@ fn into_members(
     local: &Btf,
     request: Request<'_>,
     from: LocalSpot,
-    parent: u32,
-    ty: &BtfType<'_>,
-    members: &Rows<'_, BtfMember>,
+    parent: ParentType<'_>,
     index: usize,
 ) -> Result<LocalSpot, RelocationError>
-    ensures { Tells result (into_members local.now request.entry.access.now from parent ty.now members.now index) }
+    ensures { Tells result (into_members local.now request.entry.access.now from parent.entry.id parent.entry.ty.now parent.entry.members.now index) }
 {
-    match members.get(index) {
-        Some(member) => spot_at_member(alloc, local, from, parent, ty, index, &member),
+    match parent.members.get(index) {
+        Some(member) => spot_at_member(alloc, local, from, parent, index, &member),
         None => {
             let place = path_words(alloc, request.type_name, from.steps.as_slice())?;
-            let len = members.len();
+            let len = parent.members.len();
             invalid_access_index(alloc, request.access, place, index, len, "members")
         }
     }
@@ -173,7 +182,12 @@ fn part_step(
     let type_id = local.resolve_type(from.type_id)?;
     let ty = local.type_by_id(type_id)?;
     if let Some(members) = ty.members() {
-        return into_members(alloc, local, request, from, type_id, &ty, &members, part);
+        let parent = ParentType {
+            id: type_id,
+            ty: &ty,
+            members: &members,
+        };
+        return into_members(alloc, local, request, from, parent, part);
     }
     if let Some(array) = ty.array() {
         return into_array(alloc, local, request, from, array, part);

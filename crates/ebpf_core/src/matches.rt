@@ -1,4 +1,4 @@
-//! The candidates that a local path fits, and what a record learns of them.
+//! The candidates that a local path fits, and the values of a record in them.
 
 ghost use Rattle.std.specs.Prelude.{◌≡◌, [], unwrap_or, Err};
 ghost use Rattle.std.specs.Result.{result_ok};
@@ -15,19 +15,19 @@ use crate::paths::NamedPath;
 use ebpf_base::{Items, Text};
 use ebpf_btf::{Btf, BtfError, BtfType};
 use ebpf_core_candidates::types_are_compatible;
-use ebpf_core_places::{Place, PlaceFault, Step, place_in};
+use ebpf_core_places::{FieldPlace, PlaceFault, Step, place_in};
 use ebpf_ext::RelocationKind;
 use std::alloc::Global;
 
-/// What a path leads to in a type that matches.
+/// The end of a path in a type that matches.
 #[derive(Clone, Copy)]
-pub enum Found {
+pub enum FoundMatch {
     /// The type as a whole.
     WholeType,
     /// A variant with its value.
     Variant { value: u64 },
     /// A field.
-    Field { place: Place },
+    Field { place: FieldPlace },
 }
 
 /// A candidate that matches.
@@ -35,8 +35,8 @@ pub enum Found {
 pub struct Match {
     /// The candidate's id.
     pub candidate: u32,
-    /// What the path leads to there.
-    pub found: Found,
+    /// The end of the path in the candidate.
+    pub found: FoundMatch,
 }
 
 /// The name of the type with an id.
@@ -77,14 +77,14 @@ fn too_nested_in(
     alloc: Global,
     target: &Btf,
     candidate: u32,
-) -> Result<Option<Found>, RelocationError>
+) -> Result<Option<FoundMatch>, RelocationError>
     ensures { Tells result (by_place target.now candidate (Err NestingLevel)) }
 {
     let name = type_name_at(alloc, target, candidate)?;
     too_nested(alloc, name.as_str())
 }
 
-/// Whether a field path leads anywhere in a candidate.
+/// The field that a path leads to in a candidate, if any.
 #[tactic(auto, using(crate::proofs::Refusals::place_found, crate::proofs::Refusals::place_missing, crate::proofs::Refusals::place_nested, crate::proofs::Refusals::place_refused))]
 fn field_found(
     alloc: Global,
@@ -92,18 +92,18 @@ fn field_found(
     target: &Btf,
     candidate: u32,
     steps: &[Step],
-) -> Result<Option<Found>, RelocationError>
+) -> Result<Option<FoundMatch>, RelocationError>
     ensures { Tells result (by_place target.now candidate (place_of local.now target.now candidate steps.now)) }
 {
     match place_in(local, target, candidate, steps) {
-        Ok(Some(place)) => Ok(Some(Found::Field { place })),
+        Ok(Some(place)) => Ok(Some(FoundMatch::Field { place })),
         Ok(None) => Ok(None),
         Err(PlaceFault::NestingLevel) => too_nested_in(alloc, target, candidate),
         Err(PlaceFault::Btf(error)) => Err(RelocationError::from(error)),
     }
 }
 
-/// What a path of the local type `local_id` leads to in a candidate.
+/// The end of a path of the local type `local_id` in a candidate.
 #[tactic(auto, unfolding(crate::specs::Outcomes::found_at_candidate))]
 fn found_at_candidate(
     alloc: Global,
@@ -112,18 +112,18 @@ fn found_at_candidate(
     local_id: u32,
     path: &NamedPath,
     candidate: u32,
-) -> Result<Option<Found>, RelocationError>
+) -> Result<Option<FoundMatch>, RelocationError>
     ensures { Tells result (found_at_candidate local.now target.now local_id path.now candidate) }
 {
     match path {
         NamedPath::WholeType => {
             if types_are_compatible(local, local_id, target, candidate)? {
-                return Ok(Some(Found::WholeType));
+                return Ok(Some(FoundMatch::WholeType));
             }
             Ok(None)
         }
         NamedPath::Variant { name } => match variant_in(target, name.as_str(), candidate)? {
-            Some(value) => Ok(Some(Found::Variant { value })),
+            Some(value) => Ok(Some(FoundMatch::Variant { value })),
             None => Ok(None),
         },
         NamedPath::Field { steps, .. } => {
@@ -158,7 +158,7 @@ pub fn matches_among(
     Ok(matches)
 }
 
-/// What a match gives.
+/// The value of a match.
 #[derive(Clone, Copy)]
 pub struct MatchValue {
     /// The candidate's id.
@@ -171,7 +171,7 @@ pub struct MatchValue {
     pub loaded: Option<LoadedField>,
 }
 
-/// A number of a type or a variant.
+/// The value of a match of a type or a variant.
 fn match_of_number(candidate: u32, number: u64) -> MatchValue
     ensures { result ≡ match_of_number candidate number }
 {
@@ -183,7 +183,7 @@ fn match_of_number(candidate: u32, number: u64) -> MatchValue
     }
 }
 
-/// What a kind asks of a type.
+/// The number of a type that a kind asks for.
 fn type_value(target: &Btf, kind: RelocationKind, candidate: u32) -> Result<u64, BtfError>
     ensures { result ≡ type_value target.now kind candidate }
 {
@@ -194,7 +194,7 @@ fn type_value(target: &Btf, kind: RelocationKind, candidate: u32) -> Result<u64,
     }
 }
 
-/// What a kind asks of a variant.
+/// The number of a variant that a kind asks for.
 fn variant_value(kind: RelocationKind, value: u64) -> u64
     ensures { result ≡ variant_value kind value }
 {
@@ -204,8 +204,8 @@ fn variant_value(kind: RelocationKind, value: u64) -> u64
     }
 }
 
-/// What a kind asks of a field, where it can be had.
-fn field_in(target: &Btf, kind: RelocationKind, candidate: u32, place: Place) -> MatchValue
+/// The value of a field that a kind asks for, where there is one.
+fn field_in(target: &Btf, kind: RelocationKind, candidate: u32, place: FieldPlace) -> MatchValue
     ensures { result ≡ field_in candidate place.bits (result_ok (field_value target.now kind place)) }
 {
     let value = field_value(target, kind, place).ok();
@@ -217,7 +217,7 @@ fn field_in(target: &Btf, kind: RelocationKind, candidate: u32, place: Place) ->
     }
 }
 
-/// What a match gives. `BtfError` where the size of a type is asked that has none.
+/// The value of a match. `BtfError` where the kind asks for the size of a type that has none.
 #[tactic(auto, unfolding(crate::specs::Outcomes::match_value))]
 fn match_value(
     target: &Btf,
@@ -227,19 +227,19 @@ fn match_value(
     ensures { Tells result (match_value target.now kind found) }
 {
     match found.found {
-        Found::WholeType => Ok(match_of_number(
+        FoundMatch::WholeType => Ok(match_of_number(
             found.candidate,
             type_value(target, kind, found.candidate)?,
         )),
-        Found::Variant { value } => Ok(match_of_number(
+        FoundMatch::Variant { value } => Ok(match_of_number(
             found.candidate,
             variant_value(kind, value),
         )),
-        Found::Field { place } => Ok(field_in(target, kind, found.candidate, place)),
+        FoundMatch::Field { place } => Ok(field_in(target, kind, found.candidate, place)),
     }
 }
 
-/// What all matches give, in order.
+/// The values of all matches, in order.
 #[tactic(auto, using(crate::proofs::LocalSides::each_more, crate::proofs::LocalSides::each_fault, crate::proofs::LocalSides::each_end, crate::proofs::Refusals::also))]
 pub fn match_values(
     alloc: Global,

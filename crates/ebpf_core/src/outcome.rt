@@ -1,4 +1,4 @@
-//! What a record comes to.
+//! The outcome of a record over its candidates.
 
 ghost use Rattle.std.specs.Prelude.{◌≡◌, IfErr, MatchBool, ⊤};
 ghost use Rattle.ebpf_core.specs.Answers.{Tells, without_texts, is_record_memory};
@@ -13,11 +13,11 @@ use crate::matches::{MatchValue, match_values, matches_among, type_name_at};
 use crate::paths::{LocalPath, NamedPath};
 use ebpf_base::{Items, Text};
 use ebpf_btf::Btf;
-use ebpf_core_places::{Place, Step};
+use ebpf_core_places::{FieldPlace, Step};
 use ebpf_ext::{Relocation, RelocationKind};
 use std::alloc::Global;
 
-/// What a record comes to.
+/// The outcome of a record.
 #[derive(Clone, Copy, Debug, PartialEq, Eq)]
 pub struct Outcome {
     /// The number that the instruction is to carry. None: there is none, and the instruction is to fail where it is
@@ -29,7 +29,7 @@ pub struct Outcome {
     pub target: Option<LoadedField>,
 }
 
-/// What stands where nothing matches: 0 where it is asked whether something is there, else no value.
+/// The value where nothing matches: 0 where the record asks whether something is there, else none.
 fn without_match(kind: RelocationKind) -> Option<u64>
     ensures { result ≡ without_match kind }
 {
@@ -41,14 +41,14 @@ fn without_match(kind: RelocationKind) -> Option<u64>
     }
 }
 
-/// What is loaded of the local field at a place.
+/// The load of the local field at a place.
 fn field_loaded(
     alloc: Global,
     local: &Btf,
     relocation: &Relocation,
     type_name: &str,
     steps: &[Step],
-    place: Place,
+    place: FieldPlace,
 ) -> Result<Option<LoadedField>, RelocationError>
     ensures { Tells result (loaded_by relocation.now.number (field_value local.now relocation.now.kind place)) }
 {
@@ -68,8 +68,12 @@ fn field_loaded(
     }
 }
 
-/// What is loaded of the local field. `InvalidRelocationKindForType` where the record's kind can't be asked of it,
-/// `BtfError` where its size or container is missing or a shift is negative.
+/// The load of the local field.
+///
+/// # Errors
+///
+/// - `InvalidRelocationKindForType`: the record's kind can't be asked of the field.
+/// - `BtfError`: the field's size or container is missing, or a shift is negative.
 #[tactic(auto, unfolding(crate::specs::Outcomes::local_loaded))]
 fn local_loaded(
     alloc: Global,
@@ -122,7 +126,7 @@ fn differing_names(
     Ok(names)
 }
 
-/// What matches come to: the first's value, where all others agree with it.
+/// The outcome of matches: the value of the first, where all others agree with it.
 #[tactic(auto, unfolding(crate::specs::Outcomes::outcome_of_matches))]
 fn conclude(
     alloc: Global,
@@ -156,7 +160,7 @@ fn conclude(
     })
 }
 
-/// What a record comes to over its candidates.
+/// The outcome of a record over its candidates.
 #[tactic(auto, unfolding(crate::specs::Outcomes::outcome_among))]
 fn outcome_by_matches(
     alloc: Global,
@@ -189,15 +193,20 @@ fn outcome_by_matches(
     )
 }
 
-/// What a record comes to over its candidates, the target types that its local type may stand for, in the order of
+/// The outcome of a record over its candidates, the target types that its local type may stand for, in the order of
 /// their ids.
 ///
-/// Faults in this order: of matching, candidate by candidate: `BtfError` of a type, name or size that is needed, and
-/// `MaximumNestingLevelReached` with the candidate's name; of the local field, also where nothing matches:
-/// `InvalidRelocationKindForType` where the kind can't be asked of it, `BtfError` where its size or container is
-/// missing or a shift is negative; `BtfError` of a match without a size where that is asked; `ConflictingCandidates`
-/// where a later match lies at other bits than the first or has another value. `OutOfMemory` only where memory was
-/// refused.
+/// # Errors
+///
+/// The first of these, in this order:
+///
+/// - Of matching, candidate by candidate: `BtfError` of a type, name or size that is needed, and
+///   `MaximumNestingLevelReached` with the candidate's name.
+/// - Of the local field, also where nothing matches: `InvalidRelocationKindForType` where the kind can't be asked of the
+///   field, `BtfError` where its size or container is missing or a shift is negative.
+/// - `BtfError`: a match has no size, and the record asks for it.
+/// - `ConflictingCandidates`: a later match lies at other bits than the first or has another value.
+/// - `OutOfMemory`: memory is refused.
 pub fn outcome_among(
     alloc: Global,
     local: &Btf,

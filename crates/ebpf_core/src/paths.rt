@@ -1,9 +1,9 @@
-//! What a record says of its local type.
+//! The local side of a record: its type, and the meaning of its access string there.
 
 ghost use Rattle.std.specs.Prelude.{◌≡◌, ◌==◌, IfOk, map};
 ghost use Rattle.std.specs.List.{slice_split};
 ghost use Rattle.ebpf_core.specs.Answers.{Tells, TellsSo};
-ghost use Rattle.ebpf_core.specs.LocalPaths.{LocalSideIs, local_path, lone, named_variant, path_for, type_path, variant_path, basis_of, accessors, all_of, accessor_of, accessors_of};
+ghost use Rattle.ebpf_core.specs.LocalPaths.{LocalSideIs, local_path, only_accessor, named_variant, path_for, type_path, variant_path, basis_of, accessors, all_of, accessor_of, accessors_of};
 
 use crate::error::{
     RelocationError, Request, invalid_access_index, invalid_access_string, invalid_kind,
@@ -12,19 +12,35 @@ use crate::error::{
 use crate::local_walk::field_path;
 use ebpf_base::{Items, Text};
 use ebpf_btf::{Btf, BtfType, BtfVariant};
-use ebpf_core_places::{Place, Step};
+use ebpf_core_places::{FieldPlace, Step};
 use ebpf_ext::{Relocation, RelocationKind};
 use std::alloc::{AllocError, Global};
 
-/// What a record asks about, by the names that its local type has.
+/// The subject of a record, by the names that its local type has.
 #[derive(Debug, Drop)]
 pub enum NamedPath {
     /// The type as a whole.
     WholeType,
     /// The variant of an enumeration with a name.
-    Variant { name: Text },
+    Variant {
+        name: Text,
+    },
     /// The field that the steps lead to, which lies at `place` in the local type.
-    Field { steps: Items<Step>, place: Place },
+    Field {
+        steps: Items<Step>,
+        place: FieldPlace,
+    },
+}
+
+/// The sort of a record's subject.
+#[derive(Clone, Copy)]
+pub enum RelocationBasis {
+    /// A field: a member or an element.
+    Field,
+    /// A type as a whole.
+    WholeType,
+    /// A variant of an enumeration.
+    Variant,
 }
 
 /// The local side of a record.
@@ -32,13 +48,13 @@ pub enum NamedPath {
 pub struct LocalPath {
     /// The name of the local type.
     pub type_name: Text,
-    /// What is asked about in it.
+    /// The subject of the record in the local type.
     pub path: NamedPath,
 }
 
 /// The only accessor.
-fn lone(parts: &[usize]) -> Option<usize>
-    ensures { result ≡ lone parts.now }
+fn only_accessor(parts: &[usize]) -> Option<usize>
+    ensures { result ≡ only_accessor parts.now }
 {
     match parts {
         [part] => Some(*part),
@@ -50,7 +66,7 @@ fn lone(parts: &[usize]) -> Option<usize>
 fn type_path(alloc: Global, access: &str, parts: &[usize]) -> Result<NamedPath, RelocationError>
     ensures { Tells result (type_path access.now parts.now) }
 {
-    if lone(parts) == Some(0) {
+    if only_accessor(parts) == Some(0) {
         return Ok(NamedPath::WholeType);
     }
     invalid_access_string(alloc, access)
@@ -91,7 +107,7 @@ fn variant_path(
             kind_words(ty.kind()),
         );
     };
-    let Some(part) = lone(parts) else {
+    let Some(part) = only_accessor(parts) else {
         return invalid_access_string(alloc, request.access);
     };
     match ty.variant(part) {
@@ -123,7 +139,7 @@ fn path_for(
     }
 }
 
-/// The name of a record's local type, and what the access string means there.
+/// The name of a record's local type, and the meaning of the access string there.
 #[tactic(auto, unfolding(crate::specs::LocalPaths::local_path))]
 fn local_side(
     alloc: Global,
@@ -150,16 +166,23 @@ fn local_side(
     })
 }
 
-/// The local side of a record: the name of its type, and what its access string means there.
+/// The local side of a record: the name of its type, and the meaning of its access string there.
 ///
-/// Faults in this order: `BtfError` of the type, its name or the string; `InvalidAccessString` where a piece between
-/// colons is no `usize`, `MaximumNestingLevelReached` where there are more than 64; `BtfError` where the type can't
-/// be resolved. Then, of a record on a type, `InvalidAccessString` where the string isn't one 0. On a variant
-/// `InvalidRelocationKindForType` where the type is no enumeration, `InvalidAccessString` where there is more than
-/// one part, `InvalidAccessIndex` where there is no such variant, `BtfError` of its name. On a field, part by part,
-/// `BtfError` of a size, a type or a name, or where the field lies past 4,294,967,295 bits; `InvalidAccessIndex`
-/// past the members or elements; `InvalidRelocationKindForType` in a type that has neither. `OutOfMemory` only where
-/// memory was refused.
+/// # Errors
+///
+/// The first of these, in this order:
+///
+/// - `BtfError`: the type, its name or the string can't be read.
+/// - `InvalidAccessString`: a piece between colons is no `usize`.
+/// - `MaximumNestingLevelReached`: there are more than 64 pieces.
+/// - `BtfError`: the type can't be resolved.
+/// - Of a record on a type: `InvalidAccessString` where the string isn't one 0.
+/// - Of a record on a variant: `InvalidRelocationKindForType` where the type is no enumeration, `InvalidAccessString`
+///   where there is more than one part, `InvalidAccessIndex` where there is no such variant, `BtfError` of its name.
+/// - Of a record on a field, part by part: `BtfError` of a size, a type or a name, or where the field lies past
+///   4,294,967,295 bits; `InvalidAccessIndex` past the members or elements; `InvalidRelocationKindForType` in a type
+///   that has neither.
+/// - `OutOfMemory`: memory is refused.
 pub fn local_path(
     alloc: Global,
     local: &Btf,
@@ -215,10 +238,13 @@ fn accessors_of(alloc: Global, access: &str) -> Result<Option<Items<usize>>, All
     all_parts(alloc, pieces.as_slice())
 }
 
-/// The accessors of an access string. The errors speak of it and of the name of the local type.
+/// The accessors of an access string. The errors name the string and the local type.
 ///
-/// `InvalidAccessString` where a piece between colons is no `usize`; `MaximumNestingLevelReached` where there are
-/// more than 64 accessors; `OutOfMemory` where memory is refused.
+/// # Errors
+///
+/// - `InvalidAccessString`: a piece between colons is no `usize`.
+/// - `MaximumNestingLevelReached`: there are more than 64 accessors.
+/// - `OutOfMemory`: memory is refused.
 pub fn accessors(
     alloc: Global,
     type_name: &str,
@@ -235,18 +261,7 @@ pub fn accessors(
     Ok(parts)
 }
 
-/// What a record asks about.
-#[derive(Clone, Copy)]
-pub enum RelocationBasis {
-    /// A field: a member or an element.
-    Field,
-    /// A type as a whole.
-    WholeType,
-    /// A variant of an enumeration.
-    Variant,
-}
-
-/// What the records of a kind ask about.
+/// The sort of subject that the records of a kind have.
 pub fn basis_of(kind: RelocationKind) -> RelocationBasis
     ensures { result ≡ basis_of kind }
 {

@@ -21,6 +21,16 @@ use std::alloc::{AllocError, Global};
 use std::collections::BTreeMap;
 use std::marker::Model;
 
+/// The question of a record, by which its outcome is cached: its type and its access string, and the number of its kind.
+pub type Question = ((u32, u32), u32);
+
+/// A local type with its name.
+#[derive(Clone, Copy)]
+struct NamedType<'a> {
+    ty: &'a BtfType<'a>,
+    name: &'a str,
+}
+
 /// Whether the local id of a type is asked for, which is not searched.
 fn is_local(kind: RelocationKind) -> bool
     ensures { result ≡ is_local kind }
@@ -81,8 +91,8 @@ fn ids_of_both(
     }
 }
 
-/// What a record comes to over the target types of the kind and name of a local type. They are looked for in an index
-/// that has them.
+/// The outcome of a record over the target types of the kind and name of a local type, looked for in an index that has
+/// them.
 #[tactic(auto, unfolding(crate::specs::Searches::candidates_named))]
 fn outcome_named(
     alloc: Global,
@@ -90,18 +100,17 @@ fn outcome_named(
     index: &KindsIndex<'_>,
     relocation: &Relocation,
     path: &LocalPath,
-    ty: &BtfType<'_>,
-    name: &str,
+    searched: NamedType<'_>,
 ) -> Result<Outcome, RelocationError>
-    requires first { has_named index.now (searched_kinds ty.now).0 name.now ≡ true }
-    requires second { has_named index.now (searched_kinds ty.now).1 name.now ≡ true }
-    ensures { Tells result (if_ok (of_types (candidates_named index.now.info ty.now name.now)) (outcome_among local.now index.now.info relocation.now path.now)) }
+    requires first { has_named index.now (searched_kinds searched.entry.ty.now).0 searched.entry.name.now ≡ true }
+    requires second { has_named index.now (searched_kinds searched.entry.ty.now).1 searched.entry.name.now ≡ true }
+    ensures { Tells result (if_ok (of_types (candidates_named index.now.info searched.entry.ty.now searched.entry.name.now)) (outcome_among local.now index.now.info relocation.now path.now)) }
 {
-    if was_enum64(ty) {
-        let ids = ids_of_both(alloc, index, BtfKind::Union, BtfKind::Enum64, name)?;
+    if was_enum64(searched.ty) {
+        let ids = ids_of_both(alloc, index, BtfKind::Union, BtfKind::Enum64, searched.name)?;
         return outcome_among(alloc, local, index.btf(), relocation, path, ids.as_slice());
     }
-    let found = ids_of_kind(index, ty.kind(), name)?;
+    let found = ids_of_kind(index, searched.ty.kind(), searched.name)?;
     outcome_among(alloc, local, index.btf(), relocation, path, found)
 }
 
@@ -110,18 +119,17 @@ fn outcome_named(
 fn ids_named(
     alloc: Global,
     index: &KindsIndex<'_>,
-    ty: &BtfType<'_>,
-    name: &str,
+    searched: NamedType<'_>,
 ) -> Result<Items<u32>, BtfError>
-    requires first { has_named index.now (searched_kinds ty.now).0 name.now ≡ true }
-    requires second { has_named index.now (searched_kinds ty.now).1 name.now ≡ true }
-    ensures { Gives is_btf_memory result (candidates_named index.now.info ty.now name.now) }
+    requires first { has_named index.now (searched_kinds searched.entry.ty.now).0 searched.entry.name.now ≡ true }
+    requires second { has_named index.now (searched_kinds searched.entry.ty.now).1 searched.entry.name.now ≡ true }
+    ensures { Gives is_btf_memory result (candidates_named index.now.info searched.entry.ty.now searched.entry.name.now) }
 {
-    if was_enum64(ty) {
-        let ids = ids_of_both(alloc, index, BtfKind::Union, BtfKind::Enum64, name)?;
+    if was_enum64(searched.ty) {
+        let ids = ids_of_both(alloc, index, BtfKind::Union, BtfKind::Enum64, searched.name)?;
         return Ok(Items::from_vec(ids));
     }
-    let ids = ids_of_kind(index, ty.kind(), name)?;
+    let ids = ids_of_kind(index, searched.ty.kind(), searched.name)?;
     Ok(Items::from_vec(Vec::from_slice(alloc, ids)?))
 }
 
@@ -141,7 +149,7 @@ fn index_of<'a>(
     TypeIndex::of_names(alloc, target, &[first, second], local)
 }
 
-/// The place of the first index that has the types of two kinds and of a name.
+/// The position of the first index that has the types of two kinds and of a name.
 fn index_with(
     indices: &[KindsIndex<'_>],
     first: BtfKind,
@@ -159,24 +167,23 @@ fn index_with(
     None
 }
 
-/// The place of an index that has the target types of the kind and name of a local type. Where there is none it is made.
+/// The position of an index that has the target types of the kind and name of a local type. A missing one is made.
 fn index_for<'a>(
     alloc: Global,
     indices: &mut Vec<KindsIndex<'a>>,
     local: &Btf,
     target: &'a Btf,
-    ty: &BtfType<'_>,
-    name: &str,
+    searched: NamedType<'_>,
 ) -> Result<usize, BtfError>
     requires types { All (λ index. index.info ≡ target.now) indices.old.items }
-    requires named { IsLocalType local.now ty.now name.now }
+    requires named { IsLocalType local.now searched.entry.ty.now searched.entry.name.now }
     ensures types { All (λ index. index.info ≡ target.now) indices.new.items }
     ensures place { IfOk result (λ n. n < length indices.new.items) }
-    ensures names { IfOk result (λ n. HasNameAt indices.new.items n (searched_kinds ty.now).0 (searched_kinds ty.now).1 name.now) }
+    ensures names { IfOk result (λ n. HasNameAt indices.new.items n (searched_kinds searched.entry.ty.now).0 (searched_kinds searched.entry.ty.now).1 searched.entry.name.now) }
     ensures memory { IfErr result (λ e. e ≡ OutOfMemory) }
 {
-    let (first, second) = searched_kinds(ty);
-    if let Some(n) = index_with(indices, first, second, name) {
+    let (first, second) = searched_kinds(searched.ty);
+    if let Some(n) = index_with(indices, first, second, searched.name) {
         return Ok(n);
     }
     let index = index_of(alloc, local, target, first, second)?;
@@ -240,8 +247,11 @@ impl<'a> CoreSearch<'a> {
 
     /// The ids of the kernel's types that a local type may stand for, in increasing order: those of its kind and name.
     ///
-    /// `UnknownBtfType` where there is no such local type; `InvalidStringOffset` where its name or that of a kernel's
-    /// type of its kind can't be read; `OutOfMemory` where memory is refused.
+    /// # Errors
+    ///
+    /// - `UnknownBtfType`: there is no such local type.
+    /// - `InvalidStringOffset`: its name, or that of a kernel's type of its kind, can't be read.
+    /// - `OutOfMemory`: memory is refused.
     pub fn candidates(&mut self, alloc: Global, type_id: u32) -> Result<Items<u32>, BtfError>
         ensures ids { Gives is_btf_memory result (candidates_for self.old.local self.old.target type_id) }
         ensures stays { self.new ≡ self.old }
@@ -249,12 +259,15 @@ impl<'a> CoreSearch<'a> {
         let (local, target) = (self.local, self.target);
         let ty = local.type_by_id(type_id)?;
         let name = local.type_name(&ty)?;
-        let name = name.as_str();
-        let n = index_for(alloc, &mut self.indices, local, target, &ty, name)?;
-        ids_named(alloc, &self.indices[n], &ty, name)
+        let searched = NamedType {
+            ty: &ty,
+            name: name.as_str(),
+        };
+        let n = index_for(alloc, &mut self.indices, local, target, searched)?;
+        ids_named(alloc, &self.indices[n], searched)
     }
 
-    /// What a record comes to over the kernel's types that its local type may stand for.
+    /// The outcome of a record over the kernel's types that its local type may stand for.
     fn search(
         &mut self,
         alloc: Global,
@@ -267,12 +280,15 @@ impl<'a> CoreSearch<'a> {
         let (local, target) = (self.local, self.target);
         let ty = local.type_by_id(relocation.type_id)?;
         let name = local.type_name(&ty)?;
-        let name = name.as_str();
-        let n = index_for(alloc, &mut self.indices, local, target, &ty, name)?;
-        outcome_named(alloc, local, &self.indices[n], relocation, path, &ty, name)
+        let searched = NamedType {
+            ty: &ty,
+            name: name.as_str(),
+        };
+        let n = index_for(alloc, &mut self.indices, local, target, searched)?;
+        outcome_named(alloc, local, &self.indices[n], relocation, path, searched)
     }
 
-    /// What a record comes to, whatever is cached.
+    /// The outcome of a record, whatever is cached.
     fn find(&mut self, alloc: Global, relocation: &Relocation) -> Result<Outcome, RelocationError>
         ensures outcome { Tells result (outcome_of self.old.local self.old.target relocation.now) }
         ensures stays { self.new ≡ self.old }
@@ -297,7 +313,7 @@ impl<'a> CoreSearch<'a> {
         Ok(())
     }
 
-    /// What a record comes to: the outcome that is cached, or what a search finds.
+    /// The outcome of a record: the one that is cached, or else the one that a search finds.
     fn cached_outcome(
         &mut self,
         alloc: Global,
@@ -314,7 +330,7 @@ impl<'a> CoreSearch<'a> {
         Ok(outcome)
     }
 
-    /// What a record comes to.
+    /// The outcome of a record.
     pub fn outcome(
         &mut self,
         alloc: Global,
@@ -327,9 +343,6 @@ impl<'a> CoreSearch<'a> {
         self.cached_outcome(alloc, relocation)
     }
 }
-
-/// What a record asks, by which what it comes to is kept: its type and its access string, and the number of its kind.
-pub type Question = ((u32, u32), u32);
 
 /// The question of a record.
 pub fn question_of(relocation: &Relocation) -> Question

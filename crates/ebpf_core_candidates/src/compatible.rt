@@ -131,9 +131,14 @@ fn types_fit(
 /// a PTR and a FLOAT a FLOAT, of whatever sizes; INTs fit where both begin at bit 0; an ENUM, ENUM64 or FWD fits
 /// where the names up to the first `___` are equal or one is empty; an ARRAY where its elements do. Nothing else fits.
 ///
-/// `UnknownBtfType` and `MaximumTypeDepth` as in `resolve_type`; `MaximumTypeDepth` of `local_id` where it would be
-/// the 33rd time to go from ARRAYs to their elements; `InvalidStringOffset` where a name can't be read;
-/// `OutOfMemory` where the local name is not UTF-8 and memory for a copy is refused. A fault of the local side comes first.
+/// # Errors
+///
+/// A fault of the local side comes first.
+///
+/// - `UnknownBtfType`, `MaximumTypeDepth`: as in `resolve_type`.
+/// - `MaximumTypeDepth` of `local_id`: ARRAYs lead to their elements for the 33rd time.
+/// - `InvalidStringOffset`: a name can't be read.
+/// - `OutOfMemory`: the local name is not UTF-8, and memory for a copy is refused.
 #[tactic(auto, using(crate::proofs::Comparisons::fields_local_fault, crate::proofs::Comparisons::fields_target_fault, crate::proofs::Comparisons::fields_here, crate::proofs::Comparisons::fields_next, crate::proofs::Comparisons::fields_over))]
 pub fn fields_are_compatible(
     local: &Btf,
@@ -164,7 +169,7 @@ const TYPE_LEVELS: u32 = 33;
 /// How many pairs may be met, the one given among them.
 const TYPE_PAIRS: u32 = 1_048_576;
 
-/// What a comparison found.
+/// The result of a comparison of two types.
 #[derive(Clone, Copy)]
 pub enum Verdict {
     /// The types are alike, and so many pairs may still be met.
@@ -292,9 +297,11 @@ fn all_alike(sides: Sides<'_>, pair: Pair) -> Result<bool, BtfError>
 /// FUNC_PROTOs where they have as many parameters, each pair of parameters is alike in order, and then the results
 /// are. Nothing else is alike.
 ///
-/// `UnknownBtfType` and `MaximumTypeDepth` as in `resolve_type`, where a pair is met, and of the local side first;
-/// `MaximumTypeDepth` of `local_id` at a pair more than 32 levels below the two types, and at pair 1,048,577, the two
-/// types being the first.
+/// # Errors
+///
+/// - `UnknownBtfType`, `MaximumTypeDepth`: as in `resolve_type`, where a pair is met, and of the local side first.
+/// - `MaximumTypeDepth` of `local_id`: a pair is more than 32 levels below the two types, or is pair 1,048,577, the two
+///   types being the first.
 pub fn types_are_compatible(
     local: &Btf,
     local_id: u32,

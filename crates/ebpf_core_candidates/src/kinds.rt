@@ -47,7 +47,7 @@ pub fn kinds_of(list: &[BtfKind]) -> SomeKinds
     kinds
 }
 
-/// Whether a kind is one of some.
+/// Whether a kind is among some kinds.
 pub fn has_kind(kinds: &SomeKinds, kind: BtfKind) -> bool
     requires { length kinds.now ≡ 20 }
     ensures { result ≡ has_kind kinds.now kind }
@@ -58,7 +58,7 @@ pub fn has_kind(kinds: &SomeKinds, kind: BtfKind) -> bool
 /// For each kind, at its number, the ids of the types that have no name.
 pub type AnonymousTypes = Vec<Items<u32>>;
 
-/// No types.
+/// The empty lists of anonymous types.
 pub fn no_anonymous_types(alloc: Global) -> Result<AnonymousTypes, AllocError>
     ensures kinds { IfOk result (λ lists. length lists.items ≡ 20) }
     ensures empty { IfOk result (λ lists. (k : BtfKind) → slice_index_or lists.items (kind_number k) [] ≡ []) }
@@ -104,7 +104,7 @@ impl UnreadableName {
 /// For each kind, at its number, the first type whose name can't be read.
 pub type UnreadableNames = [Option<UnreadableName>; KINDS];
 
-/// Keeps a type, where it is the first of its kind.
+/// Keeps an unreadable name, where its type is the first of its kind.
 pub fn keep_first(names: &mut UnreadableNames, kind: BtfKind, name: UnreadableName)
     requires { length names.old ≡ 20 }
     ensures kinds { length names.new ≡ 20 }
@@ -117,7 +117,7 @@ pub fn keep_first(names: &mut UnreadableNames, kind: BtfKind, name: UnreadableNa
     }
 }
 
-/// The one that has the lower id.
+/// The unreadable name of the type with the lower id.
 pub fn lower(
     first: Option<UnreadableName>,
     second: Option<UnreadableName>,

@@ -9,7 +9,7 @@ use std::hash::{FoldHasher, Hasher};
 /// How many hashes are told apart.
 const MARKS: usize = 16_384;
 
-/// 32 bits that follow from a name.
+/// The hash of a name, in 32 bits.
 #[tactic(auto, unfolding(crate::specs::Candidates::name_hash))]
 pub fn name_hash(name: &[u8]) -> u32
     ensures { result ≡ name_hash name.now }

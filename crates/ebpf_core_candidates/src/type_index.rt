@@ -24,9 +24,9 @@ use ebpf_btf::{Btf, BtfError, BtfKind, essential_name};
 use std::alloc::{AllocError, Global};
 use std::marker::Model;
 
-/// What one pass over the types finds.
+/// The types of some kinds that one pass finds: rows of those with marked names, anonymous types, and unreadable names.
 #[derive(Drop)]
-struct Found {
+struct FoundTypes {
     rows: Vec<TypeRow>,
     anonymous: AnonymousTypes,
     unreadable: UnreadableNames,
@@ -39,7 +39,7 @@ fn read_rows(
     names: &TypeNames<'_>,
     kinds: &SomeKinds,
     marks: &[bool],
-) -> Result<Found, AllocError>
+) -> Result<FoundTypes, AllocError>
     requires kinds { length kinds.now ≡ 20 }
     ensures rows { IfOk result (λ found. found.rows.items ≡ rows kinds.now marks.now names.now) }
     ensures anonymous { IfOk result (λ found. (kind : BtfKind) → has_kind kinds.now kind ≡ true → slice_index_or found.anonymous.items (kind_number kind) [] ≡ candidates names.now kind []) }
@@ -77,7 +77,7 @@ fn read_rows(
             id: id as u32,
         })?;
     }
-    Ok(Found {
+    Ok(FoundTypes {
         rows,
         anonymous,
         unreadable,
@@ -104,38 +104,6 @@ fn ids_of_rows(alloc: Global, rows: &[TypeRow]) -> Result<Vec<u32>, AllocError>
         ids.push(row.id)?;
     }
     Ok(ids)
-}
-
-/// The index of types of some kinds that have marked names.
-fn index_of<'a>(
-    alloc: Global,
-    btf: &'a Btf,
-    kinds: SomeKinds,
-    marks: Vec<bool>,
-) -> Result<KindsIndex<'a>, BtfError>
-    requires kinds { length kinds ≡ 20 }
-    ensures types { IfOk result (λ index. index.info ≡ btf.now) }
-    ensures kinds { IfOk result (λ index. index.kinds ≡ kinds) }
-    ensures marks { IfOk result (λ index. index.marks ≡ marks.items) }
-    ensures memory { IfErr result (λ e. e ≡ OutOfMemory) }
-{
-    let names = TypeNames::new(alloc, btf)?;
-    let Found {
-        mut rows,
-        anonymous,
-        unreadable,
-    } = read_rows(alloc, &names, &kinds, &marks)?;
-    sort_rows(&names, &mut rows)?;
-    let ids = ids_of_rows(alloc, &rows)?;
-    Ok(KindsIndex {
-        names,
-        kinds,
-        marks,
-        rows,
-        ids,
-        anonymous,
-        unreadable,
-    })
 }
 
 /// Types of some kinds by kind and name, the names without what follows three underscores: of all names, or of those
@@ -165,14 +133,14 @@ impl<'a> Model for KindsIndex<'a> {
 }
 
 impl<'a> KindsIndex<'a> {
-    /// The types that it was made for.
+    /// The types that the index was made for.
     pub fn btf(&self) -> &'a Btf
         ensures { result.now ≡ self.now.info }
     {
         self.names.btf()
     }
 
-    /// Whether it has the types of a kind and of a name.
+    /// Whether the index has the types of a kind and of a name.
     pub fn has(&self, kind: BtfKind, name: &str) -> bool
         ensures { result ≡ has_named self.now kind name.now }
     {
@@ -202,7 +170,7 @@ impl<'a> KindsIndex<'a> {
         &self.ids[start..end]
     }
 
-    /// The candidates of a kind and a name that it has.
+    /// The candidates of a kind and a name that the index has.
     #[tactic(auto, using(crate::proofs::Unnamed::fault_of_kind))]
     fn candidates_of(&self, kind: BtfKind, name: &str) -> Result<&[u32], BtfError>
         requires { has_named self.now kind name.now ≡ true }
@@ -215,7 +183,7 @@ impl<'a> KindsIndex<'a> {
         }
     }
 
-    /// The candidates of either of two kinds that it has, of a name that it has.
+    /// The candidates of a name and either of two kinds that the index has.
     #[tactic(auto, using(crate::proofs::Unnamed::fault_of_kinds, crate::proofs::CandidateLaws::union_candidates))]
     fn candidates_of_two(
         &self,
@@ -231,14 +199,11 @@ impl<'a> KindsIndex<'a> {
     {
         match lower(self.unreadable_of(first), self.unreadable_of(second)) {
             Some(unreadable) => Err(unreadable.fault()),
-            None => {
-                let ids = union(alloc, self.ids_of(first, name), self.ids_of(second, name))?;
-                Ok(ids)
-            }
+            None => Ok(union(alloc, self.ids_of(first, name), self.ids_of(second, name))?),
         }
     }
 
-    /// As `TypeIndex::candidates`. None of a kind or a name that it doesn't have.
+    /// As `TypeIndex::candidates`. None of a kind or a name that the index lacks.
     pub fn candidates(&self, kind: BtfKind, name: &str) -> Option<Result<&[u32], BtfError>>
         ensures has { is_some result ≡ has_named self.now kind name.now }
         ensures ids { ForSome result (λ found. IfOk found (λ ids. ids.now ≡ candidates self.now.info kind name.now)) }
@@ -250,7 +215,7 @@ impl<'a> KindsIndex<'a> {
         Some(self.candidates_of(kind, name))
     }
 
-    /// As `TypeIndex::candidates_of_both`. None where it doesn't have both kinds, or the name.
+    /// As `TypeIndex::candidates_of_both`. None where the index lacks a kind or the name.
     pub fn candidates_of_both(
         &self,
         alloc: Global,
@@ -267,6 +232,38 @@ impl<'a> KindsIndex<'a> {
         }
         Some(self.candidates_of_two(alloc, first, second, name))
     }
+}
+
+/// The index of types of some kinds that have marked names.
+fn index_of<'a>(
+    alloc: Global,
+    btf: &'a Btf,
+    kinds: SomeKinds,
+    marks: Vec<bool>,
+) -> Result<KindsIndex<'a>, BtfError>
+    requires kinds { length kinds ≡ 20 }
+    ensures types { IfOk result (λ index. index.info ≡ btf.now) }
+    ensures kinds { IfOk result (λ index. index.kinds ≡ kinds) }
+    ensures marks { IfOk result (λ index. index.marks ≡ marks.items) }
+    ensures memory { IfErr result (λ e. e ≡ OutOfMemory) }
+{
+    let names = TypeNames::new(alloc, btf)?;
+    let FoundTypes {
+        mut rows,
+        anonymous,
+        unreadable,
+    } = read_rows(alloc, &names, &kinds, &marks)?;
+    sort_rows(&names, &mut rows)?;
+    let ids = ids_of_rows(alloc, &rows)?;
+    Ok(KindsIndex {
+        names,
+        kinds,
+        marks,
+        rows,
+        ids,
+        anonymous,
+        unreadable,
+    })
 }
 
 /// Types by kind and name, the names without what follows three underscores.
@@ -292,7 +289,10 @@ impl<'a> Model for TypeIndex<'a> {
 
 impl<'a> TypeIndex<'a> {
     /// The index of some types: one pass over them, a sort, and a copy of each name that is not UTF-8.
-    /// `OutOfMemory` where memory is refused.
+    ///
+    /// # Errors
+    ///
+    /// - `OutOfMemory`: memory is refused.
     pub fn new(alloc: Global, btf: &'a Btf) -> Result<TypeIndex<'a>, BtfError>
         ensures types { IfOk result (λ index. index ≡ btf.now) }
         ensures memory { IfErr result (λ e. e ≡ OutOfMemory) }
@@ -301,22 +301,9 @@ impl<'a> TypeIndex<'a> {
         Ok(TypeIndex { index })
     }
 
-    /// The index of the types of some kinds: as `new`, but that types of other kinds are passed over.
-    pub fn of_kinds(
-        alloc: Global,
-        btf: &'a Btf,
-        kinds: &[BtfKind],
-    ) -> Result<KindsIndex<'a>, BtfError>
-        ensures types { IfOk result (λ index. index.info ≡ btf.now) }
-        ensures kinds { IfOk result (λ index. (kind : BtfKind) (name : List ℕ) → has_named index kind name ≡ is_among_kinds kinds.now kind) }
-        ensures memory { IfErr result (λ e. e ≡ OutOfMemory) }
-    {
-        index_of(alloc, btf, kinds_of(kinds), every_name(alloc))
-    }
-
-    /// The index of the types of some kinds that may stand for those of `local`: as `of_kinds`, but that types of other
-    /// names than those that types of `local` of these kinds have may be passed over. One pass over the types of
-    /// both, and a sort of those that are kept.
+    /// The index of the types of some kinds that may stand for those of `local`: as `new`, but types of other kinds are
+    /// passed over, and types of other names than those that types of `local` of these kinds have may be. One pass over
+    /// the types of both, and a sort of those that are kept.
     pub fn of_names(
         alloc: Global,
         btf: &'a Btf,
@@ -334,19 +321,14 @@ impl<'a> TypeIndex<'a> {
         index_of(alloc, btf, kinds, marks)
     }
 
-    /// The types that it was made for.
-    pub fn btf(&self) -> &'a Btf
-        ensures { result.now ≡ self.now }
-    {
-        self.index.btf()
-    }
-
     /// The ids, in increasing order, of the types of a kind whose name before the first three underscores equals
     /// that of `name`. Names are compared as `Btf::string_at` gives them. No memory is taken, and the cost grows
     /// by the logarithm of the number of types.
     ///
-    /// `InvalidStringOffset` where the name of a type of this kind can't be read, with the offset of the name that
-    /// has the lowest id; names of other kinds play no part.
+    /// # Errors
+    ///
+    /// - `InvalidStringOffset`: the name of a type of this kind can't be read. The offset is that of the type with the
+    ///   lowest id; names of other kinds play no part.
     pub fn candidates(&self, kind: BtfKind, name: &str) -> Result<&[u32], BtfError>
         ensures ids { IfOk result (λ ids. ids.now ≡ candidates self.now kind name.now) }
         ensures fault { fault_of result ≡ candidates_fault self.now kind }
@@ -357,8 +339,11 @@ impl<'a> TypeIndex<'a> {
     /// The ids of the types of either of two kinds with a name's essential part, lowest first: an enumeration of 64 bits
     /// may stand for an ENUM64 or a UNION.
     ///
-    /// `InvalidStringOffset` where the name of a type of either kind can't be read, with the offset of the name that
-    /// has the lowest id; `OutOfMemory` where memory for the list is refused.
+    /// # Errors
+    ///
+    /// - `InvalidStringOffset`: the name of a type of either kind can't be read. The offset is that of the type with
+    ///   the lowest id.
+    /// - `OutOfMemory`: memory for the list is refused.
     pub fn candidates_of_both(
         &self,
         alloc: Global,

@@ -49,7 +49,7 @@ fn odd_text_at(alloc: Global, btf: &Btf, offset: u32) -> Result<Option<Text>, Al
     }
 }
 
-/// That of the name of the type with an id.
+/// The text that the name of the type with an id is read as, where the name is not UTF-8.
 #[tactic(auto, using(crate::proofs::Names::odd_headed, crate::proofs::Names::odd_headless))]
 fn odd_at(alloc: Global, btf: &Btf, id: usize) -> Result<Option<Text>, AllocError>
     ensures { IfOk result (λ name. name ≡ odd_at btf.now id) }
@@ -60,7 +60,7 @@ fn odd_at(alloc: Global, btf: &Btf, id: usize) -> Result<Option<Text>, AllocErro
     }
 }
 
-/// These texts by the types' ids.
+/// The texts of the names that are not UTF-8, by the types' ids. Each name is looked at.
 fn gather_odd_names(alloc: Global, btf: &Btf) -> Result<ByOffset<Text>, AllocError>
     ensures { IfOk result (λ odd. (id : ℕ) → get odd id ≡ odd_at btf.now id) }
 {

@@ -9,12 +9,12 @@ use Rattle.ebpf_btf.specs.TypeInfo.{TypeInfo}
 use Rattle.ebpf_base.specs.Faults.{Gives, if_ok}
 use Rattle.ebpf_core_candidates.proofs.Refusals.{by_answer, by_test, matched}
 use Rattle.ebpf_core_places.specs.declared.places.PlaceFault.{PlaceFault}
-use Rattle.ebpf_core_places.specs.declared.places.Place.{Place}
+use Rattle.ebpf_core_places.specs.declared.places.FieldPlace.{FieldPlace}
 use Rattle.ebpf_core_places.specs.declared.search.FoundMember.{FoundMember}
 use Rattle.ebpf_core_places.specs.declared.places.Step.{Step}
 use Rattle.ebpf_core_places.specs.declared.places.Step.TheVariants.{Name, Index}
-use Rattle.ebpf_core_places.specs.declared.walk.Spot.{Spot}
-use Rattle.ebpf_core_places.specs.Places.{MemoryAside, is_place_memory, IsFirstMember, root_spot, by_step, followed, onward, path_parts, place_of, stepped, PathLeads, NoStep, NoIndex, NoRoot, Begun, StepLeads, TooLong, NoType, ToElement, ToMember, StepsLead, Arrived, Refused, Lost, Onward}
+use Rattle.ebpf_core_places.specs.declared.walk.TargetSpot.{TargetSpot}
+use Rattle.ebpf_core_places.specs.Places.{MemoryAside, is_place_memory, IsFirstMember, root_spot, by_step, place_after, onward, path_parts, place_of, next_spot, PathLeads, NoStep, NoIndex, NoRoot, Begun, StepLeads, TooLong, NoType, ToElement, ToMember, StepsLead, Arrived, Refused, Lost, Onward}
 use Rattle.ebpf_core_places.specs.Members.{if_read, member_search, members_in, anonymous_levels, search_entries, first_fitting}
 use Rattle.ebpf_core_places.proofs.FirstEntries.{one_first, fitting_is_first}
 use Rattle.ebpf_core_places.proofs.Members.{shallow}
@@ -31,10 +31,10 @@ module _ (local target : TypeInfo) where
 
   -- ---- a step
 
-  abbrev Leads : Spot → Step → Result (Option Spot) PlaceFault → Type 0
+  abbrev Leads : TargetSpot → Step → Result (Option TargetSpot) PlaceFault → Type 0
   Leads = StepLeads local target
 
-  step_leads : (from : Spot) (by : Step) → Leads from by (stepped local target from by)
+  step_leads : (from : TargetSpot) (by : Step) → Leads from by (next_spot local target from by)
   step_leads from by = by_test (Leads from by) (nat_lt from.parts path_parts) _ _ (λ near. by_read (resolved target.types from.type_id) refl (ltb-true from.parts path_parts near)) (λ long. TooLong by (ltb-false from.parts path_parts long))
     where
       lead_by : (by : Step) (id : ℕ) → resolved target.types from.type_id ≡ Ok id → from.parts < path_parts → Leads from by (by_step local target from id by)
@@ -46,7 +46,7 @@ module _ (local target : TypeInfo) where
       by_read (Ok id) is near = lead_by by id is near
       by_read (Err e) is near = NoType by e near is
 
-  one_step : (from : Spot) {by : Step} {a : Result (Option Spot) PlaceFault} → Leads from by a → stepped local target from by ≡ a
+  one_step : (from : TargetSpot) {by : Step} {a : Result (Option TargetSpot) PlaceFault} → Leads from by a → next_spot local target from by ≡ a
   one_step from (TooLong by long) = rw (le-ltb from.parts path_parts long) refl
   one_step from (NoType by e near is) = rw (lt-ltb from.parts path_parts near, is) refl
   one_step from (ToElement index id near is) = rw (lt-ltb from.parts path_parts near, is) refl
@@ -55,19 +55,19 @@ module _ (local target : TypeInfo) where
 
   -- ---- some steps
 
-  steps_lead : (path : List Step) (from : Spot) → StepsLead local target path from (followed local target path from)
-  unfolding followed
+  steps_lead : (path : List Step) (from : TargetSpot) → StepsLead local target path from (place_after local target path from)
+  unfolding place_after
   steps_lead [] from = Arrived from
-  steps_lead (by ∷ path) from = lead_on (stepped local target from by) (step_leads from by) (steps_lead path)
+  steps_lead (by ∷ path) from = lead_on (next_spot local target from by) (step_leads from by) (steps_lead path)
     where
-      lead_on : (r : Result (Option Spot) PlaceFault) → Leads from by r → ((next : Spot) → StepsLead local target path next (followed local target path next))
-          → StepsLead local target (by ∷ path) from (if_ok r (λ led_to. onward led_to (followed local target path)))
+      lead_on : (r : Result (Option TargetSpot) PlaceFault) → Leads from by r → ((next : TargetSpot) → StepsLead local target path next (place_after local target path next))
+          → StepsLead local target (by ∷ path) from (if_ok r (λ led_to. onward led_to (place_after local target path)))
       lead_on (Err f) one more = Refused by path from f one
       lead_on (Ok None) one more = Lost by path from one
-      lead_on (Ok (Some next)) one more = Onward by path from next (followed local target path next) one (more next)
+      lead_on (Ok (Some next)) one more = Onward by path from next (place_after local target path next) one (more next)
 
-  one_way : {path : List Step} {from : Spot} {a : Result (Option Place) PlaceFault} → StepsLead local target path from a → followed local target path from ≡ a
-  unfolding followed
+  one_way : {path : List Step} {from : TargetSpot} {a : Result (Option FieldPlace) PlaceFault} → StepsLead local target path from a → place_after local target path from ≡ a
+  unfolding place_after
   one_way (Arrived from) = refl
   one_way (Refused by path from f one) = rw (one_step from one) refl
   one_way (Lost by path from one) = rw (one_step from one) refl
@@ -81,9 +81,9 @@ module _ (local target : TypeInfo) where
   path_leads root (Name name local_type ∷ path) = NoIndex name local_type path
   path_leads root (Index index ∷ path) =
       by_answer (PathLeads local target root (Index index ∷ path)) (root_spot target root index) _ (λ f is. NoRoot index path f is)
-      (λ from is. Begun index path from (followed local target path from) is (steps_lead path from))
+      (λ from is. Begun index path from (place_after local target path from) is (steps_lead path from))
 
-  pub one_place : {root : ℕ} {path : List Step} {a : Result (Option Place) PlaceFault} → PathLeads local target root path a → place_of local target root path ≡ a
+  pub one_place : {root : ℕ} {path : List Step} {a : Result (Option FieldPlace) PlaceFault} → PathLeads local target root path a → place_of local target root path ≡ a
   unfolding place_of
   one_place NoStep = refl
   one_place (NoIndex name local_type path) = refl
@@ -98,31 +98,31 @@ aside Holds (Err e) stated is holds = matched (is_place_memory e) (stated ≡ Er
 -- ---- one step of a path
 
 module _ (local target : TypeInfo) where
-  followed_cons : (by : Step) (path : List Step) (from : Spot)
-      → followed local target (by ∷ path) from ≡ if_ok (stepped local target from by) (λ led_to. onward led_to (followed local target path))
-  unfolding followed
+  followed_cons : (by : Step) (path : List Step) (from : TargetSpot)
+      → place_after local target (by ∷ path) from ≡ if_ok (next_spot local target from by) (λ led_to. onward led_to (place_after local target path))
+  unfolding place_after
   followed_cons by path from = refl
 
-  followed_none : (from : Spot) → followed local target [] from ≡ Ok (Some from.place)
-  unfolding followed
+  followed_none : (from : TargetSpot) → place_after local target [] from ≡ Ok (Some from.place)
+  unfolding place_after
   followed_none from = refl
 
   -- a path that has come to a step
-  pub path_step : (path : List Step) (i : ℕ) (d : Step) (from : Spot) → i < length path
-      → followed local target (drop i path) from ≡ if_ok (stepped local target from (get_or path i d)) (λ led_to. onward led_to (followed local target (drop (i + 1) path)))
+  pub path_step : (path : List Step) (i : ℕ) (d : Step) (from : TargetSpot) → i < length path
+      → place_after local target (drop i path) from ≡ if_ok (next_spot local target from (get_or path i d)) (λ led_to. onward led_to (place_after local target (drop (i + 1) path)))
   path_step path i d from lt = rw (drop-cons path i d lt, add-one i) (followed_cons (get_or path i d) (drop (suc i) path) from)
 
   -- a path at its end
-  pub path_end : (path : List Step) (i : ℕ) (from : Spot) → length path ≤ i → followed local target (drop i path) from ≡ Ok (Some from.place)
+  pub path_end : (path : List Step) (i : ℕ) (from : TargetSpot) → length path ≤ i → place_after local target (drop i path) from ≡ Ok (Some from.place)
   path_end path i from le = rw (drop_all i path le) (followed_none from)
 
   -- a path that has come to a step which leads so
-  pub path_at : (path : List Step) (i : ℕ) (by : Step) (from : Spot) (r : Result (Option Spot) PlaceFault) → i < length path → by ≡ get_or path i by → stepped local target from by ≡ r
-      → followed local target (drop i path) from ≡ if_ok r (λ led_to. onward led_to (followed local target (drop (i + 1) path)))
+  pub path_at : (path : List Step) (i : ℕ) (by : Step) (from : TargetSpot) (r : Result (Option TargetSpot) PlaceFault) → i < length path → by ≡ get_or path i by → next_spot local target from by ≡ r
+      → place_after local target (drop i path) from ≡ if_ok r (λ led_to. onward led_to (place_after local target (drop (i + 1) path)))
   path_at path i by from r lt item is =
       path_step path i by from lt
-      ∙ ap (λ (a : Result (Option Spot) PlaceFault). if_ok a (λ led_to. onward led_to (followed local target (drop (i + 1) path))))
-      (ap (stepped local target from) (sym item) ∙ is)
+      ∙ ap (λ (a : Result (Option TargetSpot) PlaceFault). if_ok a (λ led_to. onward led_to (place_after local target (drop (i + 1) path))))
+      (ap (next_spot local target from) (sym item) ∙ is)
 
   -- ---- the first step
 
@@ -136,7 +136,7 @@ module _ (local target : TypeInfo) where
   unfolding place_of
   place_named root path rest by name local_type split is = rw (split, is) refl
 
-  pub place_begun : (root : ℕ) (path rest : List Step) (by : Step) (index : ℕ) (r : Result Spot PlaceFault) → path ≡ by ∷ rest → by ≡ Index index → r ≡ root_spot target root index
-      → place_of local target root path ≡ if_ok r (followed local target rest)
+  pub place_begun : (root : ℕ) (path rest : List Step) (by : Step) (index : ℕ) (r : Result TargetSpot PlaceFault) → path ≡ by ∷ rest → by ≡ Index index → r ≡ root_spot target root index
+      → place_of local target root path ≡ if_ok r (place_after local target rest)
   unfolding place_of
   place_begun root path rest by index r split is begins = rw (split, is, begins) refl

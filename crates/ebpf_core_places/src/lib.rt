@@ -9,6 +9,8 @@ mod places;
 mod search;
 mod walk;
 
-pub use places::{Place, PlaceEnd, PlaceFault, Step, checked_place, element_place, is_last_of};
+pub use places::{
+    FieldPlace, PlaceEnd, PlaceFault, Step, checked_place, element_place, is_last_of,
+};
 pub use search::{FoundMember, find_member};
 pub use walk::place_in;

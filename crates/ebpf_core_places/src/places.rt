@@ -1,4 +1,4 @@
-//! Where a path leads.
+//! The places that paths lead to.
 
 ghost use Rattle.std.specs.Prelude.{◌≡◌, slice_get};
 ghost use Rattle.ebpf_core_places.specs.Places.{checked_place, element_place, is_last_of};
@@ -18,50 +18,16 @@ pub enum PlaceEnd {
     Member { parent: u32, index: usize },
 }
 
-/// Where a path leads.
+/// The place that a path leads to in a type.
 #[derive(Clone, Copy, Debug, PartialEq, Eq)]
-pub struct Place {
+pub struct FieldPlace {
     /// The bits from the start of the root type.
     pub bits: u32,
     /// The last step.
     pub end: PlaceEnd,
 }
 
-/// A place so many bits from the start of the root type. `InvalidTypeInfo` where they are past 4,294,967,295.
-pub fn checked_place(bits: u128, end: PlaceEnd) -> Result<Place, BtfError>
-    ensures { result ≡ checked_place bits end }
-{
-    if bits >= 0x1_0000_0000 {
-        return Err(BtfError::InvalidTypeInfo);
-    }
-    Ok(Place {
-        bits: bits as u32,
-        end,
-    })
-}
-
-/// The element with an index, of a type of which the first begins so many bits from the start of the root type. Errors
-/// as in `Btf::type_size` and `checked_place`.
-pub fn element_place(btf: &Btf, bits: u32, type_id: u32, index: usize) -> Result<Place, BtfError>
-    ensures { result ≡ element_place btf.now.types bits type_id index }
-{
-    let size = btf.type_size(type_id)?;
-    let bits = u128::from(bits) + index as u128 * u128::from(size) * 8;
-    checked_place(bits, PlaceEnd::Element { type_id })
-}
-
-/// Whether a member is the last one of a STRUCT.
-#[tactic(auto, unfolding(crate::specs::Places::is_last_of))]
-pub fn is_last_of(index: usize, ty: &BtfType<'_>) -> bool
-    ensures { result ≡ is_last_of index ty.now }
-{
-    match ty {
-        BtfType::Struct { members, .. } => index < members.len() && index + 1 == members.len(),
-        _ => false,
-    }
-}
-
-/// Why it could not be found out where a path leads.
+/// The reason why the place of a path can't be found.
 #[derive(Debug, Drop, Error)]
 pub enum PlaceFault {
     /// A path has too many parts, a view too many levels or too many entries.
@@ -88,6 +54,45 @@ pub enum Step {
     Name { name: Text, local_type: u32 },
     /// To the element with an index. The first step of a path counts in the root type itself.
     Index { index: usize },
+}
+
+/// A place so many bits from the start of the root type. `InvalidTypeInfo` where they are past 4,294,967,295.
+pub fn checked_place(bits: u128, end: PlaceEnd) -> Result<FieldPlace, BtfError>
+    ensures { result ≡ checked_place bits end }
+{
+    if bits >= 0x1_0000_0000 {
+        return Err(BtfError::InvalidTypeInfo);
+    }
+    Ok(FieldPlace {
+        bits: bits as u32,
+        end,
+    })
+}
+
+/// The element with an index, of a type of which the first begins so many bits from the start of the root type. Errors
+/// as in `Btf::type_size` and `checked_place`.
+pub fn element_place(
+    btf: &Btf,
+    bits: u32,
+    type_id: u32,
+    index: usize,
+) -> Result<FieldPlace, BtfError>
+    ensures { result ≡ element_place btf.now.types bits type_id index }
+{
+    let size = btf.type_size(type_id)?;
+    let bits = u128::from(bits) + index as u128 * u128::from(size) * 8;
+    checked_place(bits, PlaceEnd::Element { type_id })
+}
+
+/// Whether a member is the last one of a STRUCT.
+#[tactic(auto, unfolding(crate::specs::Places::is_last_of))]
+pub fn is_last_of(index: usize, ty: &BtfType<'_>) -> bool
+    ensures { result ≡ is_last_of index ty.now }
+{
+    match ty {
+        BtfType::Struct { members, .. } => index < members.len() && index + 1 == members.len(),
+        _ => false,
+    }
 }
 
 /// The type with an id.

@@ -9,7 +9,7 @@ use crate::places::{PlaceFault, type_at};
 use ebpf_btf::{Btf, BtfMember};
 use ebpf_core_candidates::fields_are_compatible;
 
-/// How many entries a search looks at.
+/// The maximum number of entries that a search looks at.
 const SEARCH_ENTRIES: u32 = 1_048_576;
 
 /// A member that a search found.
@@ -27,16 +27,41 @@ pub struct FoundMember {
     pub type_id: u32,
 }
 
-/// What a search came to; an absent name leaves so many entries to look at.
+/// The result of a search. Where the name is absent, `left` entries may still be looked at.
 #[derive(Clone, Copy)]
 pub enum Answer {
     Found(FoundMember),
     Absent { left: u32 },
 }
 
+/// The maximum number of anonymous members around an anonymous one that is looked into.
+pub const ANONYMOUS_LEVELS: u32 = 64;
+
+/// The role of a member in a search for a name.
+#[derive(Clone, Copy)]
+pub enum Role {
+    /// A member without a name; the search goes on in the type that the member's own stands for.
+    Anonymous { type_id: u32 },
+    /// A member with another name.
+    Other,
+    /// The member that is searched for.
+    Fitting,
+    /// A member with the name whose type does not fit.
+    Misfit,
+}
+
+/// A member that is searched for in the target: its name, and the type of the local member.
+#[derive(Clone, Copy)]
+pub struct WantedMember<'a> {
+    pub local: &'a Btf,
+    pub target: &'a Btf,
+    pub name: &'a str,
+    pub local_type: u32,
+}
+
 /// Looks through the members of a type that lies inside so many anonymous ones and begins at a bit, over so many entries.
 fn search(
-    wanted: Wanted<'_>,
+    wanted: WantedMember<'_>,
     parent: u32,
     inside: u32,
     bits: u64,
@@ -89,7 +114,7 @@ fn search(
 
 /// Looks through all members of a type.
 #[tactic(auto, unfolding(crate::specs::Members::first_fitting))]
-fn find(wanted: Wanted<'_>, parent: u32) -> Result<Option<FoundMember>, PlaceFault>
+fn find(wanted: WantedMember<'_>, parent: u32) -> Result<Option<FoundMember>, PlaceFault>
     ensures same { let name_search = member_search wanted.entry.local.now wanted.entry.target.now wanted.entry.name.now wanted.entry.local_type in
         Gives is_place_memory result (first_fitting name_search search_entries (members_in wanted.entry.target.now.types parent)) }
     ensures small { IsFoundSmall result }
@@ -107,9 +132,13 @@ fn find(wanted: Wanted<'_>, parent: u32) -> Result<Option<FoundMember>, PlaceFau
 /// member of the name in one type is found, if `fields_are_compatible` says that the local type fits it; else that type's
 /// members end there, and the search goes on after the anonymous member that led to it.
 ///
-/// At each member that is met, in turn: `NestingLevel` at member 1,048,577, and at an anonymous one inside 64 anonymous ones;
-/// `Btf` where its name, or the type of an anonymous one, can't be read, or where the types can't be compared.
-/// `Btf(OutOfMemory)` as in `fields_are_compatible`.
+/// # Errors
+///
+/// At each member that is met, in turn:
+///
+/// - `NestingLevel`: the member is number 1,048,577, or an anonymous one inside 64 anonymous ones.
+/// - `Btf`: the member's name, or the type of an anonymous one, can't be read, or the types can't be compared.
+/// - `Btf(OutOfMemory)`: as in `fields_are_compatible`.
 pub fn find_member(
     local: &Btf,
     target: &Btf,
@@ -121,7 +150,7 @@ pub fn find_member(
     ensures same { Gives is_place_memory result (first_fitting (member_search local.now target.now name.now local_type) search_entries (members_in target.now.types parent)) }
     ensures small { IsFoundSmall result }
 {
-    let wanted = Wanted {
+    let wanted = WantedMember {
         local,
         target,
         name,
@@ -130,32 +159,7 @@ pub fn find_member(
     find(wanted, parent)
 }
 
-/// Inside how many anonymous members another anonymous one is looked into at most.
-pub const ANONYMOUS_LEVELS: u32 = 64;
-
-/// What a member is to a search for a name.
-#[derive(Clone, Copy)]
-pub enum Role {
-    /// It has no name; the search goes on in the type that its own stands for.
-    Anonymous { type_id: u32 },
-    /// It has another name.
-    Other,
-    /// It is the member searched for.
-    Fitting,
-    /// It has the name, but its type does not fit.
-    Misfit,
-}
-
-/// A member that is searched for in the target: its name, and the type of the local member.
-#[derive(Clone, Copy)]
-pub struct Wanted<'a> {
-    pub local: &'a Btf,
-    pub target: &'a Btf,
-    pub name: &'a str,
-    pub local_type: u32,
-}
-
-/// What a member without a name is, inside so many anonymous ones.
+/// The role of a member without a name, inside so many anonymous ones.
 fn anonymous_role(target: &Btf, inside: u32, member: &BtfMember) -> Result<Role, PlaceFault>
     ensures { result ≡ anonymous_role target.now inside member.now.btf_type }
 {
@@ -166,8 +170,8 @@ fn anonymous_role(target: &Btf, inside: u32, member: &BtfMember) -> Result<Role,
     Ok(Role::Anonymous { type_id })
 }
 
-/// What a member with a name is.
-fn named_role(wanted: Wanted<'_>, member: &BtfMember) -> Result<Role, PlaceFault>
+/// The role of a member with a name.
+fn named_role(wanted: WantedMember<'_>, member: &BtfMember) -> Result<Role, PlaceFault>
     ensures { Gives is_place_memory result (named_role wanted.entry.local.now wanted.entry.target.now wanted.entry.name.now wanted.entry.local_type member.now.name_offset member.now.btf_type) }
 {
     if !wanted.target.is_name_at(member.name_offset, wanted.name)? {
@@ -184,8 +188,12 @@ fn named_role(wanted: Wanted<'_>, member: &BtfMember) -> Result<Role, PlaceFault
     Ok(Role::Fitting)
 }
 
-/// What a member is, inside so many anonymous ones.
-pub fn role_of(wanted: Wanted<'_>, inside: u32, member: &BtfMember) -> Result<Role, PlaceFault>
+/// The role of a member, inside so many anonymous ones.
+pub fn role_of(
+    wanted: WantedMember<'_>,
+    inside: u32,
+    member: &BtfMember,
+) -> Result<Role, PlaceFault>
     ensures { Gives is_place_memory result (role wanted.entry.local.now wanted.entry.target.now wanted.entry.name.now wanted.entry.local_type inside member.now.name_offset member.now.btf_type) }
 {
     if member.name_offset == 0 {

@@ -2,21 +2,21 @@
 
 ghost use Rattle.std.specs.Prelude.{◌≡◌, ◌<◌, ◌≤◌};
 ghost use Rattle.ebpf_base.specs.Faults.{Gives};
-ghost use Rattle.ebpf_core_places.specs.Places.{MemoryAside, is_place_memory, PathLeads, root_spot, by_index, by_name, followed, is_accepted, ends_in_last_member, place_of, stepped, element_spot, member_spot};
+ghost use Rattle.ebpf_core_places.specs.Places.{MemoryAside, is_place_memory, PathLeads, root_spot, by_index, by_name, place_after, is_accepted, ends_in_last_member, place_of, next_spot, element_spot, member_spot};
 
 use crate::places::{
-    Place, PlaceEnd, PlaceFault, Step, checked_place, element_place, is_last_of, type_at,
+    FieldPlace, PlaceEnd, PlaceFault, Step, checked_place, element_place, is_last_of, type_at,
 };
 use crate::search::{FoundMember, find_member};
 use ebpf_btf::Btf;
 
-/// How many parts a path may have before a step.
+/// The maximum number of parts of a path before a step.
 const PATH_PARTS: u32 = 64;
 
-/// How far a path has come: a place, the type there, and how many steps and anonymous members led to it.
+/// The position of a path in a target type: a place, its type, and the number of steps and anonymous members up to it.
 #[derive(Clone, Copy)]
-pub struct Spot {
-    pub place: Place,
+pub struct TargetSpot {
+    pub place: FieldPlace,
     pub type_id: u32,
     pub parts: u32,
 }
@@ -48,24 +48,24 @@ fn element_spot(
     parts: u32,
     type_id: u32,
     index: usize,
-) -> Result<Spot, PlaceFault>
+) -> Result<TargetSpot, PlaceFault>
     ensures { result ≡ element_spot target.now bits parts type_id index }
 {
     let place = element_place(target, bits, type_id, index)?;
-    Ok(Spot {
+    Ok(TargetSpot {
         place,
         type_id,
         parts,
     })
 }
 
-/// Where an index leads in the type with an id.
+/// The spot of the element with an index, in the type with an id.
 fn by_index(
     target: &Btf,
-    from: Spot,
+    from: TargetSpot,
     type_id: u32,
     index: usize,
-) -> Result<Option<Spot>, PlaceFault>
+) -> Result<Option<TargetSpot>, PlaceFault>
     requires { from.parts < 64 }
     ensures { result ≡ by_index target.now from type_id index }
 {
@@ -88,8 +88,8 @@ fn by_index(
     Ok(Some(spot))
 }
 
-/// The member that was found from a spot.
-fn member_spot(from: Spot, member: FoundMember) -> Result<Spot, PlaceFault>
+/// The spot of a member that was found from another spot.
+fn member_spot(from: TargetSpot, member: FoundMember) -> Result<TargetSpot, PlaceFault>
     requires parts { from.parts < 64 }
     requires shallow { member.inside ≤ 64 }
     ensures { result ≡ member_spot from member }
@@ -99,22 +99,22 @@ fn member_spot(from: Spot, member: FoundMember) -> Result<Spot, PlaceFault>
         parent: member.parent,
         index: member.index,
     };
-    Ok(Spot {
+    Ok(TargetSpot {
         place: checked_place(bits, end)?,
         type_id: member.type_id,
         parts: from.parts + member.inside + 1,
     })
 }
 
-/// Where a name leads in the type with an id.
+/// The spot of the member with a name, in the type with an id.
 fn by_name(
     local: &Btf,
     target: &Btf,
-    from: Spot,
+    from: TargetSpot,
     type_id: u32,
     name: &str,
     local_type: u32,
-) -> Result<Option<Spot>, PlaceFault>
+) -> Result<Option<TargetSpot>, PlaceFault>
     requires { from.parts < 64 }
     ensures { Gives is_place_memory result (by_name local.now target.now from type_id name.now local_type) }
 {
@@ -124,9 +124,14 @@ fn by_name(
     }
 }
 
-/// Where a step leads from a spot.
-fn follow(local: &Btf, target: &Btf, from: Spot, by: &Step) -> Result<Option<Spot>, PlaceFault>
-    ensures { Gives is_place_memory result (stepped local.now target.now from by.now) }
+/// Follows a step from a spot.
+fn follow(
+    local: &Btf,
+    target: &Btf,
+    from: TargetSpot,
+    by: &Step,
+) -> Result<Option<TargetSpot>, PlaceFault>
+    ensures { Gives is_place_memory result (next_spot local.now target.now from by.now) }
 {
     if from.parts >= PATH_PARTS {
         return Err(PlaceFault::NestingLevel);
@@ -140,14 +145,14 @@ fn follow(local: &Btf, target: &Btf, from: Spot, by: &Step) -> Result<Option<Spo
     }
 }
 
-/// Where some steps lead from a spot.
+/// Follows some steps from a spot.
 fn follow_all(
     local: &Btf,
     target: &Btf,
     path: &[Step],
-    from: Spot,
-) -> Result<Option<Place>, PlaceFault>
-    ensures { Gives is_place_memory result (followed local.now target.now path.now from) }
+    from: TargetSpot,
+) -> Result<Option<FieldPlace>, PlaceFault>
+    ensures { Gives is_place_memory result (place_after local.now target.now path.now from) }
 {
     let mut spot = from;
     for by in path {
@@ -160,20 +165,20 @@ fn follow_all(
 }
 
 /// The spot of the root index: its elements are of the type that the root type stands for.
-fn begin(target: &Btf, root_type: u32, index: usize) -> Result<Spot, PlaceFault>
+fn begin(target: &Btf, root_type: u32, index: usize) -> Result<TargetSpot, PlaceFault>
     ensures { result ≡ root_spot target.now root_type index }
 {
     let type_id = target.resolve_type(root_type)?;
     element_spot(target, 0, 1, type_id, index)
 }
 
-/// Where a path leads whose first step is the root index; another path leads nowhere.
+/// The place of a path whose first step is the root index; another path leads nowhere.
 fn place(
     local: &Btf,
     target: &Btf,
     root_type: u32,
     path: &[Step],
-) -> Result<Option<Place>, PlaceFault>
+) -> Result<Option<FieldPlace>, PlaceFault>
     ensures { Gives is_place_memory result (place_of local.now target.now root_type path.now) }
 {
     let Some((first, path)) = path.split_first() else {
@@ -194,15 +199,19 @@ fn place(
 /// index where the ARRAY is the last member of a STRUCT; a name as in `find_member`, with the id of the local member's
 /// type in `local`.
 ///
-/// `NestingLevel` before a step where 64 steps and anonymous members were passed, and as in `find_member`; `Btf` as in
-/// `find_member`, and where a type or the size of an element (also for index 0) can't be read; `Btf(InvalidTypeInfo)`
-/// where the bits are past 4,294,967,295 after a step. The first fault on the way is given.
+/// # Errors
+///
+/// The first fault on the way:
+///
+/// - `NestingLevel`: 64 steps and anonymous members were passed before a step, or as in `find_member`.
+/// - `Btf`: a type or the size of an element (also for index 0) can't be read, or as in `find_member`.
+/// - `Btf(InvalidTypeInfo)`: the bits are past 4,294,967,295 after a step.
 pub fn place_in(
     local: &Btf,
     target: &Btf,
     root_type: u32,
     path: &[Step],
-) -> Result<Option<Place>, PlaceFault>
+) -> Result<Option<FieldPlace>, PlaceFault>
     ensures leads { MemoryAside result (PathLeads local.now target.now root_type path.now) }
     ensures same { Gives is_place_memory result (place_of local.now target.now root_type path.now) }
 {

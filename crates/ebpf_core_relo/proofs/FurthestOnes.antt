@@ -6,11 +6,11 @@ use Rattle.std.proofs.lemmas.Option.{same_Some}
 use Rattle.ebpf_btf.specs.TypeInfo.{TypeInfo}
 use Rattle.ebpf_base.specs.Faults.{if_ok}
 use Rattle.ebpf_core_candidates.proofs.Refusals.{by_test}
-use Rattle.ebpf_core_places.specs.Places.{root_spot, followed, onward, place_of, stepped}
+use Rattle.ebpf_core_places.specs.Places.{root_spot, place_after, onward, place_of, next_spot}
 use Rattle.ebpf_core_places.specs.declared.places.PlaceFault.{PlaceFault}
 use Rattle.ebpf_core_places.specs.declared.places.Step.{Step}
 use Rattle.ebpf_core_places.specs.declared.places.Step.TheVariants.{Name, Index}
-use Rattle.ebpf_core_places.specs.declared.walk.Spot.{Spot}
+use Rattle.ebpf_core_places.specs.declared.walk.TargetSpot.{TargetSpot}
 use Rattle.ebpf_core_relo.specs.Absences.{further, greatest, is_place, leads, reach, ComesFurthest, FurthestComesFurthest, NoneLeads, furthest, nowhere}
 use Rattle.ebpf_core_relo.specs.declared.absence.Furthest.{Furthest}
 
@@ -63,16 +63,16 @@ module _ (test : ℕ → Bool) where
 -- ---- a path with fewer steps
 
 module _ (local target : TypeInfo) where
-  fewer : (path : List Step) (n : ℕ) (from : Spot) → is_place (followed local target (take (suc n) path) from) ≡ true → is_place (followed local target (take n path) from) ≡ true
-  unfolding followed
+  fewer : (path : List Step) (n : ℕ) (from : TargetSpot) → is_place (place_after local target (take (suc n) path) from) ≡ true → is_place (place_after local target (take n path) from) ≡ true
+  unfolding place_after
   fewer path zero from there = refl
   fewer [] (suc n) from there = there
-  fewer (by ∷ path) (suc n) from there = by_step (stepped local target from by) (λ next. fewer path n next) there
+  fewer (by ∷ path) (suc n) from there = by_step (next_spot local target from by) (λ next. fewer path n next) there
     where
-      by_step : (r : Result (Option Spot) PlaceFault)
-          → ((next : Spot) → is_place (followed local target (take (suc n) path) next) ≡ true → is_place (followed local target (take n path) next) ≡ true)
-          → is_place (if_ok r (λ led_to. onward led_to (followed local target (take (suc n) path)))) ≡ true
-          → is_place (if_ok r (λ led_to. onward led_to (followed local target (take n path)))) ≡ true
+      by_step : (r : Result (Option TargetSpot) PlaceFault)
+          → ((next : TargetSpot) → is_place (place_after local target (take (suc n) path) next) ≡ true → is_place (place_after local target (take n path) next) ≡ true)
+          → is_place (if_ok r (λ led_to. onward led_to (place_after local target (take (suc n) path)))) ≡ true
+          → is_place (if_ok r (λ led_to. onward led_to (place_after local target (take n path)))) ≡ true
       by_step (Ok None) less there = there
       by_step (Ok (Some next)) less there = less next there
       by_step (Err fault) less there = there
@@ -83,7 +83,7 @@ module _ (local target : TypeInfo) where
   leads_fewer (Name name local_type ∷ path) id n there = there
   leads_fewer (Index index ∷ path) id n there = by_start (root_spot target id index) there
     where
-      by_start : (r : Result Spot PlaceFault) → is_place (if_ok r (followed local target (take (suc n) path))) ≡ true → is_place (if_ok r (followed local target (take n path))) ≡ true
+      by_start : (r : Result TargetSpot PlaceFault) → is_place (if_ok r (place_after local target (take (suc n) path))) ≡ true → is_place (if_ok r (place_after local target (take n path))) ≡ true
       by_start (Ok from) there = fewer path n from there
       by_start (Err fault) there = there
 

@@ -10,7 +10,7 @@ use Rattle.ebpf_ext.specs.declared.relocation.Relocation.{Relocation}
 use Rattle.ebpf_core_places.specs.Places.{place_of}
 use Rattle.ebpf_core_places.specs.declared.places.PlaceFault.{PlaceFault}
 use Rattle.ebpf_core_places.specs.declared.places.PlaceFault.TheVariants.{NestingLevel, Btf}
-use Rattle.ebpf_core_places.specs.declared.places.Place.{Place}
+use Rattle.ebpf_core_places.specs.declared.places.FieldPlace.{FieldPlace}
 use Rattle.ebpf_core_places.specs.declared.places.Step.{Step}
 use Rattle.ebpf_core_places.specs.declared.places.Step.TheVariants.{Name, Index}
 use Rattle.ebpf_core.proofs.MatchSteps.{kept_with, match_more, no_candidates}
@@ -21,7 +21,7 @@ use Rattle.ebpf_core.specs.LocalPaths.{local_path}
 use Rattle.ebpf_core.specs.Outcomes.{by_place, found_at_candidate, matches, type_name_at, outcome_among}
 use Rattle.ebpf_core.specs.Searches.{Question, question_of, candidates_for, is_local, itself, outcome_of}
 use Rattle.ebpf_core.specs.declared.error.RelocationError.{RelocationError}
-use Rattle.ebpf_core.specs.declared.matches.Found.{Found}
+use Rattle.ebpf_core.specs.declared.matches.FoundMatch.{FoundMatch}
 use Rattle.ebpf_core.specs.declared.matches.Match.{Match}
 use Rattle.ebpf_core.specs.declared.outcome.Outcome.{Outcome}
 use Rattle.ebpf_core.specs.declared.paths.LocalPath.{LocalPath}
@@ -64,11 +64,11 @@ absences_are_of_paths local target r outcome is none =
 -- ---- matches of a field
 
 module _ (local target : TypeInfo) (local_id : ℕ) (path : NamedPath) where
-  abbrev finds : ℕ → Result (Option Found) RelocationError
+  abbrev finds : ℕ → Result (Option FoundMatch) RelocationError
   finds = found_at_candidate local target local_id path
 
   first_parts : (x : ℕ) (ids : List ℕ) (all : List Match) → matches local target local_id path (x ∷ ids) ≡ Ok all
-      → (what : Option Found) × (finds x ≡ Ok what) × (ms : List Match) × (matches local target local_id path ids ≡ Ok ms) × (kept_with x what ms ≡ all)
+      → (what : Option FoundMatch) × (finds x ≡ Ok what) × (ms : List Match) × (matches local target local_id path ids ≡ Ok ms) × (kept_with x what ms ≡ all)
   first_parts x ids all e =
       let (what, first, rest) = ok_parts (finds x) _ all (sym (match_more local target local_id path x ids) ∙ e) in
       let (ms, others, are) = ok_parts (matches local target local_id path ids) _ all rest in
@@ -79,24 +79,24 @@ module _ (local target : TypeInfo) (local_id : ℕ) (path : NamedPath) where
   all_none [] e k id at = cc
   all_none (x ∷ ids) e k id at = let (what, first, ms, others, are) = first_parts x ids [] e in by_first what first ms are (λ none. all_none ids (others ∙ ap Ok none)) k at
     where
-      by_first : (what : Option Found) → finds x ≡ Ok what → (ms : List Match) → kept_with x what ms ≡ [] → (ms ≡ [] → (k id : ℕ) → slice_get ids k ≡ Some id → finds id ≡ Ok None)
+      by_first : (what : Option FoundMatch) → finds x ≡ Ok what → (ms : List Match) → kept_with x what ms ≡ [] → (ms ≡ [] → (k id : ℕ) → slice_get ids k ≡ Some id → finds id ≡ Ok None)
           → (k : ℕ) → slice_get (x ∷ ids) k ≡ Some id → finds id ≡ Ok None
       by_first (Some w) first ms are more k at = cc
       by_first None first ms are more zero at = subst (λ n. finds n ≡ Ok None) (same_Some _ _ at) first
       by_first None first ms are more (suc k) at = more are k id at
 
   -- where one matches, one answers so
-  some_one : (ids : List ℕ) (all : List Match) → matches local target local_id path ids ≡ Ok all → all ≢ [] → (k : ℕ) × (id : ℕ) × (w : Found) × (slice_get ids k ≡ Some id) × (finds id ≡ Ok (Some w))
+  some_one : (ids : List ℕ) (all : List Match) → matches local target local_id path ids ≡ Ok all → all ≢ [] → (k : ℕ) × (id : ℕ) × (w : FoundMatch) × (slice_get ids k ≡ Some id) × (finds id ≡ Ok (Some w))
   some_one [] all e some = absurd (some (same_ok _ _ (sym e ∙ no_candidates local target local_id path)))
   some_one (x ∷ ids) all e some = let (what, first, ms, others, are) = first_parts x ids all e in by_first what first ms are (some_one ids ms others)
     where
-      by_first : (what : Option Found) → finds x ≡ Ok what → (ms : List Match) → kept_with x what ms ≡ all
-          → (ms ≢ [] → (k : ℕ) × (id : ℕ) × (w : Found) × (slice_get ids k ≡ Some id) × (finds id ≡ Ok (Some w)))
-          → (k : ℕ) × (id : ℕ) × (w : Found) × (slice_get (x ∷ ids) k ≡ Some id) × (finds id ≡ Ok (Some w))
+      by_first : (what : Option FoundMatch) → finds x ≡ Ok what → (ms : List Match) → kept_with x what ms ≡ all
+          → (ms ≢ [] → (k : ℕ) × (id : ℕ) × (w : FoundMatch) × (slice_get ids k ≡ Some id) × (finds id ≡ Ok (Some w)))
+          → (k : ℕ) × (id : ℕ) × (w : FoundMatch) × (slice_get (x ∷ ids) k ≡ Some id) × (finds id ≡ Ok (Some w))
       by_first (Some w) first ms are more = (0, x, w, refl, first)
       by_first None first ms are more = let (k, id, w, at, is) = more (λ none. some (sym are ∙ none)) in (suc k, id, w, at, is)
 
-module _ (local target : TypeInfo) (local_id : ℕ) (steps : List Step) (place : Place) where
+module _ (local target : TypeInfo) (local_id : ℕ) (steps : List Step) (place : FieldPlace) where
   found_by : (id : ℕ) → found_at_candidate local target local_id (paths.Field steps place) id ≡ by_place target id (place_of local target id steps)
   unfolding found_at_candidate
   found_by id = refl
@@ -105,12 +105,12 @@ module _ (local target : TypeInfo) (local_id : ℕ) (steps : List Step) (place :
   nested (Ok n) e x h = cc
   nested (Err fault) e x h = cc
 
-  nowhere_then : (id : ℕ) (p : Result (Option Place) PlaceFault) → by_place target id p ≡ Ok None → is_place p ≡ false
+  nowhere_then : (id : ℕ) (p : Result (Option FieldPlace) PlaceFault) → by_place target id p ≡ Ok None → is_place p ≡ false
   nowhere_then id (Ok None) e = refl
   nowhere_then id (Ok (Some there)) e = cc
   nowhere_then id (Err fault) e = refl
 
-  somewhere_then : (id : ℕ) (w : Found) (p : Result (Option Place) PlaceFault) → by_place target id p ≡ Ok (Some w) → is_place p ≡ true
+  somewhere_then : (id : ℕ) (w : FoundMatch) (p : Result (Option FieldPlace) PlaceFault) → by_place target id p ≡ Ok (Some w) → is_place p ≡ true
   somewhere_then id w (Ok None) e = cc
   somewhere_then id w (Ok (Some there)) e = refl
   somewhere_then id w (Err NestingLevel) e = absurd (nested (of_types (type_name_at target id)) _ _ e)
@@ -122,7 +122,7 @@ module _ (local target : TypeInfo) (local_id : ℕ) (steps : List Step) (place :
   -- ---- the reason of a field
 
   -- a step that is left is no place without a value
-  of_step : (from : Result (Option Place) PlaceFault) (by : Step) → step_absence target from (Some by) ≢ NoValue
+  of_step : (from : Result (Option FieldPlace) PlaceFault) (by : Step) → step_absence target from (Some by) ≢ NoValue
   of_step from (Index index) e = cc
   of_step (Ok None) (Name name local_type) e = cc
   of_step (Err fault) (Name name local_type) e = cc

@@ -25,7 +25,7 @@ use Rattle.ebpf_ext.specs.declared.relocation.Relocation.{Relocation}
 use Rattle.ebpf_base.specs.Faults.{if_ok}
 use Rattle.ebpf_core.specs.Searches.{outcome_of}
 use Rattle.ebpf_core_relo.specs.RecordOutcomes.{goes_on}
-use Rattle.ebpf_core_relo.specs.Carried.{carried_by, carrier_of, carrier_of_class, carrying, carrying_next, high_half, is_wide_load, may_resize, moved_code, poison, resized, size_bits, takes_next, written, CarriesAt, WrittenSlotsCarry, next_slot_written}
+use Rattle.ebpf_core_relo.specs.Carried.{slot_with_value, carrier_of, carrier_of_class, patched_slot, patched_next_slot, high_half, is_wide_load, may_resize, moved_code, poison, resized_code, size_bits, takes_next, written, CarriesAt, WrittenSlotsCarry, next_slot_written}
 use Rattle.ebpf_core_relo.specs.declared.carried.Carrier.{Carrier}
 use Rattle.ebpf_core_relo.specs.declared.carried.Carrier.TheVariants.{Immediate, Offset, WideLoad, Nothing}
 use Rattle.ebpf_core_relo.specs.Records.{Written, with_slots, RelocationInputs, put_outcome, slots_so_far}
@@ -40,10 +40,10 @@ map_same (Some x) f h = ap Some (h x)
 
 -- ---- a slot, and the one behind it
 
-module _ (i : ℕ) (outcome : Outcome) (before : List bpf_insn) (old new : bpf_insn) (was : slice_get before i ≡ Some old) (carries : carrying outcome.value old outcome ≡ Some new) where
+module _ (i : ℕ) (outcome : Outcome) (before : List bpf_insn) (old new : bpf_insn) (was : slice_get before i ≡ Some old) (carries : patched_slot outcome.value old outcome ≡ Some new) where
   -- what stands behind, by whether it is taken
-  behind : (b : Bool) → takes_next outcome.value old ≡ b → (x : bpf_insn) → next_slot_written outcome.value old x ≡ (if b then carrying_next outcome.value x else x)
-  behind b is x = ap (λ c. if c then carrying_next outcome.value x else x) is
+  behind : (b : Bool) → takes_next outcome.value old ≡ b → (x : bpf_insn) → next_slot_written outcome.value old x ≡ (if b then patched_next_slot outcome.value x else x)
+  behind b is x = ap (λ c. if c then patched_next_slot outcome.value x else x) is
 
   one_slot : takes_next outcome.value old ≡ false → CarriesAt i outcome before (slice_set before i new)
   one_slot alone = record {
@@ -58,10 +58,10 @@ module _ (i : ℕ) (outcome : Outcome) (before : List bpf_insn) (old new : bpf_i
   }
 
   two_slots : takes_next outcome.value old ≡ true → (next : bpf_insn) → slice_get before (i + 1) ≡ Some next
-      → CarriesAt i outcome before (slice_set (slice_set before i new) (i + 1) (carrying_next outcome.value next))
+      → CarriesAt i outcome before (slice_set (slice_set before i new) (i + 1) (patched_next_slot outcome.value next))
   two_slots both next follows =
       let first = slice_set before i new in
-      let second = carrying_next outcome.value next in
+      let second = patched_next_slot outcome.value next in
       let inside : i + 1 < length first = rw (length-set before i new) (slice_get_within before (i + 1) next follows) in
       record {
         old = old;
@@ -82,7 +82,7 @@ module _ (number : ℕ) (before : List bpf_insn) (i : ℕ) (outcome : Outcome) w
   unfolding written
   carries =
       by_option Carries (slice_get before i) _ _ (λ none. tt)
-      (λ old was. by_option Carries (carrying outcome.value old outcome) _ _ (λ none. tt)
+      (λ old was. by_option Carries (patched_slot outcome.value old outcome) _ _ (λ none. tt)
       (λ new carry. by_test Carries (takes_next outcome.value old) _ _
       (λ both. by_option Carries (slice_get before (i + 1)) _ _ (λ none. tt) (λ next follows. two_slots i outcome before old new was carry both next follows))
       (λ alone. one_slot i outcome before old new was carry alone)))
@@ -96,16 +96,16 @@ module _ (number : ℕ) (before : List bpf_insn) (i : ℕ) (outcome : Outcome) w
     unfolding written
     too =
         by_option Too (slice_get before i) _ _ (λ none. tt)
-        (λ old was. by_option Too (carrying outcome.value old outcome) _ _ (λ none. tt)
+        (λ old was. by_option Too (patched_slot outcome.value old outcome) _ _ (λ none. tt)
         (λ new carry. by_test Too (takes_next outcome.value old) _ _
         (λ both. by_option Too (slice_get before (i + 1)) _ _ (λ none. tt) (λ next follows. two old new (sym slot ∙ was) carry both next follows))
         (λ alone. (slice_set own i new, rw (sym slot ∙ was, carry, alone) refl))))
       where
-        two : (old new : bpf_insn) → slice_get own i ≡ Some old → carrying outcome.value old outcome ≡ Some new → takes_next outcome.value old ≡ true
+        two : (old new : bpf_insn) → slice_get own i ≡ Some old → patched_slot outcome.value old outcome ≡ Some new → takes_next outcome.value old ≡ true
             → (next : bpf_insn) → slice_get before (i + 1) ≡ Some next → (slots : List bpf_insn) × (written number own i outcome ≡ Ok slots)
         two old new was carry both next follows =
             let (behind, there) = there_is own (i + 1) (rw (← as_many) (slice_get_within before (i + 1) next follows)) in
-            (slice_set (slice_set own i new) (i + 1) (carrying_next outcome.value behind), rw (was, carry, both, there) refl)
+            (slice_set (slice_set own i new) (i + 1) (patched_next_slot outcome.value behind), rw (was, carry, both, there) refl)
 
 pub written_slots_carry : WrittenSlotsCarry
 written_slots_carry number before after i outcome e = IfOk-at_ok (CarriesAt i outcome before) e (carries number before i outcome)
@@ -129,14 +129,14 @@ with_size_bits false false true d code bits e = with_bits code bits 1 (sym (same
 with_size_bits false false false true code bits e = with_bits code bits 2 (sym (same_Some _ _ e))
 with_size_bits false false false false code bits e = cc
 
-resized_class : (code size moved : ℕ) → resized code size ≡ Some moved → moved % 8 ≡ code % 8
+resized_class : (code size moved : ℕ) → resized_code code size ≡ Some moved → moved % 8 ≡ code % 8
 resized_class code size moved e = by_bits (size_bits size) refl e
   where
     by_bits : (o : Option ℕ) → size_bits size ≡ o → option_map (λ bits. code / 32 * 32 + bits + code % 8) o ≡ Some moved → moved % 8 ≡ code % 8
     by_bits None is e = cc
     by_bits (Some bits) is e = ap (λ n. n % 8) (sym (same_Some _ _ e)) ∙ with_size_bits (size == 8) (size == 4) (size == 2) (size == 1) code bits is
 
-sized_class : (same may : Bool) (code size moved : ℕ) → (if same then Some code else (if may then resized code size else None)) ≡ Some moved → moved % 8 ≡ code % 8
+sized_class : (same may : Bool) (code size moved : ℕ) → (if same then Some code else (if may then resized_code code size else None)) ≡ Some moved → moved % 8 ≡ code % 8
 sized_class true may code size moved e = ap (λ n. n % 8) (sym (same_Some _ _ e))
 sized_class false true code size moved e = resized_class code size moved e
 sized_class false false code size moved e = cc
@@ -154,8 +154,8 @@ offset_class true slot n None new same e = cc
 offset_class true slot n (Some code) new same e = ap (λ (s : bpf_insn). s.code % 8) (sym (same_Some _ _ e)) ∙ same code refl
 offset_class false slot n o new same e = cc
 
-carried_class : (c : Carrier) (slot : bpf_insn) (n : ℕ) (outcome : Outcome) (new : bpf_insn) → carried_by c slot n outcome ≡ Some new → new.code % 8 ≡ slot.code % 8
-unfolding carried_by
+carried_class : (c : Carrier) (slot : bpf_insn) (n : ℕ) (outcome : Outcome) (new : bpf_insn) → slot_with_value c slot n outcome ≡ Some new → new.code % 8 ≡ slot.code % 8
+unfolding slot_with_value
 carried_class Immediate slot n outcome new e = ap (λ (s : bpf_insn). s.code % 8) (sym (cond_some (src_of slot == 0) _ new e).1)
 carried_class Offset slot n outcome new e =
     offset_class (nat_lt n (2 ^ 15)) slot n (moved_code slot.code outcome.local outcome.target) new (λ code is. moved_class slot.code outcome.local outcome.target code is) e
@@ -163,16 +163,16 @@ carried_class WideLoad slot n outcome new e = ap (λ (s : bpf_insn). s.code % 8)
 carried_class Nothing slot n outcome new e = cc
 
 -- a slot that carries an outcome goes on in the next one only where it did so before
-new_goes_on : (v : Option ℕ) (old new : bpf_insn) (outcome : Outcome) → carrying v old outcome ≡ Some new → goes_on (Some new) ≡ true → goes_on (Some old) ≡ true
+new_goes_on : (v : Option ℕ) (old new : bpf_insn) (outcome : Outcome) → patched_slot v old outcome ≡ Some new → goes_on (Some new) ≡ true → goes_on (Some old) ≡ true
 new_goes_on None old new outcome e h = let never : false ≡ true = ap goes_on e ∙ h in cc
 new_goes_on (Some n) old new outcome e h = ap (λ class. class == 0) (sym (carried_class (carrier_of old) old n outcome new e)) ∙ h
 
 -- and so does the slot behind it
 next_goes_on : (v : Option ℕ) (old next : bpf_insn) → goes_on (Some (next_slot_written v old next)) ≡ true → goes_on (Some next) ≡ true
 next_goes_on v old next h =
-    by_test (λ (x : bpf_insn). goes_on (Some x) ≡ true → goes_on (Some next) ≡ true) (takes_next v old) (carrying_next v next) next (λ both. behind v) (λ alone more. more) h
+    by_test (λ (x : bpf_insn). goes_on (Some x) ≡ true → goes_on (Some next) ≡ true) (takes_next v old) (patched_next_slot v next) next (λ both. behind v) (λ alone more. more) h
   where
-    behind : (v : Option ℕ) → goes_on (Some (carrying_next v next)) ≡ true → goes_on (Some next) ≡ true
+    behind : (v : Option ℕ) → goes_on (Some (patched_next_slot v next)) ≡ true → goes_on (Some next) ≡ true
     behind None h = cc
     behind (Some n) h = h
 

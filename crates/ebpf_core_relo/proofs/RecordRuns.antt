@@ -25,7 +25,7 @@ use Rattle.ebpf_model.specs.Walks.{KeepsShape}
 use Rattle.ebpf_core.specs.declared.error.RelocationError.TheVariants as errors
 use Rattle.ebpf_core_relo.proofs.OutcomeSlots.{goes_on_before, nothing_behind, written_slots_carry, written_too}
 use Rattle.ebpf_core_relo.specs.RecordOutcomes.{Carries, HasSlot, Touches, goes_on, record_slot, OtherSlotsStay, PutSlotsStand, RecordsAloneAreCarried, RecordsHaveSections, RecordsHaveSlots, RecordsKeepShapes, SlotsStayAsMany, WritesAlone, records_in_section, records_with_sections, section_index_named, section_index_named_at}
-use Rattle.ebpf_core_relo.specs.Carried.{written, carrying, CarriesAt, next_slot_written}
+use Rattle.ebpf_core_relo.specs.Carried.{written, patched_slot, CarriesAt, next_slot_written}
 use Rattle.ebpf_core_relo.specs.Spans.{spans_of, span_at}
 use Rattle.ebpf_core_relo.specs.Records.{RelocationInputs, Written, own_slots, put_outcome, record_applied, slots_so_far, slots_by, all_applied, answer_in_section, named_applied, records_applied, section_applied, unnamed_section, with_slots}
 use Rattle.ebpf_core_relo.specs.declared.spans.Span.{Span}
@@ -177,7 +177,7 @@ module _ (inputs : RelocationInputs) (located : ℕ × Relocation) (so_far left 
 
     first_same : slice_get p.slots p.slot ≡ slice_get too.0 p.slot
     first_same =
-        carries.is ∙ sym carries.carries ∙ ap (λ s. carrying p.outcome.value s p.outcome) same_old ∙ own_carries.carries ∙ sym own_carries.is
+        carries.is ∙ sym carries.carries ∙ ap (λ s. patched_slot p.outcome.value s p.outcome) same_old ∙ own_carries.carries ∙ sym own_carries.is
 
     second_same : goes_on (slice_get (slots_before inputs p.key) p.slot) ≡ true → slice_get p.slots (p.slot + 1) ≡ slice_get too.0 (p.slot + 1)
     second_same h =

@@ -12,7 +12,7 @@ use Rattle.ebpf_btf.specs.declared.types.BtfType.{BtfType}
 use Rattle.ebpf_core_places.specs.Members.{anonymous_levels, member_search, members_in, is_misfit, view, search_entries, first_fitting}
 use Rattle.ebpf_core_places.specs.Places.{place_of}
 use Rattle.ebpf_core_places.specs.declared.places.PlaceFault.{PlaceFault}
-use Rattle.ebpf_core_places.specs.declared.places.Place.{Place}
+use Rattle.ebpf_core_places.specs.declared.places.FieldPlace.{FieldPlace}
 use Rattle.ebpf_core_places.specs.declared.places.PlaceEnd.{PlaceEnd}
 use Rattle.ebpf_core_places.specs.declared.places.PlaceEnd.TheVariants.{Element, Member}
 use Rattle.ebpf_core_places.specs.declared.places.Step.{Step}
@@ -34,7 +34,7 @@ use Rattle.ebpf_core_relo.specs.declared.absence.Furthest.{Furthest}
 
 -- ---- how far a path leads
 
-abbrev pub is_place : Result (Option Place) PlaceFault → Bool
+abbrev pub is_place : Result (Option FieldPlace) PlaceFault → Bool
 is_place (Ok (Some place)) = true
 is_place (Ok None) = false
 is_place (Err fault) = false
@@ -90,12 +90,12 @@ is_member_of target name None = false
 is_member_of target name (Some id) = has_member target name anonymous_levels (members_of_id target id)
 
 -- A step by a name that leads nowhere from a place: a member of the name that is there has a type that doesn't fit.
-abbrev pub name_absence : TypeInfo → List ℕ → Result (Option Place) PlaceFault → Absence
+abbrev pub name_absence : TypeInfo → List ℕ → Result (Option FieldPlace) PlaceFault → Absence
 name_absence target name (Ok (Some place)) = if is_member_of target name (type_of_end target.types place.end) then MemberOfAnotherKind else NoMember
 name_absence target name _ = NoMember
 
 -- the absence at the step that leads nowhere; where no step is left, the place that was found has no value
-abbrev pub step_absence : TypeInfo → Result (Option Place) PlaceFault → Option Step → Absence
+abbrev pub step_absence : TypeInfo → Result (Option FieldPlace) PlaceFault → Option Step → Absence
 step_absence target from None = NoValue
 step_absence target from (Some (Name name local_type)) = name_absence target name from
 step_absence target from (Some (Index index)) = NoMember
@@ -175,7 +175,7 @@ AbsencesAreOfPaths =
 -- The reason of a field is `NoValue` exactly where a candidate matches.
 abbrev pub NoValueIsOfMatches : Type 0
 NoValueIsOfMatches =
-    (local target : TypeInfo) (local_id : ℕ) (steps : List Step) (place : Place) (ids : List ℕ) (found : List Match)
+    (local target : TypeInfo) (local_id : ℕ) (steps : List Step) (place : FieldPlace) (ids : List ℕ) (found : List Match)
     → matches local target local_id (paths.Field steps place) ids ≡ Ok found
     → (field_absence local target steps ids ≡ NoValue → found ≢ []) × (found ≢ [] → field_absence local target steps ids ≡ NoValue)
 

@@ -43,8 +43,8 @@ size_bits size =
     else (if size == 1 then Some size_b else None)))
 
 -- a code that moves so many bytes
-abbrev pub resized : ℕ → ℕ → Option ℕ
-resized code size = option_map (λ bits. code / 32 * 32 + bits + code % 8) (size_bits size)
+abbrev pub resized_code : ℕ → ℕ → Option ℕ
+resized_code code size = option_map (λ bits. code / 32 * 32 + bits + code % 8) (size_bits size)
 
 -- whether a load of the one may become a load of the other: of pointers, and of integers without a sign
 unfoldable pub may_resize : FieldClass → FieldClass → Bool
@@ -52,10 +52,10 @@ may_resize Pointer Pointer = true
 may_resize UnsignedInt UnsignedInt = true
 may_resize _ _ = false
 
-abbrev pub resized_to : ℕ → LoadedField → LoadedField → Option ℕ
-resized_to code local target =
+abbrev pub code_for_target : ℕ → LoadedField → LoadedField → Option ℕ
+code_for_target code local target =
     if local.size == target.size then Some code
-    else (if may_resize local.class target.class then resized code target.size else None)
+    else (if may_resize local.class target.class then resized_code code target.size else None)
 
 -- The code of a load or store that moves the field that was found in place of the local one. A bit field has no size:
 -- on one side alone it can't be moved.
@@ -63,7 +63,7 @@ unfoldable pub moved_code : ℕ → Option LoadedField → Option LoadedField �
 moved_code code None None = Some code
 moved_code code None (Some target) = None
 moved_code code (Some local) None = None
-moved_code code (Some local) (Some target) = resized_to code local target
+moved_code code (Some local) (Some target) = code_for_target code local target
 
 abbrev pub with_offset : bpf_insn → ℕ → Outcome → Option bpf_insn
 with_offset slot number outcome =
@@ -72,11 +72,11 @@ with_offset slot number outcome =
     else None
 
 -- a slot that carries a number, if it can
-unfoldable pub carried_by : Carrier → bpf_insn → ℕ → Outcome → Option bpf_insn
-carried_by Immediate slot number outcome = if src_of slot == 0 then Some (record slot { imm = low_half number }) else None
-carried_by Offset slot number outcome = with_offset slot number outcome
-carried_by WideLoad slot number outcome = Some (record slot { imm = low_half number })
-carried_by Nothing slot number outcome = None
+unfoldable pub slot_with_value : Carrier → bpf_insn → ℕ → Outcome → Option bpf_insn
+slot_with_value Immediate slot number outcome = if src_of slot == 0 then Some (record slot { imm = low_half number }) else None
+slot_with_value Offset slot number outcome = with_offset slot number outcome
+slot_with_value WideLoad slot number outcome = Some (record slot { imm = low_half number })
+slot_with_value Nothing slot number outcome = None
 
 -- a slot that fails where it is reached: a call of a helper function that no kernel has
 abbrev pub poison : bpf_insn
@@ -88,9 +88,9 @@ is_wide_load _ = false
 
 -- what a slot becomes that carries an outcome, if it can: by its class with a number, without one what fails where it is
 -- reached
-abbrev pub carrying : Option ℕ → bpf_insn → Outcome → Option bpf_insn
-carrying None slot outcome = Some poison
-carrying (Some number) slot outcome = carried_by (carrier_of slot) slot number outcome
+abbrev pub patched_slot : Option ℕ → bpf_insn → Outcome → Option bpf_insn
+patched_slot None slot outcome = Some poison
+patched_slot (Some number) slot outcome = slot_with_value (carrier_of slot) slot number outcome
 
 -- ---- the slots of a function
 
@@ -100,20 +100,20 @@ takes_next None slot = slot.code == ld_imm64
 takes_next (Some number) slot = is_wide_load (carrier_of slot)
 
 -- what that slot becomes
-abbrev pub carrying_next : Option ℕ → bpf_insn → bpf_insn
-carrying_next None next = poison
-carrying_next (Some number) next = record next { imm = high_half number }
+abbrev pub patched_next_slot : Option ℕ → bpf_insn → bpf_insn
+patched_next_slot None next = poison
+patched_next_slot (Some number) next = record next { imm = high_half number }
 
 -- The slots of a function of which slot i carries the outcome of the record with a number. The faults in order: there is
 -- no slot i, it can't carry the outcome, or one behind it that is to carry it too is not there.
 unfoldable pub written : ℕ → List bpf_insn → ℕ → Outcome → Result (List bpf_insn) RelocationError
 written record_number slots i outcome =
     if_some (slice_get slots i)
-    (λ slot. if_some (carrying outcome.value slot outcome)
+    (λ slot. if_some (patched_slot outcome.value slot outcome)
     (λ new.
     if takes_next outcome.value slot
     then if_some (slice_get slots (i + 1))
-    (λ next. Ok (slice_set (slice_set slots i new) (i + 1) (carrying_next outcome.value next)))
+    (λ next. Ok (slice_set (slice_set slots i new) (i + 1) (patched_next_slot outcome.value next)))
     (Err (InvalidInstructionIndex (i + 1) (length slots) record_number))
     else Ok (slice_set slots i new))
     (Err (InvalidInstruction record_number i [])))
@@ -123,14 +123,14 @@ written record_number slots i outcome =
 
 -- the slot behind one that carries an outcome, where it is to carry it too
 abbrev pub next_slot_written : Option ℕ → bpf_insn → bpf_insn → bpf_insn
-next_slot_written value slot next = if takes_next value slot then carrying_next value next else next
+next_slot_written value slot next = if takes_next value slot then patched_next_slot value next else next
 
 -- the slots of a function of which slot i carries an outcome, slot by slot
 pub record CarriesAt (i : ℕ) (outcome : Outcome) (before after : List bpf_insn) : Type 0 where
   pub old : bpf_insn
   pub was : slice_get before i ≡ Some old
   pub new : bpf_insn
-  pub carries : carrying outcome.value old outcome ≡ Some new
+  pub carries : patched_slot outcome.value old outcome ≡ Some new
   pub is : slice_get after i ≡ Some new
   pub next : slice_get after (i + 1) ≡ option_map (next_slot_written outcome.value old) (slice_get before (i + 1))
   pub others : (k : ℕ) → k ≢ i → k ≢ i + 1 → slice_get after k ≡ slice_get before k

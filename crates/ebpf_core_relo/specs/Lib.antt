@@ -5,3 +5,4 @@ pub mod Carried
 pub mod Spans
 -- What only private contracts and proofs name.
 pub mod PrivateContracts
+pub mod SpanInputs

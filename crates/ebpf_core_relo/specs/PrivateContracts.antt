@@ -13,7 +13,7 @@ use Rattle.ebpf_model.specs.Symbols.{FunctionKey}
 use Rattle.ebpf_model.specs.declared.function.Function.{Function}
 use Rattle.std.specs.Option.{option_or}
 use Rattle.ebpf_core_relo.specs.Spans.{span_at}
-use Rattle.ebpf_core_relo.specs.declared.carried.CarryingSlots.{CarryingSlots}
+use Rattle.ebpf_core_relo.specs.declared.carried.PatchedSlots.{PatchedSlots}
 use Rattle.ebpf_btf.specs.declared.error.BtfError.TheVariants.{InvalidStringOffset}
 use Rattle.ebpf_core.specs.declared.error.RelocationError.TheVariants.{BtfError, SectionNotFound}
 use Rattle.ebpf_core_relo.specs.declared.outcomes.FoundSection.{FoundSection}
@@ -70,8 +70,8 @@ abbrev pub put_behind : List bpf_insn → ℕ → Option bpf_insn → List bpf_i
 put_behind slots i None = slots
 put_behind slots i (Some next) = slice_set slots (i + 1) next
 
-abbrev pub put_at : List bpf_insn → ℕ → CarryingSlots → List bpf_insn
-put_at slots i carrying = put_behind (slice_set slots i carrying.slot) i carrying.next
+abbrev pub put_at : List bpf_insn → ℕ → PatchedSlots → List bpf_insn
+put_at slots i patched = put_behind (slice_set slots i patched.slot) i patched.next
 
 -- a slot behind another is there, where it is to be written
 abbrev pub HasRoom : List bpf_insn → ℕ → Option bpf_insn → Type 0

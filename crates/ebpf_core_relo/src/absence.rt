@@ -1,4 +1,4 @@
-//! Why a record has no value, and how far along its path candidates come.
+//! The reasons why records have no value, by the candidates that come furthest along the path of a field.
 
 ghost use Rattle.std.specs.Prelude.{◌≡◌, IfOk, ◌≤◌, length, max};
 ghost use Rattle.ebpf_btf.specs.Strings.{is_text, text_at};
@@ -11,11 +11,11 @@ use ebpf_core::NamedPath;
 use ebpf_core_places::{PlaceEnd, Step, place_in};
 use std::alloc::AllocError;
 
-/// Inside how many anonymous members a name is looked for at most.
+/// The maximum number of anonymous members around a name that is looked for.
 const UNNAMED_LEVELS: u32 = 64;
 
-/// What the kernel's types lack, so that a record has no value. Where a field is asked for it is what the type lacks
-/// that has the field's path furthest, and of those that have it as far the one with the lowest id.
+/// The reason why a record has no value: what the kernel's types lack. Of a field, the type counts that has the field's
+/// path furthest, and of types that have it as far the one with the lowest id.
 #[derive(Clone, Copy, Debug, PartialEq, Eq)]
 pub enum Absence {
     /// No type has the kind and the name.
@@ -32,6 +32,15 @@ pub enum Absence {
     NoValue,
 }
 
+/// The candidate that comes furthest along a path, and the number of steps.
+#[derive(Clone, Copy)]
+pub struct Furthest {
+    /// The candidate's id. None where no step leads anywhere.
+    pub candidate: Option<u32>,
+    /// The number of steps that lead somewhere in the candidate.
+    pub steps: usize,
+}
+
 /// Whether a member has a name.
 fn has_name(target: &Btf, name: &str, member: &BtfMember) -> bool
     ensures { result ≡ is_text name.now (text_at target.now.strings member.now.name_offset) }
@@ -39,7 +48,7 @@ fn has_name(target: &Btf, name: &str, member: &BtfMember) -> bool
     matches!(target.is_name_at(member.name_offset, name), Ok(true))
 }
 
-/// The members of the type that an id stands for; none of one that is no STRUCT or UNION.
+/// The members of the type that an id stands for; none where the type is no STRUCT or UNION.
 fn members_of_id(target: &Btf, type_id: u32) -> Rows<'_, BtfMember>
     ensures { result ≡ members_of_id target.now type_id }
 {
@@ -72,7 +81,7 @@ fn has_member(target: &Btf, name: &str, type_id: u32, levels: u32) -> bool
     false
 }
 
-/// The id of the type of what a path ends in.
+/// The id of the type at the end of a path.
 fn type_of_end(target: &Btf, end: PlaceEnd) -> Option<u32>
     ensures { result ≡ type_of_end target.now.types end }
 {
@@ -85,7 +94,7 @@ fn type_of_end(target: &Btf, end: PlaceEnd) -> Option<u32>
     }
 }
 
-/// Whether what a path ends in has a member of a name.
+/// Whether the type at the end of a path has a member of a name.
 fn is_member_of(target: &Btf, name: &str, end: PlaceEnd) -> bool
     ensures { result ≡ is_member_of target.now name.now (type_of_end target.now.types end) }
 {
@@ -95,7 +104,7 @@ fn is_member_of(target: &Btf, name: &str, end: PlaceEnd) -> bool
     }
 }
 
-/// Why a name leads nowhere from where a path leads in a candidate.
+/// The reason why a name leads nowhere from the end of a path in a candidate.
 fn name_absence(
     local: &Btf,
     target: &Btf,
@@ -118,7 +127,7 @@ fn name_absence(
     }
 }
 
-/// What the candidate lacks that comes furthest along a path.
+/// The reason why a field has no value: what the candidate that comes furthest along the path lacks.
 #[tactic(auto, unfolding(crate::specs::Absences::field_absence))]
 fn field_absence(
     local: &Btf,
@@ -145,7 +154,7 @@ fn field_absence(
     }
 }
 
-/// Why a path of the local type has no value among candidates, the target types that it may stand for.
+/// The reason why a path of the local type has no value among candidates, the target types that it may stand for.
 pub fn absence_among(
     local: &Btf,
     target: &Btf,
@@ -164,15 +173,6 @@ pub fn absence_among(
             field_absence(local, target, steps.as_slice(), candidates)
         }
     }
-}
-
-/// The candidate that comes furthest along a path, and how far.
-#[derive(Clone, Copy)]
-pub struct Furthest {
-    /// Its id. None where no step leads anywhere.
-    pub candidate: Option<u32>,
-    /// How many steps lead somewhere in it.
-    pub steps: usize,
 }
 
 /// Whether so many steps of a path lead somewhere in a candidate.
@@ -195,7 +195,7 @@ fn leads(
     }
 }
 
-/// How many steps of a path lead somewhere in a candidate, if they are more than so many.
+/// The number of steps of a path that lead somewhere in a candidate, or a known number that is greater.
 #[tactic(auto, unfolding(crate::specs::Absences::reach))]
 fn reach_past(
     local: &Btf,

@@ -4,7 +4,7 @@ ghost use Rattle.std.specs.Prelude.{◌≡◌, ◌<◌, ◌≤◌, ⊤, MatchBoo
 ghost use Rattle.ebpf_core.specs.Answers.{Tells, without_texts, is_record_memory};
 ghost use Rattle.ebpf_core.specs.declared.error.RelocationError.TheVariants as errors;
 ghost use Rattle.ebpf_core_relo.specs.PrivateContracts.{HasRoom, put_at};
-ghost use Rattle.ebpf_core_relo.specs.Carried.{carrier_of, carried_by, carrying, carrying_next, high_half, low_half, may_resize, moved_code, poison, resized, resized_to, size_bits, takes_next, with_offset, written};
+ghost use Rattle.ebpf_core_relo.specs.Carried.{carrier_of, slot_with_value, patched_slot, patched_next_slot, high_half, low_half, may_resize, moved_code, poison, resized_code, code_for_target, size_bits, takes_next, with_offset, written};
 
 use ebpf_base::Text;
 use ebpf_core::{FieldClass, LoadedField, Outcome, RelocationError};
@@ -17,7 +17,7 @@ use std::alloc::Global;
 /// The greatest offset of a load or store.
 const GREATEST_OFFSET: u64 = 32_767;
 
-/// Where a slot carries a number.
+/// The part of a slot that carries a number.
 #[derive(Clone, Copy)]
 pub enum Carrier {
     /// In its immediate.
@@ -30,7 +30,7 @@ pub enum Carrier {
     Nothing,
 }
 
-/// Where a slot carries a number, by its class (RFC 9669, section 3.3).
+/// The part of a slot that carries a number, by the class of the slot (RFC 9669, section 3.3).
 fn carrier_of(slot: &bpf_insn) -> Carrier
     ensures { result ≡ carrier_of slot.now }
 {
@@ -71,8 +71,8 @@ fn size_bits(size: u32) -> Option<u8>
 }
 
 /// A load's or store's code that moves so many bytes.
-fn resized(code: u8, size: u32) -> Option<u8>
-    ensures { result ≡ resized code size }
+fn resized_code(code: u8, size: u32) -> Option<u8>
+    ensures { result ≡ resized_code code size }
 {
     let bits = size_bits(size)?;
     Some(code / 32 * 32 + bits + code % 8)
@@ -91,8 +91,8 @@ fn may_resize(local: FieldClass, target: FieldClass) -> bool
 }
 
 /// The code that moves the field that was found in place of the local one.
-fn resized_to(code: u8, local: LoadedField, target: LoadedField) -> Option<u8>
-    ensures { result ≡ resized_to code local target }
+fn code_for_target(code: u8, local: LoadedField, target: LoadedField) -> Option<u8>
+    ensures { result ≡ code_for_target code local target }
 {
     if local.size == target.size {
         return Some(code);
@@ -100,7 +100,7 @@ fn resized_to(code: u8, local: LoadedField, target: LoadedField) -> Option<u8>
     if !may_resize(local.class, target.class) {
         return None;
     }
-    resized(code, target.size)
+    resized_code(code, target.size)
 }
 
 /// The code that moves the field that was found in place of the local one; none where either has no size.
@@ -110,7 +110,7 @@ fn moved_code(code: u8, local: Option<LoadedField>, target: Option<LoadedField>)
 {
     match (local, target) {
         (None, None) => Some(code),
-        (Some(local), Some(target)) => resized_to(code, local, target),
+        (Some(local), Some(target)) => code_for_target(code, local, target),
         _ => None,
     }
 }
@@ -130,6 +130,9 @@ fn with_offset(slot: bpf_insn, number: u64, outcome: &Outcome) -> Option<bpf_ins
     })
 }
 
+/// The immediate of a poisoned call, as libbpf writes it.
+const BAD_RELO: i32 = 0x0bad_2310;
+
 /// A slot that fails where it is reached.
 fn poison() -> bpf_insn
     ensures { result ≡ poison }
@@ -143,9 +146,9 @@ fn poison() -> bpf_insn
 }
 
 /// A slot that carries a number, if it can.
-#[tactic(auto, unfolding(crate::specs::Carried::carried_by))]
-fn carried(slot: bpf_insn, number: u64, outcome: &Outcome) -> Option<bpf_insn>
-    ensures { result ≡ carried_by (carrier_of slot) slot number outcome.now }
+#[tactic(auto, unfolding(crate::specs::Carried::slot_with_value))]
+fn slot_with_value(slot: bpf_insn, number: u64, outcome: &Outcome) -> Option<bpf_insn>
+    ensures { result ≡ slot_with_value (carrier_of slot) slot number outcome.now }
 {
     match carrier_of(&slot) {
         Carrier::Immediate if slot.src_reg() != 0 => None,
@@ -158,12 +161,12 @@ fn carried(slot: bpf_insn, number: u64, outcome: &Outcome) -> Option<bpf_insn>
     }
 }
 
-/// What a slot becomes that carries an outcome, if it can.
-fn carrying(slot: bpf_insn, outcome: &Outcome) -> Option<bpf_insn>
-    ensures { result ≡ carrying outcome.now.value slot outcome.now }
+/// A slot that carries an outcome, if it can.
+fn patched_slot(slot: bpf_insn, outcome: &Outcome) -> Option<bpf_insn>
+    ensures { result ≡ patched_slot outcome.now.value slot outcome.now }
 {
     match outcome.value {
-        Some(number) => carried(slot, number, outcome),
+        Some(number) => slot_with_value(slot, number, outcome),
         None => Some(poison()),
     }
 }
@@ -178,9 +181,9 @@ fn takes_next(value: Option<u64>, slot: &bpf_insn) -> bool
     }
 }
 
-/// What that slot becomes.
-fn carrying_next(value: Option<u64>, next: bpf_insn) -> bpf_insn
-    ensures { result ≡ carrying_next value next }
+/// The slot behind one that carries an outcome, where the outcome takes both.
+fn patched_next_slot(value: Option<u64>, next: bpf_insn) -> bpf_insn
+    ensures { result ≡ patched_next_slot value next }
 {
     match value {
         Some(number) => bpf_insn {
@@ -224,63 +227,64 @@ fn no_carrier<X>(
     })
 }
 
-/// What a record makes of its slot, and of the one behind it where both carry its outcome.
+/// The slot of a record with the outcome of the record, and the slot behind it where the outcome takes both.
 #[derive(Clone, Copy)]
-pub struct CarryingSlots {
+pub struct PatchedSlots {
     pub slot: bpf_insn,
     pub next: Option<bpf_insn>,
 }
 
-/// What a record that came to an outcome makes of slot `at` of a function. Nothing is written.
+/// Slot `at` of a function with the outcome of a record. Nothing is written.
 ///
 /// # Errors
 ///
-/// `InvalidInstructionIndex` where the slot, or the second slot of a wide load, is not there; `InvalidInstruction`
-/// where the slot can't carry the number: a jump, arithmetic with a source register, a load or store of a number past
-/// 32,767, or of a field of another size that is not 1, 2, 4 or 8 bytes or not a pointer or an integer without a sign
-/// on both sides. `OutOfMemory` where memory is refused.
+/// - `InvalidInstructionIndex`: the slot, or the second slot of a wide load, is not there.
+/// - `InvalidInstruction`: the slot can't carry the number: a jump, arithmetic with a source register, a load or store of
+///   a number past 32,767, or of a field of another size that is not 1, 2, 4 or 8 bytes or not a pointer or an integer
+///   without a sign on both sides.
+/// - `OutOfMemory`: memory is refused.
 #[tactic(auto, unfolding(crate::specs::Carried::written))]
-pub fn carrying_slots(
+pub fn patched_slots(
     alloc: Global,
     slots: &[bpf_insn],
     at: usize,
     record_number: usize,
     outcome: &Outcome,
-) -> Result<CarryingSlots, RelocationError>
-    ensures slots { IfOk result (λ carrying. written record_number slots.now at outcome.now ≡ Ok (put_at slots.now at carrying)) }
-    ensures there { IfOk result (λ carrying. (at < length slots.now) × HasRoom slots.now at carrying.next) }
+) -> Result<PatchedSlots, RelocationError>
+    ensures slots { IfOk result (λ patched. written record_number slots.now at outcome.now ≡ Ok (put_at slots.now at patched)) }
+    ensures there { IfOk result (λ patched. (at < length slots.now) × HasRoom slots.now at patched.next) }
     ensures fault { IfErr result (λ e. MatchBool (is_record_memory e) ⊤ (written record_number slots.now at outcome.now ≡ Err (without_texts e))) }
 {
     let Some(slot) = slots.get(at) else {
         return missing_slot(slots, at, record_number);
     };
-    let Some(carrying) = carrying(*slot, outcome) else {
+    let Some(patched) = patched_slot(*slot, outcome) else {
         let number = outcome.value.unwrap_or(0);
         return no_carrier(alloc, at, record_number, slot.code, number);
     };
     if !takes_next(outcome.value, slot) {
-        return Ok(CarryingSlots {
-            slot: carrying,
+        return Ok(PatchedSlots {
+            slot: patched,
             next: None,
         });
     }
     let Some(next) = slots.get(at + 1) else {
         return missing_slot(slots, at + 1, record_number);
     };
-    Ok(CarryingSlots {
-        slot: carrying,
-        next: Some(carrying_next(outcome.value, *next)),
+    Ok(PatchedSlots {
+        slot: patched,
+        next: Some(patched_next_slot(outcome.value, *next)),
     })
 }
 
-/// Writes what a record makes of slot `at` of a function.
-pub fn put_slots_at(slots: &mut [bpf_insn], at: usize, carrying: CarryingSlots)
+/// Writes slot `at` of a function with the outcome of a record.
+pub fn put_slots_at(slots: &mut [bpf_insn], at: usize, patched: PatchedSlots)
     requires slot { at < length slots.old }
-    requires next { HasRoom slots.old at carrying.next }
-    ensures { slots.new ≡ put_at slots.old at carrying }
+    requires next { HasRoom slots.old at patched.next }
+    ensures { slots.new ≡ put_at slots.old at patched }
 {
-    slots[at] = carrying.slot;
-    let Some(next) = carrying.next else {
+    slots[at] = patched.slot;
+    let Some(next) = patched.next else {
         return;
     };
     slots[at + 1] = next;

@@ -1,4 +1,4 @@
-//! Why the slots of a section could not be relocated to another kernel's types, and want of memory.
+//! The errors of relocating the slots of a section to another kernel's types.
 
 ghost use Rattle.std.specs.Prelude.{◌≡◌, [], false, IfOk, OnOk};
 ghost use Rattle.ebpf_core.specs.declared.error.RelocationError.TheVariants.{OutOfMemory};
@@ -14,19 +14,19 @@ use ebpf_parts::Within;
 use std::alloc::{AllocError, Global};
 use thiserror::Error;
 
-/// Why a record of `.BTF.ext` could not be applied, and the section that it speaks of.
+/// The error of a record of `.BTF.ext` that can't be applied, and the section of the record.
 #[derive(Debug, Drop, Error)]
 #[error("{}{error}", Within {what: "section", name: .section.as_str()})]
 pub struct BtfRelocationError {
     /// The section's name; `section@OFFSET` where the name at that offset can't be read, and empty where memory was
     /// refused.
     pub section: Text,
-    /// Why.
+    /// The error of the record.
     pub error: RelocationError,
 }
 
 impl BtfRelocationError {
-    /// Want of memory, with an empty name.
+    /// Out of memory, with an empty name.
     pub fn memory(alloc: Global) -> BtfRelocationError
         ensures section { result.section ≡ [] }
         ensures error { result.error ≡ OutOfMemory }
@@ -38,7 +38,7 @@ impl BtfRelocationError {
     }
 }
 
-/// Refuses where memory was refused, and gives any other fault back.
+/// `AllocError` where memory was refused; gives any other fault back.
 pub fn unless_memory(fault: RelocationError) -> Result<RelocationError, AllocError>
     ensures same { IfOk result (λ e. e ≡ fault) }
     ensures other { OnOk result (is_record_memory fault ≡ false) }
@@ -49,7 +49,7 @@ pub fn unless_memory(fault: RelocationError) -> Result<RelocationError, AllocErr
     }
 }
 
-/// Refuses where memory was refused to a look at types.
+/// `AllocError` where memory was refused to a look at types.
 pub fn unless_memory_of_types(error: BtfError) -> Result<(), AllocError>
     ensures { OnOk result (types.is_btf_memory error ≡ false) }
 {
@@ -59,7 +59,7 @@ pub fn unless_memory_of_types(error: BtfError) -> Result<(), AllocError>
     }
 }
 
-/// Refuses where memory was refused to a look at a place.
+/// `AllocError` where memory was refused to a look at a place.
 pub fn unless_memory_of_places(fault: PlaceFault) -> Result<(), AllocError>
     ensures { OnOk result (places.is_place_memory fault ≡ false) }
 {

@@ -1,9 +1,10 @@
-//! What each record of an object comes to, also behind one that is refused.
+//! The outcome of each record of an object, also behind a record that is refused.
 
 ghost use Rattle.std.specs.Prelude.{◌≡◌, [], ◌∷◌, ◌++◌, map, None, Ok, IfOk, OnOk};
 ghost use Rattle.ebpf_core.specs.Searches.{Sides};
 ghost use Rattle.ebpf_core_relo.specs.RecordOutcomes.{applied, left_by, named_in, named_records, outcome_in, outcomes_from, record_outcomes, record_slots, section_number_at, slot_of_record, slots_left, outcome_without_texts};
-ghost use Rattle.ebpf_core_relo.specs.Records.{relocation_inputs_between, relocation_inputs};
+ghost use Rattle.ebpf_core_relo.specs.Records.{relocation_inputs_between};
+ghost use Rattle.ebpf_core_relo.specs.SpanInputs.{inputs_of};
 ghost use Rattle.ebpf_core_relo.specs.PrivateContracts.{found_number};
 ghost use Rattle.ebpf_core_relo.specs.declared.outcomes.RecordResult.TheVariants.{Refused};
 
@@ -20,10 +21,52 @@ use ebpf_model::Function;
 use ebpf_parts::insn::bpf_insn;
 use std::alloc::{AllocError, Global};
 
-/// What is found of a section by the offset of its name.
+/// The outcome of each CO-RE record of an object, and the slots that all of them write.
+#[derive(Debug, Drop)]
+pub struct RecordOutcomes {
+    /// The records in order, also those behind one that is refused.
+    pub records: Items<RecordOutcome>,
+    /// The slots that the records write, those that are refused aside, each over those before it, by the functions' keys.
+    pub written: ByKey<Items<bpf_insn>>,
+}
+
+/// The outcome of one record.
+#[derive(Debug, Drop)]
+pub struct RecordOutcome {
+    /// The offset of the section's name in the strings of the local types.
+    pub section_name: u32,
+    /// The position among the records of the section, from 0 on.
+    pub number: usize,
+    /// The slot of the record, where a function of the section has it.
+    pub slot: Option<RecordSlot>,
+    /// The result of the record.
+    pub result: RecordResult,
+}
+
+/// The slot of a record.
+#[derive(Clone, Copy, Debug, PartialEq, Eq)]
+pub struct RecordSlot {
+    /// The key of the slot's function: the index of the section, and the address.
+    pub function: (usize, u64),
+    /// The number of the slot in the function, from 0 on.
+    pub slot: usize,
+}
+
+/// The result of a record.
+#[derive(Debug, Drop)]
+pub enum RecordResult {
+    /// The instruction carries a number: also the 0 that says that something is not there, where that is asked.
+    Value(Outcome),
+    /// There is no number, and the instruction fails where it is reached.
+    Absent(Absence),
+    /// The record can't be applied, and the instruction is as it was.
+    Refused(RelocationError),
+}
+
+/// The result of a look-up of a section by the offset of its name.
 #[derive(Clone, Copy)]
 pub enum FoundSection {
-    /// Its number.
+    /// The section has this number.
     Number(usize),
     /// No name can be read at the offset.
     NoName(usize),
@@ -38,7 +81,7 @@ struct NamedSection {
     found: FoundSection,
 }
 
-/// The section whose name stands at an offset.
+/// The section whose name is at an offset.
 #[tactic(auto, unfolding(crate::specs::RecordOutcomes::section_number_at, ebpf_btf::specs::Strings::text_at))]
 fn section_number_at(
     function_spans: &FunctionSpans<'_>,
@@ -60,13 +103,13 @@ fn section_number_at(
     }
 }
 
-/// The slot that a record of a section is about.
+/// The slot of a record of a section.
 fn slot_of_record(
     function_spans: &FunctionSpans<'_>,
     section: usize,
     relocation: &Relocation,
 ) -> Option<RecordSlot>
-    ensures { (sides : Sides) → result ≡ slot_of_record (relocation_inputs sides function_spans.now.functions.now function_spans.now.section_infos.now) (Ok section) relocation.now }
+    ensures { (sides : Sides) → result ≡ slot_of_record (inputs_of sides function_spans.now) (Ok section) relocation.now }
 {
     let offset = relocation.insn_off as usize;
     let span = span_in(&function_spans.spans, section, offset)?;
@@ -76,8 +119,12 @@ fn slot_of_record(
     })
 }
 
-/// What a record comes to whose section is not found.
-fn unplaced(name: u32, relocation: &Relocation, fault: RelocationError) -> RecordOutcome
+/// The outcome of a record whose section is missing.
+fn outcome_without_section(
+    name: u32,
+    relocation: &Relocation,
+    fault: RelocationError,
+) -> RecordOutcome
     ensures { result ≡ record { section_name = name; number = relocation.now.number; slot = None; result = Refused fault } }
 {
     RecordOutcome {
@@ -88,7 +135,7 @@ fn unplaced(name: u32, relocation: &Relocation, fault: RelocationError) -> Recor
     }
 }
 
-/// What a record of a section comes to, with its slot.
+/// The outcome of a record of a section, with the slot of the record.
 fn outcome_in(
     alloc: Global,
     search: &mut RecordSearch<'_>,
@@ -97,8 +144,8 @@ fn outcome_in(
     written: &mut ByKey<Items<bpf_insn>>,
     relocation: &Relocation,
 ) -> Result<RecordOutcome, AllocError>
-    ensures outcome { IfOk result (λ outcome. outcome_without_texts outcome ≡ outcome_in (relocation_inputs search.old function_spans.now.functions.now function_spans.now.section_infos.now) section.name (found_number section.found) written.old relocation.now) }
-    ensures written { OnOk result (written.new ≡ left_by written.old (applied (relocation_inputs search.old function_spans.now.functions.now function_spans.now.section_infos.now) (found_number section.found) written.old relocation.now)) }
+    ensures outcome { IfOk result (λ outcome. outcome_without_texts outcome ≡ outcome_in (inputs_of search.old function_spans.now) section.name (found_number section.found) written.old relocation.now) }
+    ensures written { OnOk result (written.new ≡ left_by written.old (applied (inputs_of search.old function_spans.now) (found_number section.found) written.old relocation.now)) }
     ensures search { search.new ≡ search.old }
 {
     match section.found {
@@ -113,9 +160,9 @@ fn outcome_in(
         }
         FoundSection::NoName(offset) => {
             let error = BtfError::InvalidStringOffset { offset };
-            Ok(unplaced(section.name, relocation, RelocationError::BtfError(error)))
+            Ok(outcome_without_section(section.name, relocation, RelocationError::BtfError(error)))
         }
-        FoundSection::NoSection => Ok(unplaced(
+        FoundSection::NoSection => Ok(outcome_without_section(
             section.name,
             relocation,
             RelocationError::SectionNotFound,
@@ -123,7 +170,7 @@ fn outcome_in(
     }
 }
 
-/// Adds what a record of a section comes to.
+/// Adds the outcome of a record of a section.
 fn add_record(
     alloc: Global,
     search: &mut RecordSearch<'_>,
@@ -132,8 +179,8 @@ fn add_record(
     relocation: &Relocation,
     outcomes: &mut RecordOutcomes,
 ) -> Result<(), AllocError>
-    ensures records { OnOk result (map outcome_without_texts outcomes.new.records ≡ map outcome_without_texts outcomes.old.records ++ outcome_in (relocation_inputs search.old function_spans.now.functions.now function_spans.now.section_infos.now) section.name (found_number section.found) outcomes.old.written relocation.now ∷ []) }
-    ensures written { OnOk result (outcomes.new.written ≡ left_by outcomes.old.written (applied (relocation_inputs search.old function_spans.now.functions.now function_spans.now.section_infos.now) (found_number section.found) outcomes.old.written relocation.now)) }
+    ensures records { OnOk result (map outcome_without_texts outcomes.new.records ≡ map outcome_without_texts outcomes.old.records ++ outcome_in (inputs_of search.old function_spans.now) section.name (found_number section.found) outcomes.old.written relocation.now ∷ []) }
+    ensures written { OnOk result (outcomes.new.written ≡ left_by outcomes.old.written (applied (inputs_of search.old function_spans.now) (found_number section.found) outcomes.old.written relocation.now)) }
     ensures search { search.new ≡ search.old }
 {
     let outcome = outcome_in(
@@ -148,7 +195,7 @@ fn add_record(
     Ok(())
 }
 
-/// Adds what the records of a section come to, in order.
+/// Adds the outcomes of the records of a section, in order.
 fn add_records(
     alloc: Global,
     search: &mut RecordSearch<'_>,
@@ -158,8 +205,8 @@ fn add_records(
     outcomes: &mut RecordOutcomes,
 ) -> Result<(), AllocError>
     requires { found_number section.found ≡ section_number_at search.old.local function_spans.now.section_infos.now section.name }
-    ensures records { OnOk result (map outcome_without_texts outcomes.new.records ≡ map outcome_without_texts outcomes.old.records ++ outcomes_from (relocation_inputs search.old function_spans.now.functions.now function_spans.now.section_infos.now) outcomes.old.written (named_in section.name relocations.now)) }
-    ensures written { OnOk result (outcomes.new.written ≡ slots_left (relocation_inputs search.old function_spans.now.functions.now function_spans.now.section_infos.now) outcomes.old.written (named_in section.name relocations.now)) }
+    ensures records { OnOk result (map outcome_without_texts outcomes.new.records ≡ map outcome_without_texts outcomes.old.records ++ outcomes_from (inputs_of search.old function_spans.now) outcomes.old.written (named_in section.name relocations.now)) }
+    ensures written { OnOk result (outcomes.new.written ≡ slots_left (inputs_of search.old function_spans.now) outcomes.old.written (named_in section.name relocations.now)) }
     ensures search { search.new ≡ search.old }
 {
     for relocation in relocations {
@@ -168,7 +215,7 @@ fn add_records(
     Ok(())
 }
 
-/// Adds what all records come to, section by section.
+/// Adds the outcomes of all records, section by section.
 fn add_sections(
     alloc: Global,
     search: &mut RecordSearch<'_>,
@@ -178,8 +225,8 @@ fn add_sections(
     outcomes: &mut RecordOutcomes,
 ) -> Result<(), AllocError>
     requires { search.old.local ≡ local.now }
-    ensures records { OnOk result (map outcome_without_texts outcomes.new.records ≡ map outcome_without_texts outcomes.old.records ++ outcomes_from (relocation_inputs search.old function_spans.now.functions.now function_spans.now.section_infos.now) outcomes.old.written (named_records sections.now)) }
-    ensures written { OnOk result (outcomes.new.written ≡ slots_left (relocation_inputs search.old function_spans.now.functions.now function_spans.now.section_infos.now) outcomes.old.written (named_records sections.now)) }
+    ensures records { OnOk result (map outcome_without_texts outcomes.new.records ≡ map outcome_without_texts outcomes.old.records ++ outcomes_from (inputs_of search.old function_spans.now) outcomes.old.written (named_records sections.now)) }
+    ensures written { OnOk result (outcomes.new.written ≡ slots_left (inputs_of search.old function_spans.now) outcomes.old.written (named_records sections.now)) }
 {
     for part in sections {
         let section = NamedSection {
@@ -199,9 +246,9 @@ fn add_sections(
     Ok(())
 }
 
-/// What each CO-RE relocation of an object comes to over a kernel's types, also behind one that is refused, and the slots
-/// of the functions that they write. Sections come in order, and in a section the relocations. Each is applied over those
-/// before it; one that is refused writes nothing.
+/// The outcome of each CO-RE relocation of an object over a kernel's types, also behind one that is refused, and the slots
+/// of the functions that the relocations write. Sections come in order, and in a section the relocations. Each is applied
+/// over those before it; a refused one writes nothing.
 ///
 /// A relocation has a value, also the 0 that says that a type, field or variant is not there where that is asked. Or it
 /// has none, with what the kernel's types lack, and its instruction fails where it is reached. Or it is refused with the
@@ -210,7 +257,7 @@ fn add_sections(
 ///
 /// # Errors
 ///
-/// `AllocError` where memory is refused, and no other.
+/// - `AllocError`: memory is refused.
 pub fn record_outcomes(
     alloc: Global,
     functions: &ByKey<Function>,
@@ -237,46 +284,4 @@ pub fn record_outcomes(
         &mut outcomes,
     )?;
     Ok(outcomes)
-}
-
-/// What each CO-RE record of an object comes to, and what all of them write.
-#[derive(Debug, Drop)]
-pub struct RecordOutcomes {
-    /// The records in order, also those behind one that is refused.
-    pub records: Items<RecordOutcome>,
-    /// The slots that the records write that aren't refused, each over those before it, by the functions' keys.
-    pub written: ByKey<Items<bpf_insn>>,
-}
-
-/// What one record comes to.
-#[derive(Debug, Drop)]
-pub struct RecordOutcome {
-    /// The offset of its section's name in the strings of the local types.
-    pub section_name: u32,
-    /// Its place among the records of its section, from 0 on.
-    pub number: usize,
-    /// The slot that it is about, where a function of its section has it.
-    pub slot: Option<RecordSlot>,
-    /// What it comes to.
-    pub result: RecordResult,
-}
-
-/// The slot that a record is about.
-#[derive(Clone, Copy, Debug, PartialEq, Eq)]
-pub struct RecordSlot {
-    /// The key of its function: the index of the section, and the address.
-    pub function: (usize, u64),
-    /// Its number in the function, from 0 on.
-    pub slot: usize,
-}
-
-/// What a record comes to.
-#[derive(Debug, Drop)]
-pub enum RecordResult {
-    /// Its instruction carries a number: also the 0 that says that something is not there, where that is asked.
-    Value(Outcome),
-    /// There is no number, and its instruction fails where it is reached.
-    Absent(Absence),
-    /// It can't be applied, and its instruction is as it was.
-    Refused(RelocationError),
 }

@@ -1,11 +1,11 @@
-//! Records over the types of a kernel, with the reasons of those that have no value.
+//! Results of records over the types of a kernel, with the reasons of those that have no value.
 
 ghost use Rattle.std.specs.Prelude.{◌≡◌, IfOk, Ok, OnOk};
 ghost use Rattle.ebpf_core.specs.LocalPaths.{local_path};
 ghost use Rattle.ebpf_core.specs.Searches.{candidates_for};
 ghost use Rattle.ebpf_core_relo.specs.Absences.{absence_in, absence_of, without_position};
 ghost use Rattle.ebpf_core_relo.specs.RecordOutcomes.{applied, left_by, outcome_result, result_in, result_without_texts};
-ghost use Rattle.ebpf_core_relo.specs.Records.{relocation_inputs};
+ghost use Rattle.ebpf_core_relo.specs.SpanInputs.{inputs_of};
 
 use crate::absence::{Absence, absence_among};
 use crate::error::{unless_memory, unless_memory_of_types};
@@ -21,7 +21,7 @@ use std::alloc::{AllocError, Global};
 use std::collections::BTreeMap;
 use std::marker::Model;
 
-/// What a record asks, without its own position.
+/// The question of a record, without the position of the record.
 fn without_position(relocation: &Relocation) -> Relocation
     ensures { result ≡ without_position relocation.now }
 {
@@ -32,8 +32,8 @@ fn without_position(relocation: &Relocation) -> Relocation
     }
 }
 
-/// A search for what records come to, and for what the kernel's types lack where that is no value. Absences are kept: what
-/// was asked once is looked up.
+/// A search for the outcomes of records, and for the reasons of those that have no value. Absences are cached by their
+/// questions.
 ///
 /// Contracts see the two sides alone.
 #[derive(Drop)]
@@ -67,7 +67,7 @@ impl<'a> RecordSearch<'a> {
         }
     }
 
-    /// Why a path has no value among the kernel's types that a local type may stand for.
+    /// The reason why a path has no value among the kernel's types that a local type may stand for.
     fn absence_over(
         &mut self,
         alloc: Global,
@@ -89,7 +89,7 @@ impl<'a> RecordSearch<'a> {
         }
     }
 
-    /// Why a record has no value, whatever is kept.
+    /// The reason why a record has no value, whatever is cached.
     #[tactic(auto, unfolding(crate::specs::Absences::absence_of))]
     fn find(&mut self, alloc: Global, relocation: &Relocation) -> Result<Absence, AllocError>
         ensures absence { IfOk result (λ absence. absence ≡ absence_of self.old.local self.old.target relocation.now) }
@@ -106,7 +106,7 @@ impl<'a> RecordSearch<'a> {
         self.absence_over(alloc, &path.path, relocation.type_id)
     }
 
-    /// Keeps the absence of a record for all that ask the same.
+    /// Caches the absence of a record for all with the same question.
     fn cache(&mut self, relocation: &Relocation, absence: Absence) -> Result<(), AllocError>
         requires { absence ≡ absence_of self.old.local self.old.target relocation.now }
         ensures { self.new ≡ self.old }
@@ -115,7 +115,7 @@ impl<'a> RecordSearch<'a> {
         Ok(())
     }
 
-    /// Why a record that has no value has none.
+    /// The reason why a record has no value.
     pub fn absence(&mut self, alloc: Global, relocation: &Relocation) -> Result<Absence, AllocError>
         ensures absence { IfOk result (λ absence. absence ≡ absence_of self.old.local self.old.target relocation.now) }
         ensures stays { self.new ≡ self.old }
@@ -128,7 +128,7 @@ impl<'a> RecordSearch<'a> {
         Ok(absence)
     }
 
-    /// A record with an outcome, by why it has no value where it has none.
+    /// The result of a record with an outcome: its value, or the reason why it has none.
     fn outcome_result(
         &mut self,
         alloc: Global,
@@ -145,8 +145,8 @@ impl<'a> RecordSearch<'a> {
         Ok(RecordResult::Absent(absence))
     }
 
-    /// What a record of a section comes to, applied to the function that holds its instruction. Where it is refused
-    /// nothing is written.
+    /// The result of a record of a section, applied to the function that holds its instruction. A refused record writes
+    /// nothing.
     pub fn result_in(
         &mut self,
         alloc: Global,
@@ -155,8 +155,8 @@ impl<'a> RecordSearch<'a> {
         written: &mut ByKey<Items<bpf_insn>>,
         relocation: &Relocation,
     ) -> Result<RecordResult, AllocError>
-        ensures outcome_result { IfOk result (λ answer. result_without_texts answer ≡ result_in (relocation_inputs self.old function_spans.now.functions.now function_spans.now.section_infos.now) (Ok section) written.old relocation.now) }
-        ensures written { OnOk result (written.new ≡ left_by written.old (applied (relocation_inputs self.old function_spans.now.functions.now function_spans.now.section_infos.now) (Ok section) written.old relocation.now)) }
+        ensures outcome_result { IfOk result (λ answer. result_without_texts answer ≡ result_in (inputs_of self.old function_spans.now) (Ok section) written.old relocation.now) }
+        ensures written { OnOk result (written.new ≡ left_by written.old (applied (inputs_of self.old function_spans.now) (Ok section) written.old relocation.now)) }
         ensures stays { self.new ≡ self.old }
     {
         let applied = apply_record(

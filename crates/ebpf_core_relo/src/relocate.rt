@@ -40,23 +40,25 @@ fn written_slots(
         &mut search,
         &function_spans,
         &mut written,
-        local,
         relocations.relocations(),
     )?;
     Ok(written)
 }
 
 /// The slots of the functions that the CO-RE relocations of an object write, by the functions' keys: each relocation's
-/// instruction carries what it asks of the target types. Sections come in order, and in a section the relocations, each
-/// over those before it. The others of a function's slots are as they were.
+/// instruction carries the number that it asks of the target types. Sections come in order, and in a section the
+/// relocations, each over those before it. The other slots of a function are as before.
 ///
 /// # Errors
 ///
-/// The first fault, with the name of its section: `BtfError` in `section@OFFSET` where the section's name can't be
-/// read, `SectionNotFound` where the object has no section of the name, `FunctionNotFound` where no function of the
-/// section has the slot, then what the search for the type, field or variant answers, then `InvalidInstruction` and
-/// `InvalidInstructionIndex` where the slot can't carry what was found. `OutOfMemory`, with an empty name, only where
-/// memory was refused.
+/// The first fault, with the name of its section:
+///
+/// - `BtfError` in `section@OFFSET`: the section's name can't be read.
+/// - `SectionNotFound`: the object has no section of the name.
+/// - `FunctionNotFound`: no function of the section has the slot.
+/// - The errors of the search for the type, field or variant.
+/// - `InvalidInstruction`, `InvalidInstructionIndex`: the slot can't carry the outcome.
+/// - `OutOfMemory`, with an empty name: memory is refused.
 pub fn relocate_slots(
     alloc: Global,
     functions: &ByKey<Function>,
@@ -72,14 +74,14 @@ pub fn relocate_slots(
     written_slots(alloc, functions, section_infos, local, relocations, target)
 }
 
-/// Puts slots in the place of a function's.
+/// Replaces the slots of a function.
 fn set_slots(function: &mut Function, slots: Items<bpf_insn>)
     ensures { function.new ≡ record function.old { instructions = slots } }
 {
     function.instructions = slots;
 }
 
-/// Puts slots in the place of those of the function at a key, if there is one.
+/// Replaces the slots of the function at a key, if there is one.
 fn set_slots_at(functions: &mut ByKey<Function>, key: (usize, u64), slots: Items<bpf_insn>)
     ensures { functions.new ≡ with_slots_at functions.old key slots (map.get functions.old key) }
 {
@@ -89,7 +91,7 @@ fn set_slots_at(functions: &mut ByKey<Function>, key: (usize, u64), slots: Items
     set_slots(function, slots);
 }
 
-/// Puts slots in the places of those of the functions at their keys. No memory is taken.
+/// Replaces the slots of functions by those at their keys. No memory is taken.
 pub fn put_slots(functions: &mut ByKey<Function>, written: ByKey<Items<bpf_insn>>)
     ensures { (q : FunctionKey) → map.get functions.new q ≡ with_slots (map.get written q) (map.get functions.old q) }
 {

@@ -1,4 +1,4 @@
-//! Which function of a section a record is about: the spans of functions in the data of their section.
+//! The spans of functions in the data of their section, by which the function of a record is found.
 
 ghost use Rattle.std.specs.Prelude.{◌≡◌, ◌++◌, ◌∷◌, [], OnOk, ◌≤◌, nat_le, slice_get, true, false, ℕ, IfOk};
 ghost use Rattle.std.specs.List.Sorted.{IsPartitionPoint, IsPartitionedBy};
@@ -14,15 +14,36 @@ use std::alloc::{AllocError, Global};
 use std::marker::Model;
 use std::mem;
 
-/// What a function takes of its section's data.
+/// The part of a section's data that a function takes.
 #[derive(Clone, Copy)]
 pub struct Span {
     /// The function's address.
     pub address: u64,
-    /// Where it begins, in bytes.
+    /// The start of the function in the section, in bytes.
     pub start: usize,
-    /// The number of slots before its end, counted from the section's start.
+    /// The number of slots before the function's end, counted from the section's start.
     pub end: usize,
+}
+
+/// Spans of which each begins no earlier than the one before it. Contracts see their list.
+#[derive(Drop)]
+pub struct RisingSpans {
+    spans: Vec<Span>,
+    ends: Vec<usize>,
+    top: usize,
+    last_start: usize,
+}
+
+impl Model for RisingSpans {
+    ghost use Rattle.std.specs.Prelude.{List};
+    ghost use Rattle.ebpf_core_relo.specs.declared.spans.Span.{Span};
+    ghost use Rattle.ebpf_core_relo.specs.Spans.{IsTopped};
+
+    ghost Value = { List Span };
+
+    ghost view = { λ s. s.spans.items };
+
+    ghost invariant = { λ s. IsTopped s.spans.items s.ends.items s.top s.last_start };
 }
 
 /// The spans of the functions of one section, in the order of their addresses. They are kept as runs, in each of which
@@ -80,7 +101,7 @@ impl Spans {
         Ok(())
     }
 
-    /// Adds a span behind the others. `AllocError` where memory is refused; then of these spans nothing is known.
+    /// Adds a span behind the others. After an `AllocError` nothing is known of these spans.
     #[tactic(auto, using(crate::proofs::Tops::behind_last))]
     pub fn push(&mut self, alloc: Global, span: Span) -> Result<(), AllocError>
         ensures { OnOk result (self.new ≡ self.old ++ span ∷ []) }
@@ -91,35 +112,14 @@ impl Spans {
         self.last.push(span)
     }
 
-    /// The first span that holds an offset, in bytes. The cost grows by the number of runs times the logarithm of that
-    /// of spans.
+    /// The first span that holds an offset, in bytes. The cost grows by the number of runs times the logarithm of the
+    /// number of spans.
     #[tactic(auto, using(crate::proofs::Tops::first_of_all))]
     pub fn at(&self, offset: usize) -> Option<Span>
         ensures { result ≡ span_at offset self.now }
     {
         first_at(&self.before, &self.last, offset)
     }
-}
-
-/// Spans of which each begins no earlier than the one before it. Contracts see their list.
-#[derive(Drop)]
-pub struct RisingSpans {
-    spans: Vec<Span>,
-    ends: Vec<usize>,
-    top: usize,
-    last_start: usize,
-}
-
-impl Model for RisingSpans {
-    ghost use Rattle.std.specs.Prelude.{List};
-    ghost use Rattle.ebpf_core_relo.specs.declared.spans.Span.{Span};
-    ghost use Rattle.ebpf_core_relo.specs.Spans.{IsTopped};
-
-    ghost Value = { List Span };
-
-    ghost view = { λ s. s.spans.items };
-
-    ghost invariant = { λ s. IsTopped s.spans.items s.ends.items s.top s.last_start };
 }
 
 /// The upper bound of a slot among ends: the number of those that are not past it, where these come first.
@@ -143,15 +143,14 @@ impl RisingSpans {
         }
     }
 
-    /// Where the last span begins, in bytes; 0 where there is none.
+    /// The start of the last span, in bytes; 0 where there is none.
     pub fn last_start(&self) -> usize
         ensures { result ≡ last_start 0 self.now }
     {
         self.last_start
     }
 
-    /// Adds a span that begins no earlier than the last. `AllocError` where memory is refused; then of these spans
-    /// nothing is known.
+    /// Adds a span that begins no earlier than the last. After an `AllocError` nothing is known of these spans.
     pub fn push(&mut self, span: Span) -> Result<(), AllocError>
         requires { last_start 0 self.old ≤ span.start }
         ensures { OnOk result (self.new ≡ self.old ++ span ∷ []) }
@@ -165,18 +164,18 @@ impl RisingSpans {
         Ok(())
     }
 
-    /// The first span that holds an offset, in bytes. The cost grows by the logarithm of their number.
+    /// The first span that holds an offset, in bytes. The cost grows by the logarithm of the number of spans.
     #[tactic(auto, using(crate::proofs::Tops::parted, crate::proofs::Tops::found_by))]
     pub fn at(&self, offset: usize) -> Option<Span>
         ensures { result ≡ span_at offset self.now }
     {
         let number = upper_bound(&self.ends, offset / bpf_insn::SIZE);
-        begun(&self.spans, number, offset)
+        begun_span(&self.spans, number, offset)
     }
 }
 
 /// The span with a number, where it begins no later than an offset.
-fn begun(spans: &[Span], number: usize, offset: usize) -> Option<Span>
+fn begun_span(spans: &[Span], number: usize, offset: usize) -> Option<Span>
     ensures { result ≡ if_begun offset (slice_get spans.now number) }
 {
     match spans.get(number) {
@@ -185,7 +184,7 @@ fn begun(spans: &[Span], number: usize, offset: usize) -> Option<Span>
     }
 }
 
-/// What a function takes of its section's data.
+/// The span of a function.
 fn span_of(address: u64, function: &Function) -> Span
     ensures { result ≡ span_of ((function.now.section_index.0, address), function.now) }
 {
@@ -240,7 +239,7 @@ pub fn span_in(sections: &BySection<Spans>, section: usize, offset: usize) -> Op
     sections.get(section as u64)?.at(offset)
 }
 
-/// The functions as they stand, with their spans, and the sections' indexes by name.
+/// Functions with their spans, and the sections' indexes by name.
 #[derive(Drop)]
 pub struct FunctionSpans<'a> {
     pub functions: &'a ByKey<Function>,

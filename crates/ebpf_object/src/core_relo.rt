@@ -4,7 +4,7 @@
 pub use ebpf_core::{
     CoreSearch, FieldClass, LoadedField, LocalPath, NamedPath, Outcome, local_path, outcome_among,
 };
-pub use ebpf_core_places::{Place, PlaceEnd, Step};
+pub use ebpf_core_places::{FieldPlace, PlaceEnd, Step};
 pub use ebpf_core_relo::{
     Absence, BtfRelocationError, RecordOutcome, RecordOutcomes, RecordResult, RecordSlot,
     RelocationError,

@@ -3,7 +3,7 @@
 use cli_common::record_names::{no_answer, own_value_of};
 use ebpf_btf::{Btf, BtfKind};
 use ebpf_core::{NamedPath, local_path};
-use ebpf_core_places::{Place, PlaceEnd};
+use ebpf_core_places::{FieldPlace, PlaceEnd};
 use ebpf_ext::{Relocation, RelocationKind};
 use std::alloc::{AllocError, Global};
 
@@ -15,7 +15,7 @@ fn member_type(local: &Btf, parent: u32, index: usize) -> Option<u32> {
 }
 
 /// The id of the type of the field at a place.
-fn field_type(local: &Btf, place: Place) -> Option<u32> {
+fn field_type(local: &Btf, place: FieldPlace) -> Option<u32> {
     match place.end {
         PlaceEnd::Element { type_id } => Some(type_id),
         PlaceEnd::Member { parent, index } => member_type(local, parent, index),

@@ -94,14 +94,14 @@ fn behind_others(alloc: Global, others: u32, want: &str) -> Result<(), Fail> {
 
 #[test]
 fn goes_down_64_levels(rt: HostRuntime) -> Result<(), Fail> {
-    let want = "Ok(Some(Place { bits: 544, end: Member { parent: 2, index: 0 } }))";
+    let want = "Ok(Some(FieldPlace { bits: 544, end: Member { parent: 2, index: 0 } }))";
     at_level(rt.alloc(), 64, want)?;
     at_level(rt.alloc(), 65, "Err(NestingLevel)")
 }
 
 #[test]
 fn looks_at_1_048_576_members(rt: HostRuntime) -> Result<(), Fail> {
-    let want = "Ok(Some(Place { bits: 96, end: Member { parent: 3, index: 31 } }))";
+    let want = "Ok(Some(FieldPlace { bits: 96, end: Member { parent: 3, index: 31 } }))";
     behind_others(rt.alloc(), 15, want)?;
     behind_others(rt.alloc(), 16, "Err(NestingLevel)")
 }
@@ -122,7 +122,7 @@ fn add_outer(btf: &mut Btf) -> Result<u32, BtfError> {
 fn passes_a_misfit_in_an_inner_type(rt: HostRuntime) -> Result<(), Fail> {
     let mut btf = start(rt.alloc())?;
     let root = add_outer(&mut btf)?;
-    let want = "Ok(Some(Place { bits: 96, end: Member { parent: 4, index: 1 } }))";
+    let want = "Ok(Some(FieldPlace { bits: 96, end: Member { parent: 4, index: 1 } }))";
     leads(rt.alloc(), &btf, root, want)?;
     leads(rt.alloc(), &btf, 3, "Ok(None)")
 }

@@ -48,11 +48,6 @@ fn whole<'a>(alloc: Global, btf: &'a Btf) -> Result<TypeIndex<'a>, BtfError> {
     TypeIndex::new(alloc, btf)
 }
 
-/// The index of the STRUCTs.
-fn structs<'a>(alloc: Global, btf: &'a Btf) -> Result<KindsIndex<'a>, BtfError> {
-    TypeIndex::of_kinds(alloc, btf, &[BtfKind::Struct])
-}
-
 /// The index of the STRUCTs with names that an object's have.
 fn named<'a>(alloc: Global, btf: &'a Btf, object: &Btf) -> Result<KindsIndex<'a>, BtfError> {
     TypeIndex::of_names(alloc, btf, &[BtfKind::Struct], object)
@@ -94,7 +89,7 @@ fn agree_on_all(
     whole: &TypeIndex<'_>,
     structs: &KindsIndex<'_>,
 ) -> Result<(), Fail> {
-    for name in ["file", "file___other", "dentry", "inode", ""] {
+    for name in ["file", "file___other", "dentry", ""] {
         agree(alloc, whole, structs, name)?;
     }
     Ok(())
@@ -102,7 +97,7 @@ fn agree_on_all(
 
 fn both_agree(alloc: Global, kernel: &Btf) -> Result<(), Fail> {
     let whole = whole(alloc, kernel)?;
-    let structs = structs(alloc, kernel)?;
+    let structs = named(alloc, kernel, kernel)?;
     agree_on_all(alloc, &whole, &structs)
 }
 

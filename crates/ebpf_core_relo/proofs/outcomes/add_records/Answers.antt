@@ -1,6 +1,6 @@
 use Rattle.std.proofs.Common.{ap, ◌∙◌}
 use Rattle.ebpf_core.specs.Searches.{Sides}
-use Rattle.ebpf_core_relo.specs.Records.{relocation_inputs}
+use Rattle.ebpf_core_relo.specs.SpanInputs.{inputs_of}
 use Rattle.ebpf_core_relo.specs.PrivateContracts.{found_number}
 use Rattle.std.proofs.lemmas.List.{drop_more}
 use Rattle.ebpf_core_relo.proofs.FirstRefusal.{record_more, slots_more}
@@ -8,7 +8,7 @@ use Rattle.ebpf_core_relo.proofs.outcomes.add_records.Goals as goal
 
 pub loop-relocation-preserved : goal.loop-relocation-preserved
 loop-relocation-preserved c =
-    let inputs = λ (sides : Sides). relocation_inputs sides c.args.function_spans.now.functions.now c.args.function_spans.now.section_infos.now in
+    let inputs = λ (sides : Sides). inputs_of sides c.args.function_spans.now in
     let before = c.loop-relocation in
     record {
       search = c.in_ok-add_record.ensures.search ∙ before.invariant.search;

@@ -1,12 +1,12 @@
 use Rattle.std.proofs.Common.{◌≡◌, ◌++◌, map, drop}
 use Rattle.ebpf_core_relo.specs.RecordOutcomes.{named_in, outcomes_from, slots_left, outcome_without_texts}
-use Rattle.ebpf_core_relo.specs.Records.{relocation_inputs}
+use Rattle.ebpf_core_relo.specs.SpanInputs.{inputs_of}
 use Rattle.ebpf_core_relo.proofs.outcomes.add_records.Given as goal
 
 -- with those that are left the records come to what all come to
 abbrev pub invariant-loop-relocation : goal.invariant-loop-relocation
 invariant-loop-relocation l =
-    let inputs = relocation_inputs l.fn.search l.function_spans.functions.now l.function_spans.section_infos.now in
+    let inputs = inputs_of l.fn.search l.function_spans in
     record {
       search : l.search ≡ l.fn.search;
       records : map outcome_without_texts l.outcomes.records ++ outcomes_from inputs l.outcomes.written (named_in l.section.name (drop l.relocation-index l.relocations))

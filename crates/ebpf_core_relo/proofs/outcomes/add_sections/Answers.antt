@@ -1,13 +1,13 @@
 use Rattle.std.proofs.Common.{ap, ◌∙◌}
 use Rattle.ebpf_base.proofs.Lists.{rest_more}
 use Rattle.ebpf_core.specs.Searches.{Sides}
-use Rattle.ebpf_core_relo.specs.Records.{relocation_inputs}
+use Rattle.ebpf_core_relo.specs.SpanInputs.{inputs_of}
 use Rattle.ebpf_core_relo.proofs.FirstRefusal.{section_more, section_slots_more}
 use Rattle.ebpf_core_relo.proofs.outcomes.add_sections.Goals as goal
 
 pub loop-part-preserved : goal.loop-part-preserved
 loop-part-preserved c =
-    let inputs = λ (sides : Sides). relocation_inputs sides c.args.function_spans.now.functions.now c.args.function_spans.now.section_infos.now in
+    let inputs = λ (sides : Sides). inputs_of sides c.args.function_spans.now in
     let before = c.loop-part in
     let here = rest_more c.args.sections.now before.part-index c.part-item.result c.loop-part-test.true c.part-item.is in
     record {
