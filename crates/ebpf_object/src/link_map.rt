@@ -29,7 +29,7 @@ impl ProgramMaps<'_> {
         ensures fault { IfErr result (λ e. MatchBool (is_memory_at e) ⊤ (IsProgramRefusal (read self.now.functions.parts) (program_value name.now program.now) e)) }
         ensures memory { IfErr result NamesNoneForMemory }
     {
-        let alloc = *self.object.license.as_vec().allocator();
+        let alloc = self.object.allocator();
         let key = ProgramKey {
             name,
             section_index: program.section_index,
@@ -73,7 +73,7 @@ impl Object {
         ensures memory { IfErr result (λ e. is_memory_at e ≡ true) }
         ensures unnamed { IfErr result NamesNoneForMemory }
     {
-        let alloc = *self.license.as_vec().allocator();
+        let alloc = self.allocator();
         let parts = Linkable {
             functions: &self.functions,
             symbols: &self.symbol_table,

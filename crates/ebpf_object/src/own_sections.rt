@@ -25,7 +25,7 @@ impl Object {
         ensures others_stay { self.new ≡ record self.old { functions = self.new.functions } }
         ensures unchanged { OnErr result (self.new ≡ self.old) }
     {
-        let alloc = *self.license.as_vec().allocator();
+        let alloc = self.allocator();
         let Ok(sections) = self.text_sections(alloc) else {
             return Err(EbpfRelocationError::memory(alloc));
         };
@@ -45,7 +45,7 @@ impl Object {
         if !self.programs.contains_key(name) {
             return Ok(None);
         }
-        let alloc = *self.license.as_vec().allocator();
+        let alloc = self.allocator();
         let Ok(sections) = self.text_sections(alloc) else {
             return Err(EbpfRelocationError::memory(alloc));
         };

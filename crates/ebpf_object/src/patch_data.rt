@@ -72,7 +72,7 @@ impl Object {
         ensures patches { IfOk result (λ all. map value_of all.items ≡ patches_of self.now.symbol_table self.now.maps (globals_of globals.now.entries)) }
         ensures fault { Refuses is_parse_memory result (patches_fault self.now.symbol_table self.now.maps (globals_of globals.now.entries)) }
     {
-        let alloc = *self.license.as_vec().allocator();
+        let alloc = self.allocator();
         let Ok(names) = names_of(alloc, globals) else {
             return Err(ParseError::OutOfMemory);
         };

@@ -91,7 +91,7 @@ impl Object {
         ensures fault { IfErr result (λ e. MatchBool (is_memory_at e) ⊤ (IsFirstRefusal (linkable_of self.now (text_sections_in text_sections.now)) (programs_in_order self.now.programs) e)) }
         ensures memory { IfErr result NamesNoneForMemory }
     {
-        let alloc = *self.license.as_vec().allocator();
+        let alloc = self.allocator();
         let Ok(programs) = programs_in_order(alloc, &self.programs) else {
             return Err(EbpfRelocationError::memory(alloc));
         };
