@@ -14,7 +14,7 @@ ghost use Rattle.ebpf_ksyms.specs.Sources.{GivesLine, IsItem, lines_left};
 ghost use Rattle.ebpf_ksyms.specs.declared.error.KsymsError.TheVariants.{KallsymsParseError};
 
 use crate::error::KsymsError;
-use crate::named::Named;
+use crate::named::NameTable;
 use ebpf_base::Text;
 use std::alloc::{AllocError, Global};
 use std::marker::Model;
@@ -183,7 +183,7 @@ fn new_address(
 /// Takes a line into account.
 fn add_line(
     alloc: Global,
-    addresses: &mut Named<'_, Option<u64>>,
+    addresses: &mut NameTable<'_, Option<u64>>,
     line: &str,
 ) -> Result<(), KsymsError>
     ensures ok { OnOk result ((q : List ℕ) → value_named addresses.new q ≡ with_line (value_named addresses.old) line.now q) }
@@ -203,7 +203,7 @@ fn add_line(
 /// Takes an item into account: a line, or the error in its place.
 fn add_item(
     alloc: Global,
-    addresses: &mut Named<'_, Option<u64>>,
+    addresses: &mut NameTable<'_, Option<u64>>,
     item: io::Result<String>,
 ) -> Result<(), KsymsError>
     ensures ok { OnOk result ((q : List ℕ) → value_named addresses.new q ≡ with_read_line (value_named addresses.old) (line_of_item item) q) }
@@ -221,13 +221,13 @@ pub fn addresses_in<'a, I: Iterator<Item = io::Result<String>> + Drop>(
     alloc: Global,
     names: &[&'a str],
     lines: I,
-) -> Result<Named<'a, Option<u64>>, KsymsError>
+) -> Result<NameTable<'a, Option<u64>>, KsymsError>
     requires can { I.can_next lines }
     requires ends { IsFinite (I.remaining lines) }
     ensures ok { IfOk result (λ known. AreRead I.next_gives lines (lent_bytes names.now) (value_named known)) }
     ensures fault { IfErr result (λ e. MatchBool (is_ksyms_memory e) ⊤ (StopsAt I.next_gives lines (lent_bytes names.now) e)) }
 {
-    let mut addresses = Named::new(alloc, names, None)?;
+    let mut addresses = NameTable::new(alloc, names, None)?;
     if names.is_empty() {
         return Ok(addresses);
     }
