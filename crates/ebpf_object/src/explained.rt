@@ -4,7 +4,6 @@ ghost use Rattle.std.specs.Prelude.{◌≡◌};
 
 use crate::object::Object;
 use crate::prepare_error::PrepareError;
-use crate::queries::SectionWords;
 use ebpf_base::Text;
 use ebpf_ksyms::KsymsError;
 use ebpf_model::{EbpfRelocationError, RelocationError};
@@ -20,6 +19,23 @@ pub struct Explained<'a> {
     pub object: &'a Object,
     /// The error.
     pub error: &'a PrepareError,
+}
+
+/// A section, as errors speak of it: `section 5 ".bss"`, its index as `readelf -S` has it, and its name where that is
+/// known.
+#[derive(Clone, Copy)]
+pub struct SectionWords<'a> {
+    pub number: usize,
+    pub name: Option<&'a str>,
+}
+
+impl fmt::Display for SectionWords<'_> {
+    fn fmt<W: fmt::Write>(&self, f: &mut fmt::Formatter<W>) -> fmt::Result {
+        match self.name {
+            Some(name) => write!(f, "section {} {name:?}", self.number),
+            None => write!(f, "section {}", self.number),
+        }
+    }
 }
 
 impl Object {

@@ -2,7 +2,7 @@
 
 ghost use Rattle.std.specs.Prelude.{◌≡◌};
 
-use crate::queries::SectionWords;
+use crate::explained::SectionWords;
 use crate::refused_places::{section_without_symbol, symbol_without_name, uneven_function};
 use ebpf_btf::BtfError;
 use ebpf_elf::ElfFile;
