@@ -77,9 +77,8 @@ fn relocate_some(
     }
 }
 
-/// Writes the descriptors of the object's own maps by name, as `Object::relocate_maps` does. Every map that a slot refers
-/// to needs a descriptor, also `.bss`, `.data` and `.rodata`. A name that the object lacks is passed over; of maps of one
-/// symbol or one section the later one counts. The maps are taken out for it and put back.
+/// Writes the descriptors of the object's own maps by name, as `Object::relocate_maps` does. Descriptors are given as
+/// `Steps::map_fds` says. The maps are taken out for it and put back.
 ///
 /// # Errors
 ///
