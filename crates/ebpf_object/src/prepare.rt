@@ -12,7 +12,7 @@ ghost use Rattle.ebpf_parts.specs.declared.reading.Reading.TheVariants.{Stated};
 use crate::clones::{copy_keys, copy_names};
 pub use crate::explained::Explained;
 use crate::object::Object;
-pub use crate::own_maps::relocate_own_maps;
+pub use crate::own_maps::{numbered_descriptors, relocate_own_maps};
 pub use crate::prepare_error::PrepareError;
 use crate::stages::run_stages;
 use ebpf_btf::Btf;
