@@ -43,6 +43,12 @@ ProgramsAreLinked parts programs after =
     ((g : Function) × (get after key ≡ Some g) × IsLinked parts key g)
     (get after key ≡ get parts.functions key)
 
+-- what stands at a key where a function takes the place of the one there
+abbrev pub replaced : Option Function → Option Function → Option Function
+replaced None g = None
+replaced (Some f) None = Some f
+replaced (Some f) (Some g) = Some g
+
 -- linking the programs leaves one map of functions
 abbrev pub OneLinking : Type 0
 OneLinking = (parts : LinkableValue) (programs : List ProgramValue) (after other : FinMap key_cmp Function)
