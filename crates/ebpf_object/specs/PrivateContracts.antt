@@ -6,7 +6,7 @@ use Rattle.ebpf_model.specs.declared.function.Program.{Program}
 use Rattle.ebpf_reloc.specs.Linking.{ProgramValue}
 use Rattle.ebpf_object.specs.LinkedPrograms.{program_value}
 use Rattle.ebpf_object.specs.Patches.{PatchValue}
-use Rattle.ebpf_object.specs.declared.patch.Patch.{Patch}
+use Rattle.ebpf_object.specs.declared.set_globals.write.Patch.{Patch}
 
 abbrev pub program_if : List ℕ → Option Program → List ProgramValue
 program_if name None = []

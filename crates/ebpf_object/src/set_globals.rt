@@ -1,4 +1,8 @@
-//! The values of global variables.
+//! New values of an object's global variables.
+
+mod by_name;
+mod lookup;
+mod write;
 
 ghost use Rattle.std.specs.Prelude.{◌≡◌, ◌++◌, map, IfOk, OnOk, OnErr};
 ghost use Rattle.std.specs.FinMap as finite;
@@ -9,13 +13,14 @@ ghost use Rattle.ebpf_object.specs.Patches.{patches_at, patch_fault_at, patches_
 ghost use Rattle.ebpf_object.specs.PrivateContracts.{value_of};
 ghost use Rattle.ebpf_parts.specs.Memory.{is_parse_memory};
 
-use crate::globals::{names_of, value_at};
 use crate::object::Object;
-use crate::patch::{Patch, map_names, symbol_indices, write_patches};
-use crate::patch_plan::{VariableLookup, patch_of};
+use by_name::{names_of, value_at};
 use ebpf_parts::ParseError;
+pub use lookup::symbol_indices;
+use lookup::{VariableLookup, map_names, patch_of};
 use std::alloc::Global;
 use std::collections::HashMap;
+use write::{Patch, write_patches};
 
 /// Adds what the value of one variable asks for.
 #[tactic(auto, unfolding(crate::specs::Patches::patch_of))]
