@@ -19,6 +19,29 @@ use ebpf_elf::{ElfFile, ElfRelocation, ElfSection, Relocations, Sections};
 use ebpf_object::Object;
 use std::alloc::{AllocError, Global};
 
+/// An initial value of a map.
+#[derive(Debug, Drop)]
+pub struct InitialSlot {
+    /// The name of the map that has it.
+    pub map: Text,
+    /// The index in the map, which is also the key there.
+    pub index: u32,
+    /// The map or the program at the index.
+    pub target: InitialTarget,
+}
+
+impl Clone for InitialSlot {
+    ghost is_clone = { λ old copy. copy ≡ old };
+
+    fn clone(&self) -> Result<InitialSlot, AllocError> {
+        Ok(InitialSlot {
+            map: self.map.clone()?,
+            index: self.index,
+            target: self.target.clone()?,
+        })
+    }
+}
+
 /// Whether a variable holds the 8 bytes at a place of the section.
 fn holds_slot(place: u64, variable: &MapVariable) -> bool
     ensures { result ≡ holds_slot place variable.now }
@@ -27,7 +50,7 @@ fn holds_slot(place: u64, variable: &MapVariable) -> bool
     variable.offset <= place && u128::from(place) + 8 <= end
 }
 
-/// The first variable that does.
+/// The first variable that holds the 8 bytes at a place.
 fn holder(place: u64, variables: &[MapVariable]) -> Option<&MapVariable>
     ensures first { option_copied result ≡ find (holds_slot place) variables.now }
     ensures holds { IfSome result (λ v. IsTrue (holds_slot place v.now)) }
@@ -108,7 +131,7 @@ fn initial_slot(
     Ok(InitialSlot { map, index, target })
 }
 
-/// The slots of one.
+/// The slots of a map that has this one alone.
 fn one_slot(alloc: Global, slot: InitialSlot) -> Result<ByNumber<InitialSlot>, AllocError>
     ensures { IfOk result (λ own. own ≡ finite.insert finite.empty slot.index slot) }
 {
@@ -289,29 +312,6 @@ pub fn initial_slots(
     match maps_section(object) {
         Some(index) => slots_of_section(alloc, &file, object, index),
         None => Ok(Items::new(alloc)),
-    }
-}
-
-/// An initial value of a map.
-#[derive(Debug, Drop)]
-pub struct InitialSlot {
-    /// The name of the map that has it.
-    pub map: Text,
-    /// Its index in the map, which is also the key that it has there.
-    pub index: u32,
-    /// What stands there.
-    pub target: InitialTarget,
-}
-
-impl Clone for InitialSlot {
-    ghost is_clone = { λ old copy. copy ≡ old };
-
-    fn clone(&self) -> Result<InitialSlot, AllocError> {
-        Ok(InitialSlot {
-            map: self.map.clone()?,
-            index: self.index,
-            target: self.target.clone()?,
-        })
     }
 }
 

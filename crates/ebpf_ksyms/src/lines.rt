@@ -20,24 +20,6 @@ use std::alloc::{AllocError, Global};
 use std::marker::Model;
 use std::{io, str};
 
-/// The first and the third word of a line, where it has three: the word that states an address, and a name.
-pub fn address_and_name(line: &str) -> Option<(&str, &str)>
-    ensures { option_map (λ pair. (pair.0.now, pair.1.now)) result ≡ address_and_name line.now }
-{
-    let mut words = line.split_ascii_whitespace();
-    let address = words.next()?;
-    words.next()?;
-    let name = words.next()?;
-    Some((address, name))
-}
-
-/// The address that a word states.
-pub fn stated_address(word: &str) -> Option<u64>
-    ensures { result ≡ stated_address word.now }
-{
-    u64::from_str_radix(word, 16).ok()
-}
-
 /// The lines of a text in memory, as `BufRead::lines` gives those of a reader: each ends before a byte 0x0a, which it is
 /// without, as it is without a byte 0x0d right before that; what stands behind the last 0x0a is a line where it is not
 /// empty. An item is an error exactly where the line is not UTF-8, of kind `InvalidData`, and where memory was refused.
@@ -54,6 +36,24 @@ impl<'a> Model for TextLines<'a> {
     ghost Value = { Unread };
 
     ghost view = { λ s. record { text = s.rest.now; error = s.not_utf8 } };
+}
+
+/// The first and the third word of a line, where it has three: the word that states an address, and a name.
+pub fn address_and_name(line: &str) -> Option<(&str, &str)>
+    ensures { option_map (λ pair. (pair.0.now, pair.1.now)) result ≡ address_and_name line.now }
+{
+    let mut words = line.split_ascii_whitespace();
+    let address = words.next()?;
+    words.next()?;
+    let name = words.next()?;
+    Some((address, name))
+}
+
+/// The address that a word states.
+pub fn stated_address(word: &str) -> Option<u64>
+    ensures { result ≡ stated_address word.now }
+{
+    u64::from_str_radix(word, 16).ok()
 }
 
 /// The place of the first byte 0x0a.

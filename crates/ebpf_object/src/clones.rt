@@ -10,6 +10,15 @@ use ebpf_parsing::ObjectTables;
 use ebpf_parts::Relocation;
 use std::alloc::AllocError;
 
+/// What programs and functions carry of their object.
+#[derive(Drop)]
+struct Carried {
+    license: Items<u8>,
+    kernel_version: Option<u32>,
+    btf: Option<Btf>,
+    btf_ext: Option<BtfExt>,
+}
+
 /// A copy of what is kept by names.
 #[tactic(auto, using(ebpf_base::proofs::SameMaps::exact_copy))]
 pub fn copy_names<V: Clone>(values: &ByName<V>) -> Result<ByName<V>, AllocError>
@@ -65,15 +74,6 @@ fn copy_ext(ext: &Option<BtfExt>) -> Result<Option<BtfExt>, AllocError>
         Some(ext) => Ok(Some(ext.clone()?)),
         None => Ok(None),
     }
-}
-
-/// What programs and functions carry of their object.
-#[derive(Drop)]
-struct Carried {
-    license: Items<u8>,
-    kernel_version: Option<u32>,
-    btf: Option<Btf>,
-    btf_ext: Option<BtfExt>,
 }
 
 /// A copy of what programs and functions carry of their object.
