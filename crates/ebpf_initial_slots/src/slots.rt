@@ -1,4 +1,4 @@
-//! The initial values of an object's maps: what relocations put into them, by map and index.
+//! The initial values that relocations give an object's maps, by map and index.
 
 ghost use Rattle.std.specs.Prelude.{◌≡◌, ◌<◌, ◌/◌, ◌++◌, map, IfOk, IfSome, IsTrue, OnOk, ◌==◌, [], unwrap_or};
 ghost use Rattle.std.specs.List.{find};
@@ -103,7 +103,7 @@ fn slot_index(variable: &MapVariable, place: u64) -> Result<u32, InitialSlotErro
     }
 }
 
-/// What a relocation puts where.
+/// The initial value that a relocation gives a map.
 #[tactic(auto, unfolding(crate::specs::InitialSlots::initial_slot))]
 fn initial_slot(
     alloc: Global,
@@ -140,7 +140,7 @@ fn one_slot(alloc: Global, slot: InitialSlot) -> Result<ByNumber<InitialSlot>, A
     Ok(own)
 }
 
-/// Puts a slot beside those of its map; the later of two at one index stands.
+/// Adds a slot to those of its map; the later of two at one index stands.
 fn add_slot(
     alloc: Global,
     found: &mut ByName<ByNumber<InitialSlot>>,
@@ -160,7 +160,7 @@ fn add_slot(
     Ok(())
 }
 
-/// What relocations put into maps, by map and index.
+/// The initial values that relocations give maps, by map and index.
 pub fn gather(
     alloc: Global,
     object: &Object,
@@ -235,7 +235,7 @@ fn relocations_at<'a>(file: &ElfFile<'a>, index: usize) -> Option<Relocations<'a
     Some(section.relocations())
 }
 
-/// What relocations put into the maps of the section with an index, in order.
+/// The initial values that relocations give the maps of the section with an index, in order.
 fn slots_put(
     alloc: Global,
     object: &Object,
@@ -250,7 +250,7 @@ fn slots_put(
     Ok(slots_in_order(alloc, &found)?)
 }
 
-/// What the relocations of the section with an index put into its maps.
+/// The initial values that the relocations of the section with an index give its maps.
 #[tactic(auto, using(crate::proofs::InitialSlots::none_in_order))]
 fn slots_of_section(
     alloc: Global,
@@ -326,7 +326,7 @@ fn last_member(ty: &BtfType<'_>) -> Option<BtfMember>
     }
 }
 
-/// Where a member stands that is `values`, in bytes.
+/// The offset in bytes of a member `values`.
 fn values_at(types: &Btf, ty: &BtfType<'_>, member: &BtfMember) -> Option<u32>
     ensures { result ≡ values_at types.now ty.now member.now }
 {
@@ -336,7 +336,7 @@ fn values_at(types: &Btf, ty: &BtfType<'_>, member: &BtfMember) -> Option<u32>
     None
 }
 
-/// Where `values` stand in the type of an id, in bytes, where it ends in them.
+/// The offset in bytes of `values` in the type of an id, where it ends in them.
 #[tactic(auto, unfolding(crate::specs::MapVariables::values_offset))]
 pub fn values_offset(types: &Btf, type_id: u32) -> Option<u32>
     ensures { result ≡ values_offset types.now type_id }

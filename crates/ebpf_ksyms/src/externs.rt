@@ -58,7 +58,7 @@ fn not_alike(alloc: Global, lookup_key: &LookupKey<'_>) -> Result<KsymsError, Al
     })
 }
 
-/// What the kernel has for a key, where its id was found.
+/// The id of a key whose type in the kernel was found. `None` for a weak extern with another type there.
 fn compared_outcome(
     alloc: Global,
     local: &Btf,
@@ -77,7 +77,7 @@ fn compared_outcome(
     }
 }
 
-/// What the kernel has for a key, where ids are given by name.
+/// The kernel's id of a key, by the ids of names. `None` for a weak extern that the kernel lacks.
 fn outcome_by_key(
     alloc: Global,
     local: &Btf,
@@ -95,7 +95,7 @@ fn outcome_by_key(
     }
 }
 
-/// What the kernel has for an extern: an id, or none for a weak one.
+/// The kernel's id of an extern. `None` for a weak one that the kernel lacks.
 fn outcome(
     alloc: Global,
     local: &Btf,

@@ -1,4 +1,4 @@
-//! What an extern with a type is looked up by, and the ids of a kernel's functions and variables, by name.
+//! The keys that externs with a type are looked up by, and the ids of a kernel's functions and variables, by name.
 
 ghost use Rattle.std.specs.Prelude.{◌≡◌, ℕ, List, IfOk, IfErr, OnOk, option_map};
 ghost use Rattle.ebpf_base.specs.Maps.{lent_bytes};
@@ -20,7 +20,7 @@ pub enum ExternKind {
     Variable,
 }
 
-/// What an extern is looked up by.
+/// The key that an extern is looked up by.
 #[derive(Drop)]
 pub struct LookupKey<'a> {
     /// The extern's kind.

@@ -126,7 +126,7 @@ impl<'a> Iterator for TextLines<'a> {
     }
 }
 
-/// Whether an error is want of memory.
+/// Whether an error is a failed allocation.
 fn is_memory_kind(kind: io::ErrorKind) -> bool
     ensures { result ≡ is_memory_kind kind }
 {

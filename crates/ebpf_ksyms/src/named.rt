@@ -57,7 +57,7 @@ fn marks_of(alloc: Global, names: &[&str]) -> Result<Vec<bool>, AllocError>
 }
 
 impl<'a, V: Copy + Drop> NameTable<'a, V> {
-    /// One value at each of some names.
+    /// A table of some names, with one value for all.
     pub fn new(alloc: Global, names: &[&'a str], value: V) -> Result<NameTable<'a, V>, AllocError>
         ensures { IfOk result (λ m. (q : List ℕ) → value_named m q ≡ only_at (lent_bytes names.now) (λ _. value) q) }
     {
@@ -91,14 +91,14 @@ impl<'a, V: Copy + Drop> NameTable<'a, V> {
 }
 
 impl<'a> NamedExtern<'a> {
-    /// Whether it is unresolved and has a type.
+    /// Whether the extern is unresolved and has a type.
     pub fn is_typed(&self) -> bool
         ensures { result ≡ is_typed self.now.1 }
     {
         !self.desc.is_resolved && self.desc.is_typed
     }
 
-    /// Whether it is unresolved and has no type.
+    /// Whether the extern is unresolved and has no type.
     pub fn is_typeless(&self) -> bool
         ensures { result ≡ is_typeless self.now.1 }
     {

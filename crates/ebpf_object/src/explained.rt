@@ -1,4 +1,4 @@
-//! Errors beside the object that they are about.
+//! Errors with the object that they are about.
 
 ghost use Rattle.std.specs.Prelude.{◌≡◌};
 
@@ -174,7 +174,7 @@ impl<'a> Explained<'a> {
         }
     }
 
-    /// That a map has no descriptor, or that no map is there.
+    /// Writes that a map has no descriptor, or that no map is there.
     fn write_map<W: fmt::Write>(
         &self,
         section_index: usize,
@@ -196,7 +196,7 @@ impl<'a> Explained<'a> {
         }
     }
 
-    /// That a reference leads to a symbol which names no function.
+    /// Writes that a reference leads to a symbol that names no function.
     fn write_target<W: fmt::Write>(&self, index: usize, f: &mut fmt::Formatter<W>) -> fmt::Result {
         match self.object.symbol_table.get(index) {
             Some(symbol) => {

@@ -52,7 +52,7 @@ fn section_of(file: &[u8], number: usize) -> SectionWords<'_> {
 }
 
 impl ExplainedParse<'_> {
-    /// That a relocation names no symbol, and of which section it is.
+    /// Writes that a relocation names no symbol, and the relocation's section.
     fn write_relocation<W: fmt::Write>(&self, f: &mut fmt::Formatter<W>) -> fmt::Result {
         match section_without_symbol(self.file) {
             Some(number) => {
@@ -63,7 +63,7 @@ impl ExplainedParse<'_> {
         }
     }
 
-    /// That a function is no whole slots, and which one.
+    /// Writes that a function is no whole slots, and the function's name.
     fn write_function<W: fmt::Write>(&self, f: &mut fmt::Formatter<W>) -> fmt::Result {
         let Some((number, symbol)) = uneven_function(self.file) else {
             return write!(f, "{}", self.error);
@@ -80,7 +80,8 @@ impl ExplainedParse<'_> {
         )
     }
 
-    /// That a symbol's name can't be read, and the symbol's number. Where all can, an extern or a map has no symbol.
+    /// Writes that a symbol's name can't be read, and the symbol's number. Where all names can be read, writes that an extern
+    /// or a map has no symbol.
     fn write_symbol<W: fmt::Write>(&self, f: &mut fmt::Formatter<W>) -> fmt::Result {
         match symbol_without_name(self.file) {
             Some(number) => write!(f, "the name of symbol {number} can't be read"),

@@ -32,8 +32,8 @@ impl Object {
         self.relocate_calls(&sections)
     }
 
-    /// What the program with this name is made of once `relocate_own_calls` has linked it, as `link_map` tells it with
-    /// the sections that the object's functions stand in. `None` exactly where no program has the name.
+    /// The link map of the program with this name, as `link_map` gives it with the sections that the object's functions
+    /// stand in. `None` exactly where no program has the name.
     ///
     /// # Errors
     ///

@@ -19,7 +19,7 @@ use ebpf_btf::Btf;
 pub use ebpf_ksyms::{SymbolSource, SymbolText};
 use std::alloc::Global;
 
-/// What is chosen of the passes over an object.
+/// The passes over an object that are chosen.
 #[derive(Clone, Copy)]
 pub struct Steps<'a> {
     /// A kernel's types, where functions are to be relocated to them.

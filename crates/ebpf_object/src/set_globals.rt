@@ -22,7 +22,7 @@ use std::alloc::Global;
 use std::collections::HashMap;
 use write::{Patch, write_patches};
 
-/// Adds what the value of one variable asks for.
+/// Adds the patch of one variable's value, where the object has the variable.
 #[tactic(auto, unfolding(crate::specs::Patches::patch_of))]
 fn add<'a>(
     alloc: Global,
@@ -48,7 +48,7 @@ fn add<'a>(
     }
 }
 
-/// What the values of variables ask for, in the order of the names.
+/// The patches of variables' values, in the order of the names.
 fn add_all<'a>(
     alloc: Global,
     lookup: &VariableLookup<'_>,
@@ -69,7 +69,7 @@ fn add_all<'a>(
 }
 
 impl Object {
-    /// What the values of variables ask for.
+    /// The patches of variables' values.
     fn patches<'a>(
         &self,
         globals: &HashMap<&str, (&'a [u8], bool)>,

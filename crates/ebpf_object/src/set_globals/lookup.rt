@@ -19,7 +19,7 @@ use ebpf_parts::ParseError;
 use ebpf_parts::maps::Map;
 use std::alloc::{AllocError, Global};
 
-/// What a variable's map and offset are found by.
+/// The tables that a variable's map and offset are found by.
 #[derive(Drop)]
 pub struct VariableLookup<'a> {
     pub symbols: &'a ByIndex<Symbol>,
@@ -127,7 +127,7 @@ fn no_symbol(alloc: Global, name: &str) -> ParseError
     }
 }
 
-/// Where a value goes in the data of its map.
+/// The patch that puts a value into the data of its map.
 fn patch_in_map<'a>(
     alloc: Global,
     maps: &ByName<Map>,
@@ -176,7 +176,7 @@ fn symbol_of<'a>(lookup: &VariableLookup<'a>, name: &str) -> Option<&'a Symbol>
     }
 }
 
-/// Where the value of a variable with a symbol goes.
+/// The patch of the value of a variable with a symbol.
 fn patch_by_symbol<'a>(
     alloc: Global,
     lookup: &VariableLookup<'_>,
@@ -198,7 +198,7 @@ fn patch_by_symbol<'a>(
     }
 }
 
-/// Where the value of a variable goes, where it has a symbol.
+/// The patch of the value of a variable. `None` where the variable has no symbol and needs none.
 #[tactic(auto, unfolding(crate::specs::Patches::patch_of))]
 pub fn patch_of<'a>(
     alloc: Global,
