@@ -130,9 +130,6 @@ fn with_offset(slot: bpf_insn, number: u64, outcome: &Outcome) -> Option<bpf_ins
     })
 }
 
-/// The immediate of a poisoned call, as libbpf writes it.
-const BAD_RELO: i32 = 0x0bad_2310;
-
 /// A slot that fails where it is reached.
 fn poison() -> bpf_insn
     ensures { result ≡ poison }

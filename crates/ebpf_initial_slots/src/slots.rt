@@ -1,4 +1,4 @@
-//! The initial values of an object's maps: what relocations put into them, by map and index.
+//! The initial values that relocations give an object's maps, by map and index.
 
 ghost use Rattle.std.specs.Prelude.{◌≡◌, ◌<◌, ◌/◌, ◌++◌, map, IfOk, IfSome, IsTrue, OnOk, [], unwrap_or};
 ghost use Rattle.std.specs.List.{find};
@@ -18,6 +18,29 @@ use ebpf_elf::{ElfFile, ElfRelocation, Relocations};
 use ebpf_object::Object;
 use std::alloc::{AllocError, Global};
 
+/// An initial value of a map.
+#[derive(Debug, Drop)]
+pub struct InitialSlot {
+    /// The name of the map that has it.
+    pub map: Text,
+    /// The index in the map, which is also the key there.
+    pub index: u32,
+    /// The map or the program at the index.
+    pub target: InitialTarget,
+}
+
+impl Clone for InitialSlot {
+    ghost is_clone = { λ old copy. copy ≡ old };
+
+    fn clone(&self) -> Result<InitialSlot, AllocError> {
+        Ok(InitialSlot {
+            map: self.map.clone()?,
+            index: self.index,
+            target: self.target.clone()?,
+        })
+    }
+}
+
 /// Whether a variable holds the 8 bytes at a place of the section.
 fn holds_slot(place: u64, variable: &MapVariable) -> bool
     ensures { result ≡ holds_slot place variable.now }
@@ -26,7 +49,7 @@ fn holds_slot(place: u64, variable: &MapVariable) -> bool
     variable.offset <= place && u128::from(place) + 8 <= end
 }
 
-/// The first variable that does.
+/// The first variable that holds the 8 bytes at a place.
 fn holder(place: u64, variables: &[MapVariable]) -> Option<&MapVariable>
     ensures first { option_copied result ≡ find (holds_slot place) variables.now }
     ensures holds { IfSome result (λ v. IsTrue (holds_slot place v.now)) }
@@ -79,7 +102,7 @@ fn slot_index(variable: &MapVariable, place: u64) -> Result<u32, InitialSlotErro
     }
 }
 
-/// What a relocation puts where.
+/// The initial value that a relocation gives a map.
 #[tactic(auto, unfolding(crate::specs::InitialSlots::initial_slot))]
 fn initial_slot(
     alloc: Global,
@@ -107,7 +130,7 @@ fn initial_slot(
     Ok(InitialSlot { map, index, target })
 }
 
-/// The slots of one.
+/// The slots of a map that has this one alone.
 fn one_slot(alloc: Global, slot: InitialSlot) -> Result<ByNumber<InitialSlot>, AllocError>
     ensures { IfOk result (λ own. own ≡ finite.insert finite.empty slot.index slot) }
 {
@@ -116,7 +139,7 @@ fn one_slot(alloc: Global, slot: InitialSlot) -> Result<ByNumber<InitialSlot>, A
     Ok(own)
 }
 
-/// Puts a slot beside those of its map; the later of two at one index stands.
+/// Adds a slot to those of its map; the later of two at one index stands.
 fn add_slot(
     alloc: Global,
     found: &mut ByName<ByNumber<InitialSlot>>,
@@ -136,7 +159,7 @@ fn add_slot(
     Ok(())
 }
 
-/// What relocations put into maps, by map and index.
+/// The initial values that relocations give maps, by map and index.
 pub fn gather(
     alloc: Global,
     object: &Object,
@@ -199,7 +222,7 @@ fn relocations_at<'a>(file: &ElfFile<'a>, index: usize) -> Option<Relocations<'a
     Some(section.relocations())
 }
 
-/// What relocations put into the maps of the section with an index, in order.
+/// The initial values that relocations give the maps of the section with an index, in order.
 fn slots_put(
     alloc: Global,
     object: &Object,
@@ -214,7 +237,7 @@ fn slots_put(
     Ok(slots_in_order(alloc, &found)?)
 }
 
-/// What the relocations of the section with an index put into its maps.
+/// The initial values that the relocations of the section with an index give its maps.
 #[tactic(auto, using(crate::proofs::InitialSlots::none_in_order))]
 fn slots_of_section(
     alloc: Global,
@@ -279,29 +302,6 @@ pub fn initial_slots(
     }
 }
 
-/// An initial value of a map.
-#[derive(Debug, Drop)]
-pub struct InitialSlot {
-    /// The name of the map that has it.
-    pub map: Text,
-    /// Its index in the map, which is also the key that it has there.
-    pub index: u32,
-    /// What stands there.
-    pub target: InitialTarget,
-}
-
-impl Clone for InitialSlot {
-    ghost is_clone = { λ old copy. copy ≡ old };
-
-    fn clone(&self) -> Result<InitialSlot, AllocError> {
-        Ok(InitialSlot {
-            map: self.map.clone()?,
-            index: self.index,
-            target: self.target.clone()?,
-        })
-    }
-}
-
 /// The last member of a STRUCT.
 #[tactic(auto, unfolding(crate::specs::MapVariables::last_member))]
 fn last_member(ty: &BtfType<'_>) -> Option<BtfMember>
@@ -313,7 +313,7 @@ fn last_member(ty: &BtfType<'_>) -> Option<BtfMember>
     }
 }
 
-/// Where a member stands that is `values`, in bytes.
+/// The offset in bytes of a member `values`.
 fn values_at(types: &Btf, ty: &BtfType<'_>, member: &BtfMember) -> Option<u32>
     ensures { result ≡ values_at types.now ty.now member.now }
 {
@@ -323,7 +323,7 @@ fn values_at(types: &Btf, ty: &BtfType<'_>, member: &BtfMember) -> Option<u32>
     None
 }
 
-/// Where `values` stand in the type of an id, in bytes, where it ends in them.
+/// The offset in bytes of `values` in the type of an id, where it ends in them.
 #[tactic(auto, unfolding(crate::specs::MapVariables::values_offset))]
 pub fn values_offset(types: &Btf, type_id: u32) -> Option<u32>
     ensures { result ≡ values_offset types.now type_id }

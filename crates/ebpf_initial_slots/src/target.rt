@@ -20,7 +20,7 @@ const HASH_OF_MAPS: u32 = 13;
 /// The type of arrays of programs (`BPF_MAP_TYPE_PROG_ARRAY`).
 const PROG_ARRAY: u32 = 3;
 
-/// What stands in a map.
+/// The target of an initial slot: a map or a program.
 #[derive(Debug, Drop)]
 pub enum InitialTarget {
     /// The map of this name.
@@ -114,7 +114,7 @@ fn target_program(
     Err(InitialSlotError::NotAnEntryPoint { map, target })
 }
 
-/// What a symbol puts into the map of a variable.
+/// The target that a symbol gives a slot of a variable's map.
 pub fn initial_target(
     alloc: Global,
     object: &Object,

@@ -24,17 +24,17 @@ pub const MAPS: &str = ".maps";
 /// A variable of the section, which declares a map.
 #[derive(Debug, Drop)]
 pub struct MapVariable {
-    /// Its name, which is the map's.
+    /// The variable's name, which is the map's.
     pub name: Text,
-    /// Where it stands in the section, in bytes.
+    /// The offset in the section, in bytes.
     pub offset: u64,
-    /// Its size in bytes.
+    /// The size in bytes.
     pub size: u32,
     /// The number of the map's type.
     pub map_type: u32,
     /// The size of the map's keys in bytes.
     pub key_size: u32,
-    /// Where `values` begin in it, in bytes, where its type ends in them.
+    /// The offset of `values` in the variable, in bytes, where its type ends in them.
     pub values: Option<u32>,
 }
 
@@ -115,7 +115,7 @@ fn declared_in(section: usize, map: Option<&Map>) -> Option<&BtfMap>
     }
 }
 
-/// Where a variable stands in the section.
+/// The offset of a variable in the section.
 fn variable_offset(unplaced: bool, entry: &DataSecEntry, symbol: Option<&Symbol>) -> u64
     ensures { result ≡ variable_offset unplaced entry.now (option_copied symbol.entry) }
 {

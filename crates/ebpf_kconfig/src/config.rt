@@ -13,7 +13,7 @@ use crate::settings::{ValueFault, loader_value, text_value};
 use ebpf_base::{Endianness, Items, Text};
 use std::alloc::Global;
 
-/// What stands behind a prefix.
+/// The bytes behind a prefix. `None` where they don't begin with it.
 fn behind<'a>(prefix: &[u8], bytes: &'a [u8]) -> Option<&'a [u8]>
     ensures { option_copied result ≡ behind prefix.now bytes.now }
 {
@@ -23,14 +23,14 @@ fn behind<'a>(prefix: &[u8], bytes: &'a [u8]) -> Option<&'a [u8]>
     None
 }
 
-/// What a line gives a name.
+/// The value that a line gives a name.
 fn given_in_line<'a>(name: &[u8], line: &'a [u8]) -> Option<&'a [u8]>
     ensures { option_copied result ≡ given_in_line name.now line.now }
 {
     behind(b"=", behind(name, line)?)
 }
 
-/// Where the first line ends.
+/// The index of the first line's end.
 fn line_end(text: &[u8]) -> Option<usize>
     ensures first { result ≡ position (λ b. b == 10) text.now }
     ensures inside { IfSome result (λ end. end < length text.now) }
@@ -57,7 +57,7 @@ fn first_line(text: &[u8]) -> Option<(&[u8], &[u8])>
     Some((&text[..end], from_index(text, end + 1)))
 }
 
-/// What the first line that gives the name something gives it.
+/// The value of a name in the first line that gives one.
 fn setting<'a>(config: &'a [u8], name: &[u8]) -> Option<&'a [u8]>
     ensures { option_copied result ≡ setting config.now name.now }
 {

@@ -120,7 +120,7 @@ pub fn kconfig(object: &Object) -> Result<Items<KconfigExtern>, KconfigError>
     ensures externs { IfOk result (λ externs. externs ≡ kconfig_externs object.now.btf object.now.symbol_table) }
     ensures fault { Refuses is_kconfig_memory result (kconfig_externs_fault object.now.btf object.now.symbol_table) }
 {
-    let alloc = *object.license.as_vec().allocator();
+    let alloc = object.allocator();
     kconfig_externs(alloc, &object.btf, &object.symbol_table)
 }
 
@@ -168,7 +168,7 @@ pub fn define_kconfig(object: &mut Object, values: &ByName<Items<u8>>) -> Result
     ensures others_stay { object.new ≡ record object.old { maps = object.new.maps; symbol_table = object.new.symbol_table } }
     ensures unchanged { OnErr result (object.new ≡ object.old) }
 {
-    let alloc = *object.license.as_vec().allocator();
+    let alloc = object.allocator();
     let externs = kconfig(object)?;
     let has_externs = !externs.is_empty();
     let plan = plan_with(alloc, values, externs)?;

@@ -22,11 +22,11 @@ use std::alloc::{AllocError, Global};
 /// An extern that the kernel's configuration gives.
 #[derive(Debug, Drop)]
 pub struct KconfigExtern {
-    /// Its name.
+    /// The extern's name.
     pub name: Text,
-    /// What it holds.
+    /// The extern's type.
     pub kind: KconfigType,
-    /// Whether it may stay without a value; it is zeros then.
+    /// Whether the extern may stay without a value. Its bytes are zeros then.
     pub is_weak: bool,
 }
 

@@ -7,26 +7,26 @@ ghost use Rattle.ebpf_kconfig.specs.KconfigExterns.{array_of_char, followed_type
 use ebpf_btf::strings::is_text_at;
 use ebpf_btf::{Btf, BtfType};
 
-/// What an extern of the kernel's configuration holds.
+/// The type of a kconfig extern.
 #[derive(Clone, Copy, Debug, PartialEq, Eq)]
 pub enum KconfigType {
     /// A `bool` of 1 byte: 1 for `y`, 0 for `n`.
     Bool,
     /// `enum libbpf_tristate`: 0 for `n`, 1 for `y`, 2 for `m`.
     Tristate {
-        /// Its size in bytes: 4, of an ENUM64 1, 2, 4 or 8.
+        /// The size in bytes: 4, of an ENUM64 1, 2, 4 or 8.
         size: u32,
     },
     /// An integer of 1 byte: a number, or the character `y`, `n` or `m`.
     Char {
-        /// Whether its numbers are signed.
+        /// Whether the numbers are signed.
         signed: bool,
     },
     /// An integer of more bytes.
     Integer {
-        /// Its size in bytes: 2, 4 or 8.
+        /// The size in bytes: 2, 4 or 8.
         size: u32,
-        /// Whether its numbers are signed.
+        /// Whether the numbers are signed.
         signed: bool,
     },
     /// An array of integers of 1 byte: a string and a zero byte.
@@ -109,7 +109,7 @@ fn is_enum64_size(size: u32) -> bool
     size == 1 || size == 2 || size == 4 || size == 8
 }
 
-/// What a type that is no array holds.
+/// The kconfig type of a type that is no array.
 #[tactic(auto, unfolding(crate::specs::KconfigExterns::scalar_type))]
 fn scalar_type(types: &Btf, ty: &BtfType<'_>) -> Option<KconfigType>
     ensures { result ≡ scalar_type types.now ty.now }
@@ -159,7 +159,7 @@ fn array_of_char(len: u32, element: Option<KconfigType>) -> Option<KconfigType>
     }
 }
 
-/// What an element holds.
+/// The kconfig type of an array's elements.
 fn element_type(types: &Btf, type_id: u32) -> Option<KconfigType>
     ensures { result ≡ option_and_then (scalar_type types.now) (followed_type types.now type_id) }
 {
@@ -167,7 +167,7 @@ fn element_type(types: &Btf, type_id: u32) -> Option<KconfigType>
     scalar_type(types, &element)
 }
 
-/// What a type holds.
+/// The kconfig type of a type.
 #[tactic(auto, unfolding(crate::specs::KconfigExterns::value_type))]
 fn value_type(types: &Btf, ty: &BtfType<'_>) -> Option<KconfigType>
     ensures { result ≡ value_type types.now ty.now }
@@ -182,7 +182,7 @@ fn value_type(types: &Btf, ty: &BtfType<'_>) -> Option<KconfigType>
     }
 }
 
-/// What the values of a variable hold whose type has an id. `None` where that is none of these, or can't be followed.
+/// The kconfig type of a type by its id. `None` where the type is none of these, or can't be followed.
 pub fn kconfig_type(types: &Btf, type_id: u32) -> Option<KconfigType>
     ensures { result ≡ kconfig_type types.now type_id }
 {

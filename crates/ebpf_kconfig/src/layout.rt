@@ -14,7 +14,7 @@ use crate::externs::KconfigExtern;
 use ebpf_base::{ByKey, ByName, Items};
 use std::alloc::{AllocError, Global};
 
-/// What externs are ordered by before their names: descending alignment, then ascending size.
+/// The key that externs are ordered by before their names: descending alignment, then ascending size.
 fn layout_key(wanted: &KconfigExtern) -> (usize, u64)
     ensures { result ≡ layout_key wanted.now }
 {
@@ -112,7 +112,7 @@ pub fn in_order<'a>(
     Ok(all)
 }
 
-/// Where an extern stands behind what ends at an offset.
+/// The offset of an extern behind data that end at an offset.
 pub fn extern_offset(end: u64, wanted: &KconfigExtern) -> u64
     requires { end < 2 ^ 32 }
     ensures value { result ≡ extern_offset end wanted.now }
@@ -123,7 +123,7 @@ pub fn extern_offset(end: u64, wanted: &KconfigExtern) -> u64
     (end + (alignment - 1)) / alignment * alignment
 }
 
-/// Where an extern ends behind what ends at an offset.
+/// The end of an extern behind data that end at an offset.
 pub fn extern_end(end: u64, wanted: &KconfigExtern) -> u64
     requires { end < 2 ^ 32 }
     ensures value { result ≡ extern_end end wanted.now }
@@ -132,7 +132,7 @@ pub fn extern_end(end: u64, wanted: &KconfigExtern) -> u64
     extern_offset(end, wanted) + u64::from(wanted.kind.size())
 }
 
-/// Where the last of externs in a row ends.
+/// The end of the last of externs in a row.
 pub fn layout_end(externs: &[&KconfigExtern]) -> Result<u32, KconfigError>
     ensures end { IfOk result (λ end. end ≡ layout_end 0 (lent_externs externs.now)) }
     ensures fault { fault_of result ≡ size_fault_from 0 (lent_externs externs.now) }

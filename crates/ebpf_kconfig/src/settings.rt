@@ -14,7 +14,7 @@ use std::alloc::{AllocError, Global};
 /// Why a text or a number is no value.
 #[derive(Clone, Copy, Debug)]
 pub enum ValueFault {
-    /// It is none of the type, or can't be read.
+    /// The text is no value of the type, or can't be read.
     Unsuited,
     /// The number is out of range.
     OutOfRange,
@@ -228,7 +228,7 @@ fn tristate_number(letter: u8) -> u8
     }
 }
 
-/// One byte.
+/// A list of one byte.
 fn one_byte(alloc: Global, byte: u8) -> Result<Items<u8>, AllocError>
     ensures { IfOk result (λ bytes. bytes ≡ byte ∷ []) }
 {

@@ -22,10 +22,10 @@ use Rattle.ebpf_btf.specs.declared.types.BtfType.TheVariants.{Func, Var}
 use Rattle.ebpf_base.proofs.Faults.{or_else-None}
 use Rattle.ebpf_ksyms.specs.Addresses.{is_one_of}
 use Rattle.ebpf_ksyms.specs.Externs.{NamedExtern, kernel_ids_of, is_typed, outcome_by, renewed, with_outcome, at_found, at_lookup_key, at_type, kernel_ids_in, lookup_key_of, LookupKeyValue}
-use Rattle.ebpf_ksyms.specs.PrivateContracts.{finished, sort_of, with_sort, with_type_ids, sort_of_kind, with_head_ids, id_at, id_of, ids_in, only_at, lookup_name, lookup_names, typed_as, typed_refused}
-use Rattle.ebpf_ksyms.specs.declared.ids.Ids.{Ids}
-use Rattle.ebpf_ksyms.specs.declared.ids.Sort.{Sort}
-use Rattle.ebpf_ksyms.specs.declared.ids.Sort.TheVariants.{Function, Variable}
+use Rattle.ebpf_ksyms.specs.PrivateContracts.{finished, extern_kind, with_id_of, with_type_ids, extern_kind_of, with_head_ids, id_at, id_of, ids_in, only_at, lookup_name, lookup_names, typed_as, typed_refused}
+use Rattle.ebpf_ksyms.specs.declared.ids.NameIds.{NameIds}
+use Rattle.ebpf_ksyms.specs.declared.ids.ExternKind.{ExternKind}
+use Rattle.ebpf_ksyms.specs.declared.ids.ExternKind.TheVariants.{Function, Variable}
 use Rattle.ebpf_btf.specs.declared.kind.BtfKind.TheVariants as kinds
 
 -- ---- the name before the first three underscores, by where a search finds them
@@ -78,22 +78,22 @@ take_all (b ∷ name) = ap (λ rest. b ∷ rest) (take_all name)
 
 -- ---- the lowest ids of a name, type by type
 
-is_function : Option Sort → Bool
+is_function : Option ExternKind → Bool
 is_function (Some Function) = true
 is_function _ = false
 
-is_variable : Option Sort → Bool
+is_variable : Option ExternKind → Bool
 is_variable (Some Variable) = true
 is_variable _ = false
 
-kind_Func : (t : BtfType) → is_kind kinds.Func t ≡ is_function (sort_of t)
-unfolding kind_of kind_number sort_of is_function
+kind_Func : (t : BtfType) → is_kind kinds.Func t ≡ is_function (extern_kind t)
+unfolding kind_of kind_number extern_kind is_function
 kind_Func (Func _ _) = refl
 kind_Func (Var _ _ _) = refl
 kind_Func _ = refl
 
-kind_Var : (t : BtfType) → is_kind kinds.Var t ≡ is_variable (sort_of t)
-unfolding kind_of kind_number sort_of is_variable
+kind_Var : (t : BtfType) → is_kind kinds.Var t ≡ is_variable (extern_kind t)
+unfolding kind_of kind_number extern_kind is_variable
 kind_Var (Func _ _) = refl
 kind_Var (Var _ _ _) = refl
 kind_Var _ = refl
@@ -104,50 +104,50 @@ chosen true None id rest = refl
 chosen true (Some x) id rest = refl
 chosen false o id rest = refl
 
-one_more : (s : Option Sort) (b : Bool) (ids : Ids) (id : ℕ) (fs vs : Option ℕ) → ◌≡◌ {A = Ids}
+one_more : (s : Option ExternKind) (b : Bool) (ids : NameIds) (id : ℕ) (fs vs : Option ℕ) → ◌≡◌ {A = NameIds}
     (record { function = or_else ids.function (cond (is_function s && b) (Some id) fs); variable = or_else ids.variable (cond (is_variable s && b) (Some id) vs) })
-    (record { function = or_else (cond b (with_sort ids id s) ids).function fs; variable = or_else (cond b (with_sort ids id s) ids).variable vs })
+    (record { function = or_else (cond b (with_id_of ids id s) ids).function fs; variable = or_else (cond b (with_id_of ids id s) ids).variable vs })
 unfolding is_function is_variable
-one_more None b ids id fs vs = elim b as (λ b. ◌≡◌ {A = Ids} (record { function = or_else ids.function fs; variable = or_else ids.variable vs }) (record { function = or_else (cond b ids ids).function fs; variable = or_else (cond b ids ids).variable vs })) [ true ↦ refl | false ↦ refl ]
+one_more None b ids id fs vs = elim b as (λ b. ◌≡◌ {A = NameIds} (record { function = or_else ids.function fs; variable = or_else ids.variable vs }) (record { function = or_else (cond b ids ids).function fs; variable = or_else (cond b ids ids).variable vs })) [ true ↦ refl | false ↦ refl ]
 one_more (Some Function) true ids id fs vs = λ i. record { function = chosen true ids.function id fs i; variable = or_else ids.variable vs }
 one_more (Some Function) false ids id fs vs = refl
 one_more (Some Variable) true ids id fs vs = λ i. record { function = or_else ids.function fs; variable = chosen true ids.variable id vs i }
 one_more (Some Variable) false ids id fs vs = refl
 
 -- one type, then those after it
-pub finished-cons : (kernel : TypeInfo) (name : List ℕ) (id : ℕ) (t : BtfType) (types : List BtfType) (ids : Ids) → finished kernel name id (t ∷ types) ids ≡ finished kernel name (id + 1) types (with_type_ids kernel name id t ids)
+pub finished-cons : (kernel : TypeInfo) (name : List ℕ) (id : ℕ) (t : BtfType) (types : List BtfType) (ids : NameIds) → finished kernel name id (t ∷ types) ids ≡ finished kernel name (id + 1) types (with_type_ids kernel name id t ids)
 finished-cons kernel name id t types ids =
     rw (kind_Func t, kind_Var t) (
-    one_more (sort_of t) (is_text name (type_name kernel t)) ids id (position_from (is_named kernel name kinds.Func) (id + 1) types) (position_from (is_named kernel name kinds.Var) (id + 1) types))
+    one_more (extern_kind t) (is_text name (type_name kernel t)) ids id (position_from (is_named kernel name kinds.Func) (id + 1) types) (position_from (is_named kernel name kinds.Var) (id + 1) types))
 
 option-step : {A B C : Type 0} (f : B → C) (g : A → B) (h : A → C) (o : Option A) → ((x : A) → h x ≡ f (g x)) → option_map h o ≡ option_map f (option_map g o)
 option-step f g h None e = refl
 option-step f g h (Some x) e = ap Some (e x)
 
 -- a pass with one more type
-pub more-types : (kernel : TypeInfo) (name : List ℕ) (id : ℕ) (t : BtfType) (types : List BtfType) (before after : Option Ids) → after ≡ option_map (with_type_ids kernel name id t) before → option_map (finished kernel name id (t ∷ types)) before ≡ option_map (finished kernel name (id + 1) types) after
+pub more-types : (kernel : TypeInfo) (name : List ℕ) (id : ℕ) (t : BtfType) (types : List BtfType) (before after : Option NameIds) → after ≡ option_map (with_type_ids kernel name id t) before → option_map (finished kernel name id (t ∷ types)) before ≡ option_map (finished kernel name (id + 1) types) after
 more-types kernel name id t types before after e =
     option-step (finished kernel name (id + 1) types) (with_type_ids kernel name id t) (finished kernel name id (t ∷ types)) before (finished-cons kernel name id t types)
     ∙ ap (option_map (finished kernel name (id + 1) types)) (sym e)
 
 -- with no type left it is over
-pub no-types : (kernel : TypeInfo) (name : List ℕ) (id : ℕ) (types : List BtfType) (ids : Option Ids) → types ≡ [] → option_map (finished kernel name id types) ids ≡ ids
+pub no-types : (kernel : TypeInfo) (name : List ℕ) (id : ℕ) (types : List BtfType) (ids : Option NameIds) → types ≡ [] → option_map (finished kernel name id types) ids ≡ ids
 no-types kernel name id types None e = refl
 no-types kernel name id types (Some ids) e = rw (e, or_else-None ids.function, or_else-None ids.variable) refl
 
 -- a type by its kind and the offset of its name
-sort_by_kind : (t : BtfType) → sort_of t ≡ sort_of_kind (kind_of t)
-unfolding sort_of kind_of sort_of_kind
-sort_by_kind (Func _ _) = refl
-sort_by_kind (Var _ _ _) = refl
-sort_by_kind _ = refl
+extern_kind_by : (t : BtfType) → extern_kind t ≡ extern_kind_of (kind_of t)
+unfolding extern_kind kind_of extern_kind_of
+extern_kind_by (Func _ _) = refl
+extern_kind_by (Var _ _ _) = refl
+extern_kind_by _ = refl
 
-pub by_head : (kernel : TypeInfo) (name : List ℕ) (id : ℕ) (t : BtfType) (kind : BtfKind) (offset : ℕ) (before : Option Ids) → kind_of t ≡ kind → name_off t ≡ offset
+pub by_head : (kernel : TypeInfo) (name : List ℕ) (id : ℕ) (t : BtfType) (kind : BtfKind) (offset : ℕ) (before : Option NameIds) → kind_of t ≡ kind → name_off t ≡ offset
     → option_map (with_head_ids kernel name id kind offset) before ≡ option_map (with_type_ids kernel name id t) before
 by_head kernel name id t kind offset before of_kind named =
     ap (λ k. option_map (with_head_ids kernel name id k offset) before) (sym of_kind)
     ∙ ap (λ n. option_map (with_head_ids kernel name id (kind_of t) n) before) (sym named)
-    ∙ ap (λ sort. option_map (λ ids. cond (is_text name (type_name kernel t)) (with_sort ids id sort) ids) before) (sym (sort_by_kind t))
+    ∙ ap (λ found. option_map (λ ids. cond (is_text name (type_name kernel t)) (with_id_of ids id found) ids) before) (sym (extern_kind_by t))
 
 -- ---- ids of the kernel by a table of the names that are looked up, in place of a search for each
 
@@ -173,21 +173,21 @@ all_listed f (e ∷ es) =
       | Some n ↦ (ap (λ b. b || is_one_of (filter_map f es) n) ((bytes_eq-Decides n n).1 refl), all_more f n (filter_map f es) es (all_listed f es))
     ]
 
-module _ (local kernel : TypeInfo) (names : List (List ℕ)) (known : List ℕ → Option Ids) (tells : (q : List ℕ) → known q ≡ only_at names (ids_in kernel) q) where
-  of_sort : (sort : Sort) (name : List ℕ) → id_of sort (ids_in kernel name) ≡ kernel_ids_in kernel sort name
-  of_sort Function name = refl
-  of_sort Variable name = refl
+module _ (local kernel : TypeInfo) (names : List (List ℕ)) (known : List ℕ → Option NameIds) (tells : (q : List ℕ) → known q ≡ only_at names (ids_in kernel) q) where
+  id_of_kind : (kind : ExternKind) (name : List ℕ) → id_of kind (ids_in kernel name) ≡ kernel_ids_in kernel kind name
+  id_of_kind Function name = refl
+  id_of_kind Variable name = refl
 
-  same_id : (sort : Sort) (name : List ℕ) → is_one_of names name ≡ true → id_at known sort name ≡ kernel_ids_in kernel sort name
-  same_id sort name h =
-      ap (option_and_then (id_of sort)) (tells name)
-      ∙ ap (λ b. option_and_then (id_of sort) (cond b (Some (ids_in kernel name)) None)) h
-      ∙ of_sort sort name
+  same_id : (kind : ExternKind) (name : List ℕ) → is_one_of names name ≡ true → id_at known kind name ≡ kernel_ids_in kernel kind name
+  same_id kind name h =
+      ap (option_and_then (id_of kind)) (tells name)
+      ∙ ap (λ b. option_and_then (id_of kind) (cond b (Some (ids_in kernel name)) None)) h
+      ∙ id_of_kind kind name
 
   same_lookup_key : (name : List ℕ) (weak : Bool) (o : Option LookupKeyValue) → IsListed names (option_map (λ s. s.name) o) → at_lookup_key local kernel (id_at known) name weak o ≡ at_lookup_key local kernel (kernel_ids_in kernel) name weak o
   unfolding IsListed
   same_lookup_key name weak None h = refl
-  same_lookup_key name weak (Some s) h = ap (at_found local kernel weak s) (same_id s.sort s.name h)
+  same_lookup_key name weak (Some s) h = ap (at_found local kernel weak s) (same_id s.kind s.name h)
 
   same_type : (name : List ℕ) (weak : Bool) (r : Result BtfType BtfError) → IsListed names (option_map (λ s. s.name) (option_and_then (lookup_key_of name) (result_ok r))) → at_type local kernel (id_at known) name weak r ≡ at_type local kernel (kernel_ids_in kernel) name weak r
   same_type name weak (Err e) h = refl
@@ -216,7 +216,7 @@ module _ (local kernel : TypeInfo) (names : List (List ℕ)) (known : List ℕ �
   refused_alike (e ∷ es) h = λ i. or_else (same_refusal e h.0 i) (refused_alike es h.1 i)
 
 -- a table of the names that some externs are looked up by tells enough of them
-module _ (local kernel : TypeInfo) (es : List NamedExtern) (known : List ℕ → Option Ids) (tells : (q : List ℕ) → known q ≡ only_at (lookup_names local es) (ids_in kernel) q) where
+module _ (local kernel : TypeInfo) (es : List NamedExtern) (known : List ℕ → Option NameIds) (tells : (q : List ℕ) → known q ≡ only_at (lookup_names local es) (ids_in kernel) q) where
   pub same_renewed : renewed (typed_as (id_at known) local (Some kernel)) es ≡ renewed (typed_as (kernel_ids_of (Some kernel)) local (Some kernel)) es
   same_renewed = renewed_alike local kernel (lookup_names local es) known tells es (all_listed (lookup_name local) es)
 

@@ -19,15 +19,15 @@ use Rattle.ebpf_core_candidates.specs.Compatibility.{types_compatible}
 use Rattle.ebpf_ksyms.specs.Addresses.{of_type_fault, Item, Line, line_of_item, lines_fault, address_of, Counts, is_one_of}
 use Rattle.ebpf_ksyms.specs.declared.error.KsymsError.{KsymsError}
 use Rattle.ebpf_ksyms.specs.declared.error.KsymsError.TheVariants.{FunctionNotFound, IncompatibleFunctionSignature, IncompatibleVariableType, InvalidExternType, VariableNotFound, TypedKsymRequiresKernelBtf}
-use Rattle.ebpf_ksyms.specs.declared.ids.Sort.{Sort}
-use Rattle.ebpf_ksyms.specs.declared.ids.Sort.TheVariants.{Function, Variable}
+use Rattle.ebpf_ksyms.specs.declared.ids.ExternKind.{ExternKind}
+use Rattle.ebpf_ksyms.specs.declared.ids.ExternKind.TheVariants.{Function, Variable}
 use Rattle.ebpf_model.specs.declared.symbol.ExternDesc.{ExternDesc}
 
 -- ---- what an extern with a type is looked up by, and what the kernel has for it
 
 -- whether a function or a variable is looked up, its name, and the type id of the local one
 pub record LookupKeyValue : Type 0 where
-  pub sort : Sort
+  pub kind : ExternKind
   pub name : List ℕ
   pub type_id : ℕ
 
@@ -37,22 +37,22 @@ pub record LookupKeyValue : Type 0 where
 
 -- A function is looked up by its name before the first three underscores, a variable by its whole name.
 unfoldable pub lookup_key_of : List ℕ → BtfType → Option LookupKeyValue
-lookup_key_of name (Func _ id) = Some (record { sort = Function; name = essential_name name; type_id = id })
-lookup_key_of name (Var _ id _) = Some (record { sort = Variable; name = name; type_id = id })
+lookup_key_of name (Func _ id) = Some (record { kind = Function; name = essential_name name; type_id = id })
+lookup_key_of name (Var _ id _) = Some (record { kind = Variable; name = name; type_id = id })
 lookup_key_of name _ = None
 
-abbrev pub kind_of_sort : Sort → BtfKind
-kind_of_sort Function = kinds.Func
-kind_of_sort Variable = kinds.Var
+abbrev pub btf_kind_of : ExternKind → BtfKind
+btf_kind_of Function = kinds.Func
+btf_kind_of Variable = kinds.Var
 
 -- ---- what is found
 
 -- the kernel's FUNC or VAR of the name, with the lowest id
 abbrev pub KernelIds : Type 0
-KernelIds = Sort → List ℕ → Option ℕ
+KernelIds = ExternKind → List ℕ → Option ℕ
 
 abbrev pub kernel_ids_in : TypeInfo → KernelIds
-kernel_ids_in kernel sort name = id_of_name kernel name (kind_of_sort sort)
+kernel_ids_in kernel kind name = id_of_name kernel name (btf_kind_of kind)
 
 -- whether the type that a local FUNC or VAR holds stands for the one that the kernel's holds, both resolved
 unfoldable pub are_types_compatible : TypeInfo → ℕ → TypeInfo → ℕ → Result Bool BtfError
@@ -72,26 +72,26 @@ abbrev pub unless_weak : Bool → KsymsError → Outcome
 unless_weak true e = Ok None
 unless_weak false e = Err e
 
-abbrev pub not_found : Sort → List ℕ → KsymsError
+abbrev pub not_found : ExternKind → List ℕ → KsymsError
 not_found Function name = FunctionNotFound name
 not_found Variable name = VariableNotFound name
 
-abbrev pub not_alike : Sort → List ℕ → KsymsError
+abbrev pub not_alike : ExternKind → List ℕ → KsymsError
 not_alike Function name = IncompatibleFunctionSignature name
 not_alike Variable name = IncompatibleVariableType name
 
 abbrev pub compared_outcome : Bool → LookupKeyValue → ℕ → Result Bool BtfError → Outcome
 compared_outcome weak s id (Err e) = Err (of_type_fault e)
 compared_outcome weak s id (Ok true) = Ok (Some id)
-compared_outcome weak s id (Ok false) = unless_weak weak (not_alike s.sort s.name)
+compared_outcome weak s id (Ok false) = unless_weak weak (not_alike s.kind s.name)
 
 abbrev pub at_found : TypeInfo → TypeInfo → Bool → LookupKeyValue → Option ℕ → Outcome
-at_found local kernel weak s None = unless_weak weak (not_found s.sort s.name)
+at_found local kernel weak s None = unless_weak weak (not_found s.kind s.name)
 at_found local kernel weak s (Some id) = compared_outcome weak s id (are_types_compatible local s.type_id kernel id)
 
 abbrev pub at_lookup_key : TypeInfo → TypeInfo → KernelIds → List ℕ → Bool → Option LookupKeyValue → Outcome
 at_lookup_key local kernel kernel_ids name weak None = Err (InvalidExternType name)
-at_lookup_key local kernel kernel_ids name weak (Some s) = at_found local kernel weak s (kernel_ids s.sort s.name)
+at_lookup_key local kernel kernel_ids name weak (Some s) = at_found local kernel weak s (kernel_ids s.kind s.name)
 
 abbrev pub at_type : TypeInfo → TypeInfo → KernelIds → List ℕ → Bool → Result BtfType BtfError → Outcome
 at_type local kernel kernel_ids name weak (Err e) = Err (of_type_fault e)
@@ -124,7 +124,7 @@ outcome_by kernel_ids local None e = unless_weak e.1.is_weak TypedKsymRequiresKe
 outcome_by kernel_ids local (Some kernel) e = at_type local kernel kernel_ids e.0 e.1.is_weak (type_at local.types e.1.btf_id)
 
 abbrev pub no_kernel_ids : KernelIds
-no_kernel_ids sort name = None
+no_kernel_ids kind name = None
 
 abbrev pub kernel_ids_of : Option TypeInfo → KernelIds
 kernel_ids_of None = no_kernel_ids

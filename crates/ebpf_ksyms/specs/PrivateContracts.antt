@@ -18,10 +18,10 @@ use Rattle.ebpf_core_candidates.specs.Candidates.{is_hash_marked, name_hash}
 use Rattle.ebpf_ksyms.specs.Addresses.{is_one_of, Item, Line, address_of, line_of_item, lines_fault, address_if_named, stated_fault, Counts, address_and_name, stated_address}
 use Rattle.ebpf_ksyms.specs.Externs.{NamedExtern, Externs, is_typeless, left_without, with_address, is_typed, outcome_by, with_outcome, KernelIds, lookup_key_of}
 use Rattle.ebpf_ksyms.specs.declared.error.KsymsError.{KsymsError}
-use Rattle.ebpf_ksyms.specs.declared.ids.Ids.{Ids}
-use Rattle.ebpf_ksyms.specs.declared.ids.Sort.{Sort}
-use Rattle.ebpf_ksyms.specs.declared.ids.Sort.TheVariants.{Function, Variable}
-use Rattle.ebpf_ksyms.specs.declared.named.Named.{Named}
+use Rattle.ebpf_ksyms.specs.declared.ids.NameIds.{NameIds}
+use Rattle.ebpf_ksyms.specs.declared.ids.ExternKind.{ExternKind}
+use Rattle.ebpf_ksyms.specs.declared.ids.ExternKind.TheVariants.{Function, Variable}
+use Rattle.ebpf_ksyms.specs.declared.named.NameTable.{NameTable}
 use Rattle.ebpf_model.specs.declared.symbol.ExternDesc.{ExternDesc}
 use Rattle.ebpf_btf.specs.declared.kind.BtfKind.TheVariants as kinds
 
@@ -39,38 +39,38 @@ externs_from es = put_all empty es
 -- ---- the ids of a kernel's functions and variables, by name
 
 -- the lowest ids of a FUNC and of a VAR with a name
-abbrev pub ids_in : TypeInfo → List ℕ → Ids
+abbrev pub ids_in : TypeInfo → List ℕ → NameIds
 ids_in kernel name = record { function = id_of_name kernel name kinds.Func; variable = id_of_name kernel name kinds.Var }
 
--- the one of a sort
-abbrev pub id_of : Sort → Ids → Option ℕ
+-- the one of an extern kind
+abbrev pub id_of : ExternKind → NameIds → Option ℕ
 id_of Function ids = ids.function
 id_of Variable ids = ids.variable
 
-abbrev pub id_at : (List ℕ → Option Ids) → Sort → List ℕ → Option ℕ
-id_at known sort name = option_and_then (id_of sort) (known name)
+abbrev pub id_at : (List ℕ → Option NameIds) → ExternKind → List ℕ → Option ℕ
+id_at known kind name = option_and_then (id_of kind) (known name)
 
 -- whether a type is a function or a variable
-unfoldable pub sort_of : BtfType → Option Sort
-sort_of (Func _ _) = Some Function
-sort_of (Var _ _ _) = Some Variable
-sort_of _ = None
+unfoldable pub extern_kind : BtfType → Option ExternKind
+extern_kind (Func _ _) = Some Function
+extern_kind (Var _ _ _) = Some Variable
+extern_kind _ = None
 
 -- with one more id, which does not count where a lower one is there
-abbrev pub with_lower_id : Ids → Sort → ℕ → Ids
+abbrev pub with_lower_id : NameIds → ExternKind → ℕ → NameIds
 with_lower_id ids Function id = record ids { function = or_else ids.function (Some id) }
 with_lower_id ids Variable id = record ids { variable = or_else ids.variable (Some id) }
 
-abbrev pub with_sort : Ids → ℕ → Option Sort → Ids
-with_sort ids id None = ids
-with_sort ids id (Some sort) = with_lower_id ids sort id
+abbrev pub with_id_of : NameIds → ℕ → Option ExternKind → NameIds
+with_id_of ids id None = ids
+with_id_of ids id (Some kind) = with_lower_id ids kind id
 
 -- the ids of a name, with one more type
-abbrev pub with_type_ids : TypeInfo → List ℕ → ℕ → BtfType → Ids → Ids
-with_type_ids kernel name id t ids = if is_text name (type_name kernel t) then with_sort ids id (sort_of t) else ids
+abbrev pub with_type_ids : TypeInfo → List ℕ → ℕ → BtfType → NameIds → NameIds
+with_type_ids kernel name id t ids = if is_text name (type_name kernel t) then with_id_of ids id (extern_kind t) else ids
 
 -- the ids of a name, with types that have ids from a number on
-abbrev pub finished : TypeInfo → List ℕ → ℕ → List BtfType → Ids → Ids
+abbrev pub finished : TypeInfo → List ℕ → ℕ → List BtfType → NameIds → NameIds
 finished kernel name id types ids = record {
   function = or_else ids.function (position_from (is_named kernel name kinds.Func) id types);
   variable = or_else ids.variable (position_from (is_named kernel name kinds.Var) id types);
@@ -79,7 +79,7 @@ finished kernel name id types ids = record {
 -- ---- what contracts of private functions name and no public one
 
 -- the value at a name that is marked
-unfoldable pub value_named : {V : Type 0} → Named V → List ℕ → Option V
+unfoldable pub value_named : {V : Type 0} → NameTable V → List ℕ → Option V
 value_named m name = if is_hash_marked m.marks.items (name_hash name) then get_by (λ k. text_cmp name k.now) m.values else None
 
 -- values at some names alone
@@ -87,14 +87,14 @@ abbrev pub only_at : {V : Type 0} → List (List ℕ) → (List ℕ → V) → L
 only_at names value name = if is_one_of names name then Some (value name) else None
 
 -- whether types of a kind are functions or variables
-unfoldable pub sort_of_kind : BtfKind → Option Sort
-sort_of_kind kinds.Func = Some Function
-sort_of_kind kinds.Var = Some Variable
-sort_of_kind _ = None
+unfoldable pub extern_kind_of : BtfKind → Option ExternKind
+extern_kind_of kinds.Func = Some Function
+extern_kind_of kinds.Var = Some Variable
+extern_kind_of _ = None
 
 -- the ids of a name, with one more type, of a kind and with its name at an offset
-abbrev pub with_head_ids : TypeInfo → List ℕ → ℕ → BtfKind → ℕ → Ids → Ids
-with_head_ids kernel name id kind offset ids = if is_text name (text_at kernel.strings offset) then with_sort ids id (sort_of_kind kind) else ids
+abbrev pub with_head_ids : TypeInfo → List ℕ → ℕ → BtfKind → ℕ → NameIds → NameIds
+with_head_ids kernel name id kind offset ids = if is_text name (text_at kernel.strings offset) then with_id_of ids id (extern_kind_of kind) else ids
 
 -- ---- the addresses of names, line by line, and where reading stops
 

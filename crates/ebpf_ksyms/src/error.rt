@@ -63,7 +63,7 @@ pub enum KsymsError {
 }
 
 impl KsymsError {
-    /// The refusal for a fault of types: want of memory stays that.
+    /// The error for a fault of types. A failed allocation stays `OutOfMemory`.
     pub(crate) fn of_types(error: BtfError) -> KsymsError
         ensures { result ≡ of_type_fault error }
     {

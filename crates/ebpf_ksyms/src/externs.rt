@@ -10,8 +10,8 @@ ghost use Rattle.ebpf_ksyms.specs.Addresses.{is_ksyms_memory};
 ghost use Rattle.ebpf_ksyms.specs.PrivateContracts.{id_at, value_named, lookup_name, lookup_names, typed_as, typed_refused, known_at, typeless_as, typeless_refused};
 
 use crate::error::KsymsError;
-use crate::ids::{Ids, LookupKey, Sort, id_at, ids_in, lookup_key_of};
-use crate::named::{Named, NamedExtern};
+use crate::ids::{ExternKind, LookupKey, NameIds, id_at, ids_in, lookup_key_of};
+use crate::named::{NameTable, NamedExtern};
 use ebpf_base::Text;
 use ebpf_btf::{Btf, BtfError, BtfType};
 use ebpf_core_candidates::types_are_compatible;
@@ -38,27 +38,27 @@ fn are_types_compatible(local: &Btf, type_id: u32, kernel: &Btf, id: u32) -> Res
 
 /// The refusal of an extern that the kernel does not have.
 fn not_found(alloc: Global, lookup_key: &LookupKey<'_>) -> Result<KsymsError, AllocError>
-    ensures { IfOk result (λ e. e ≡ not_found lookup_key.now.sort lookup_key.now.name) }
+    ensures { IfOk result (λ e. e ≡ not_found lookup_key.now.kind lookup_key.now.name) }
 {
     let name = Text::from_str(alloc, lookup_key.name)?;
-    Ok(match lookup_key.sort {
-        Sort::Function => KsymsError::FunctionNotFound { name },
-        Sort::Variable => KsymsError::VariableNotFound { name },
+    Ok(match lookup_key.kind {
+        ExternKind::Function => KsymsError::FunctionNotFound { name },
+        ExternKind::Variable => KsymsError::VariableNotFound { name },
     })
 }
 
 /// The refusal of an extern that has another type in the kernel.
 fn not_alike(alloc: Global, lookup_key: &LookupKey<'_>) -> Result<KsymsError, AllocError>
-    ensures { IfOk result (λ e. e ≡ not_alike lookup_key.now.sort lookup_key.now.name) }
+    ensures { IfOk result (λ e. e ≡ not_alike lookup_key.now.kind lookup_key.now.name) }
 {
     let name = Text::from_str(alloc, lookup_key.name)?;
-    Ok(match lookup_key.sort {
-        Sort::Function => KsymsError::IncompatibleFunctionSignature { name },
-        Sort::Variable => KsymsError::IncompatibleVariableType { name },
+    Ok(match lookup_key.kind {
+        ExternKind::Function => KsymsError::IncompatibleFunctionSignature { name },
+        ExternKind::Variable => KsymsError::IncompatibleVariableType { name },
     })
 }
 
-/// What the kernel has for a key, where its id was found.
+/// The id of a key whose type in the kernel was found. `None` for a weak extern with another type there.
 fn compared_outcome(
     alloc: Global,
     local: &Btf,
@@ -77,30 +77,30 @@ fn compared_outcome(
     }
 }
 
-/// What the kernel has for a key, where ids are given by name.
+/// The kernel's id of a key, by the ids of names. `None` for a weak extern that the kernel lacks.
 fn outcome_by_key(
     alloc: Global,
     local: &Btf,
     kernel: &Btf,
-    ids: &Named<'_, Ids>,
+    ids: &NameTable<'_, NameIds>,
     is_weak: bool,
     lookup_key: &LookupKey<'_>,
 ) -> Result<Option<u32>, KsymsError>
-    ensures { Gives is_ksyms_memory result (at_found local.now kernel.now is_weak lookup_key.now (id_at (value_named ids.now) lookup_key.now.sort lookup_key.now.name)) }
+    ensures { Gives is_ksyms_memory result (at_found local.now kernel.now is_weak lookup_key.now (id_at (value_named ids.now) lookup_key.now.kind lookup_key.now.name)) }
 {
-    match id_at(ids, lookup_key.sort, lookup_key.name) {
+    match id_at(ids, lookup_key.kind, lookup_key.name) {
         Some(id) => compared_outcome(alloc, local, kernel, is_weak, lookup_key, id),
         None if is_weak => Ok(None),
         None => Err(not_found(alloc, lookup_key)?),
     }
 }
 
-/// What the kernel has for an extern: an id, or none for a weak one.
+/// The kernel's id of an extern. `None` for a weak one that the kernel lacks.
 fn outcome(
     alloc: Global,
     local: &Btf,
     kernel: Option<&Btf>,
-    ids: &Named<'_, Ids>,
+    ids: &NameTable<'_, NameIds>,
     entry: &NamedExtern<'_>,
 ) -> Result<Option<u32>, KsymsError>
     ensures { Gives is_ksyms_memory result (outcome_by (id_at (value_named ids.now)) local.now (option_copied kernel.entry) entry.now) }
@@ -129,7 +129,7 @@ fn typed_entry<'a>(
     alloc: Global,
     local: &Btf,
     kernel: Option<&Btf>,
-    ids: &Named<'_, Ids>,
+    ids: &NameTable<'_, NameIds>,
     entry: &NamedExtern<'a>,
 ) -> Result<NamedExtern<'a>, KsymsError>
     ensures stands { IfOk result (λ e. e ≡ (entry.now.0, typed_as (id_at (value_named ids.now)) local.now (option_copied kernel.entry) entry.now)) }
@@ -158,7 +158,7 @@ fn typed_entries<'a>(
     alloc: Global,
     local: &Btf,
     kernel: Option<&Btf>,
-    ids: &Named<'_, Ids>,
+    ids: &NameTable<'_, NameIds>,
     all: &[NamedExtern<'a>],
 ) -> Result<Vec<NamedExtern<'a>>, KsymsError>
     ensures stands { IfOk result (λ new. new.items ≡ renewed (typed_as (id_at (value_named ids.now)) local.now (option_copied kernel.entry)) all.now) }
@@ -215,7 +215,7 @@ pub fn with_types<'a>(
     ensures fault { Refuses is_ksyms_memory result (first_some (typed_refused (kernel_ids_of (option_copied kernel.entry)) local.now (option_copied kernel.entry)) all.now) }
 {
     let Some(types) = kernel else {
-        let ids = Named::new(alloc, &[], Ids::NONE)?;
+        let ids = NameTable::new(alloc, &[], NameIds::NONE)?;
         return typed_entries(alloc, local, None, &ids, all);
     };
     let names = lookup_names(alloc, local, all)?;
@@ -224,7 +224,7 @@ pub fn with_types<'a>(
 }
 
 /// The address of a name, where there is one.
-fn known_at(addresses: &Named<'_, Option<u64>>, name: &str) -> Option<u64>
+fn known_at(addresses: &NameTable<'_, Option<u64>>, name: &str) -> Option<u64>
     ensures { result ≡ known_at (value_named addresses.now) name.now }
 {
     addresses.get(name)?
@@ -233,7 +233,7 @@ fn known_at(addresses: &Named<'_, Option<u64>>, name: &str) -> Option<u64>
 /// An extern with its address, where it has no type.
 fn typeless_entry<'a>(
     alloc: Global,
-    addresses: &Named<'_, Option<u64>>,
+    addresses: &NameTable<'_, Option<u64>>,
     entry: &NamedExtern<'a>,
 ) -> Result<NamedExtern<'a>, KsymsError>
     ensures stands { IfOk result (λ e. e ≡ (entry.now.0, typeless_as (known_at (value_named addresses.now)) entry.now)) }
@@ -264,7 +264,7 @@ fn typeless_entry<'a>(
 /// All externs, those without a type with their addresses.
 pub fn with_addresses<'a>(
     alloc: Global,
-    addresses: &Named<'_, Option<u64>>,
+    addresses: &NameTable<'_, Option<u64>>,
     all: &[NamedExtern<'a>],
 ) -> Result<Vec<NamedExtern<'a>>, KsymsError>
     ensures stands { IfOk result (λ new. new.items ≡ renewed (typeless_as (known_at (value_named addresses.now))) all.now) }

@@ -1,30 +1,30 @@
-//! What an extern with a type is looked up by, and the ids of a kernel's functions and variables, by name.
+//! The keys that externs with a type are looked up by, and the ids of a kernel's functions and variables, by name.
 
 ghost use Rattle.std.specs.Prelude.{◌≡◌, ℕ, List, IfOk, IfErr, OnOk, option_map};
 ghost use Rattle.ebpf_base.specs.Maps.{lent_bytes};
 ghost use Rattle.ebpf_btf.specs.EssentialNames.{essential_name};
 ghost use Rattle.ebpf_ksyms.specs.Externs.{lookup_key_of};
-ghost use Rattle.ebpf_ksyms.specs.PrivateContracts.{ids_in, id_at, with_lower_id, value_named, only_at, sort_of_kind, with_head_ids};
+ghost use Rattle.ebpf_ksyms.specs.PrivateContracts.{ids_in, id_at, with_lower_id, value_named, only_at, extern_kind_of, with_head_ids};
 ghost use Rattle.ebpf_ksyms.specs.declared.error.KsymsError.TheVariants.{OutOfMemory};
 
 use crate::error::KsymsError;
-use crate::named::Named;
+use crate::named::NameTable;
 use ebpf_btf::{Btf, BtfError, BtfKind, BtfType, TypeHead};
 use std::alloc::Global;
 use std::marker::Model;
 
-/// Whether a function or a variable is looked up.
+/// The kind of an extern with a type.
 #[derive(Clone, Copy)]
-pub enum Sort {
+pub enum ExternKind {
     Function,
     Variable,
 }
 
-/// What an extern is looked up by.
+/// The key that an extern is looked up by.
 #[derive(Drop)]
 pub struct LookupKey<'a> {
-    /// Whether it is a function or a variable.
-    pub sort: Sort,
+    /// The extern's kind.
+    pub kind: ExternKind,
     /// The name that the kernel has for it.
     pub name: &'a str,
     /// The type id of the local FUNC or VAR.
@@ -36,10 +36,27 @@ impl<'a> Model for LookupKey<'a> {
 
     ghost Value = { LookupKeyValue };
 
-    ghost view = { λ s. record { sort = s.sort; name = s.name.now; type_id = s.type_id } };
+    ghost view = { λ s. record { kind = s.kind; name = s.name.now; type_id = s.type_id } };
 }
 
-/// What stands before the first three underscores in a row, or the whole name.
+/// The lowest ids of the types with a name.
+#[derive(Clone, Copy)]
+pub struct NameIds {
+    /// The id of a FUNC.
+    pub function: Option<u32>,
+    /// The id of a VAR.
+    pub variable: Option<u32>,
+}
+
+impl NameIds {
+    /// No id.
+    pub const NONE: NameIds = NameIds {
+        function: None,
+        variable: None,
+    };
+}
+
+/// The name before its first three underscores in a row, or the whole name.
 fn without_flavor(name: &str) -> &str
     ensures { result.now ≡ essential_name name.now }
 {
@@ -49,19 +66,19 @@ fn without_flavor(name: &str) -> &str
     }
 }
 
-/// What an extern with a name and a type is looked up by; none where it is neither a FUNC nor a VAR.
+/// The key that an extern with a name and a type is looked up by. `None` where the type is neither a FUNC nor a VAR.
 #[tactic(auto, unfolding(crate::specs::Externs::lookup_key_of))]
 pub fn lookup_key_of<'a>(name: &'a str, ty: &BtfType<'_>) -> Option<LookupKey<'a>>
     ensures { result ≡ lookup_key_of name.now ty.now }
 {
     match ty {
         BtfType::Func { btf_type, .. } => Some(LookupKey {
-            sort: Sort::Function,
+            kind: ExternKind::Function,
             name: without_flavor(name),
             type_id: *btf_type,
         }),
         BtfType::Var { btf_type, .. } => Some(LookupKey {
-            sort: Sort::Variable,
+            kind: ExternKind::Variable,
             name,
             type_id: *btf_type,
         }),
@@ -69,56 +86,39 @@ pub fn lookup_key_of<'a>(name: &'a str, ty: &BtfType<'_>) -> Option<LookupKey<'a
     }
 }
 
-/// The lowest ids that have a name.
-#[derive(Clone, Copy)]
-pub struct Ids {
-    /// That of a FUNC.
-    pub function: Option<u32>,
-    /// That of a VAR.
-    pub variable: Option<u32>,
-}
-
-impl Ids {
-    /// No id.
-    pub const NONE: Ids = Ids {
-        function: None,
-        variable: None,
-    };
-}
-
-/// The id of a sort at a name.
-pub fn id_at(ids: &Named<'_, Ids>, sort: Sort, name: &str) -> Option<u32>
-    ensures { result ≡ id_at (value_named ids.now) sort name.now }
+/// The id of the function or the variable with a name.
+pub fn id_at(ids: &NameTable<'_, NameIds>, kind: ExternKind, name: &str) -> Option<u32>
+    ensures { result ≡ id_at (value_named ids.now) kind name.now }
 {
     let found = ids.get(name)?;
-    match sort {
-        Sort::Function => found.function,
-        Sort::Variable => found.variable,
+    match kind {
+        ExternKind::Function => found.function,
+        ExternKind::Variable => found.variable,
     }
 }
 
-/// Whether types of a kind are functions or variables.
-#[tactic(auto, unfolding(crate::specs::PrivateContracts::sort_of_kind))]
-fn sort_of_kind(kind: BtfKind) -> Option<Sort>
-    ensures { result ≡ sort_of_kind kind }
+/// The extern kind of types of a kind. `None` where these are neither functions nor variables.
+#[tactic(auto, unfolding(crate::specs::PrivateContracts::extern_kind_of))]
+fn extern_kind_of(kind: BtfKind) -> Option<ExternKind>
+    ensures { result ≡ extern_kind_of kind }
 {
     match kind {
-        BtfKind::Func => Some(Sort::Function),
-        BtfKind::Var => Some(Sort::Variable),
+        BtfKind::Func => Some(ExternKind::Function),
+        BtfKind::Var => Some(ExternKind::Variable),
         _ => None,
     }
 }
 
-/// The ids with one more, which does not count where a lower one is there.
-fn with_lower_id(ids: Ids, sort: Sort, id: u32) -> Ids
-    ensures { result ≡ with_lower_id ids sort id }
+/// The ids with one more, which doesn't count where a lower one is there.
+fn with_lower_id(ids: NameIds, kind: ExternKind, id: u32) -> NameIds
+    ensures { result ≡ with_lower_id ids kind id }
 {
-    match sort {
-        Sort::Function => Ids {
+    match kind {
+        ExternKind::Function => NameIds {
             function: ids.function.or(Some(id)),
             variable: ids.variable,
         },
-        Sort::Variable => Ids {
+        ExternKind::Variable => NameIds {
             function: ids.function,
             variable: ids.variable.or(Some(id)),
         },
@@ -128,14 +128,14 @@ fn with_lower_id(ids: Ids, sort: Sort, id: u32) -> Ids
 /// Takes one more type of the kernel into account, whose id is above those before.
 fn add_kernel_type(
     kernel: &Btf,
-    ids: &mut Named<'_, Ids>,
+    ids: &mut NameTable<'_, NameIds>,
     id: u32,
     head: TypeHead,
 ) -> Result<(), KsymsError>
     ensures ok { OnOk result ((q : List ℕ) → value_named ids.new q ≡ option_map (with_head_ids kernel.now q id head.kind head.name_offset) (value_named ids.old q)) }
     ensures memory { IfErr result (λ e. e ≡ OutOfMemory) }
 {
-    let Some(sort) = sort_of_kind(head.kind) else {
+    let Some(kind) = extern_kind_of(head.kind) else {
         return Ok(());
     };
     let name = match kernel.string_at(head.name_offset) {
@@ -144,7 +144,7 @@ fn add_kernel_type(
         Err(_) => return Ok(()),
     };
     if let Some(found) = ids.get(name.as_str()) {
-        ids.replace(name.as_str(), with_lower_id(found, sort, id));
+        ids.replace(name.as_str(), with_lower_id(found, kind, id));
     }
     Ok(())
 }
@@ -154,11 +154,11 @@ pub fn ids_in<'a>(
     alloc: Global,
     kernel: &Btf,
     names: &[&'a str],
-) -> Result<Named<'a, Ids>, KsymsError>
+) -> Result<NameTable<'a, NameIds>, KsymsError>
     ensures ok { IfOk result (λ ids. (q : List ℕ) → value_named ids q ≡ only_at (lent_bytes names.now) (ids_in kernel.now) q) }
     ensures memory { IfErr result (λ e. e ≡ OutOfMemory) }
 {
-    let mut ids = Named::new(alloc, names, Ids::NONE)?;
+    let mut ids = NameTable::new(alloc, names, NameIds::NONE)?;
     if names.is_empty() {
         return Ok(ids);
     }

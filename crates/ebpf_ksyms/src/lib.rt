@@ -1,4 +1,4 @@
-//! The externs of an eBPF object, found in a kernel: by its types, and by the addresses that it tells.
+//! The externs of an eBPF object, found in a kernel: by its types, and by the addresses in its kallsyms.
 #![tactic(auto)]
 
 mod error;

@@ -14,29 +14,11 @@ ghost use Rattle.ebpf_ksyms.specs.Sources.{GivesLine, IsItem, lines_left};
 ghost use Rattle.ebpf_ksyms.specs.declared.error.KsymsError.TheVariants.{KallsymsParseError};
 
 use crate::error::KsymsError;
-use crate::named::Named;
+use crate::named::NameTable;
 use ebpf_base::Text;
 use std::alloc::{AllocError, Global};
 use std::marker::Model;
 use std::{io, str};
-
-/// The first and the third word of a line, where it has three: the word that states an address, and a name.
-pub fn address_and_name(line: &str) -> Option<(&str, &str)>
-    ensures { option_map (λ pair. (pair.0.now, pair.1.now)) result ≡ address_and_name line.now }
-{
-    let mut words = line.split_ascii_whitespace();
-    let address = words.next()?;
-    words.next()?;
-    let name = words.next()?;
-    Some((address, name))
-}
-
-/// The address that a word states.
-pub fn stated_address(word: &str) -> Option<u64>
-    ensures { result ≡ stated_address word.now }
-{
-    u64::from_str_radix(word, 16).ok()
-}
 
 /// The lines of a text in memory, as `BufRead::lines` gives those of a reader: each ends before a byte 0x0a, which it is
 /// without, as it is without a byte 0x0d right before that; what stands behind the last 0x0a is a line where it is not
@@ -54,6 +36,24 @@ impl<'a> Model for TextLines<'a> {
     ghost Value = { Unread };
 
     ghost view = { λ s. record { text = s.rest.now; error = s.not_utf8 } };
+}
+
+/// The first and the third word of a line, where it has three: the word that states an address, and a name.
+pub fn address_and_name(line: &str) -> Option<(&str, &str)>
+    ensures { option_map (λ pair. (pair.0.now, pair.1.now)) result ≡ address_and_name line.now }
+{
+    let mut words = line.split_ascii_whitespace();
+    let address = words.next()?;
+    words.next()?;
+    let name = words.next()?;
+    Some((address, name))
+}
+
+/// The address that a word states.
+pub fn stated_address(word: &str) -> Option<u64>
+    ensures { result ≡ stated_address word.now }
+{
+    u64::from_str_radix(word, 16).ok()
 }
 
 /// The place of the first byte 0x0a.
@@ -126,7 +126,7 @@ impl<'a> Iterator for TextLines<'a> {
     }
 }
 
-/// Whether an error is want of memory.
+/// Whether an error is a failed allocation.
 fn is_memory_kind(kind: io::ErrorKind) -> bool
     ensures { result ≡ is_memory_kind kind }
 {
@@ -183,7 +183,7 @@ fn new_address(
 /// Takes a line into account.
 fn add_line(
     alloc: Global,
-    addresses: &mut Named<'_, Option<u64>>,
+    addresses: &mut NameTable<'_, Option<u64>>,
     line: &str,
 ) -> Result<(), KsymsError>
     ensures ok { OnOk result ((q : List ℕ) → value_named addresses.new q ≡ with_line (value_named addresses.old) line.now q) }
@@ -203,7 +203,7 @@ fn add_line(
 /// Takes an item into account: a line, or the error in its place.
 fn add_item(
     alloc: Global,
-    addresses: &mut Named<'_, Option<u64>>,
+    addresses: &mut NameTable<'_, Option<u64>>,
     item: io::Result<String>,
 ) -> Result<(), KsymsError>
     ensures ok { OnOk result ((q : List ℕ) → value_named addresses.new q ≡ with_read_line (value_named addresses.old) (line_of_item item) q) }
@@ -221,13 +221,13 @@ pub fn addresses_in<'a, I: Iterator<Item = io::Result<String>> + Drop>(
     alloc: Global,
     names: &[&'a str],
     lines: I,
-) -> Result<Named<'a, Option<u64>>, KsymsError>
+) -> Result<NameTable<'a, Option<u64>>, KsymsError>
     requires can { I.can_next lines }
     requires ends { IsFinite (I.remaining lines) }
     ensures ok { IfOk result (λ known. AreRead I.next_gives lines (lent_bytes names.now) (value_named known)) }
     ensures fault { IfErr result (λ e. MatchBool (is_ksyms_memory e) ⊤ (StopsAt I.next_gives lines (lent_bytes names.now) e)) }
 {
-    let mut addresses = Named::new(alloc, names, None)?;
+    let mut addresses = NameTable::new(alloc, names, None)?;
     if names.is_empty() {
         return Ok(addresses);
     }

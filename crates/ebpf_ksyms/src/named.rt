@@ -16,6 +16,32 @@ use std::alloc::{AllocError, Global};
 use std::collections::BTreeMap;
 use std::marker::Model;
 
+/// Values by name, in the order of the names, so that no names make a look-up slow. Their marks tell most other names from
+/// them at once.
+#[derive(Drop)]
+pub struct NameTable<'a, V> {
+    marks: Vec<bool>,
+    values: BTreeMap<&'a str, V>,
+}
+
+/// An extern and its name.
+#[derive(Drop)]
+pub struct NamedExtern<'a> {
+    /// The name.
+    pub name: &'a str,
+    /// The extern.
+    pub desc: ExternDesc,
+}
+
+impl<'a> Model for NamedExtern<'a> {
+    ghost use Rattle.std.specs.Prelude.{ℕ, List};
+    ghost use Rattle.ebpf_model.specs.declared.symbol.ExternDesc.{ExternDesc};
+
+    ghost Value = { List ℕ × ExternDesc };
+
+    ghost view = { λ e. (e.name.now, e.desc) };
+}
+
 /// Marks of some names.
 fn marks_of(alloc: Global, names: &[&str]) -> Result<Vec<bool>, AllocError>
     ensures { IfOk result (λ marks. All (λ name. is_hash_marked marks.items (name_hash name.now) ≡ true) names.now) }
@@ -30,17 +56,9 @@ fn marks_of(alloc: Global, names: &[&str]) -> Result<Vec<bool>, AllocError>
     Ok(marks)
 }
 
-/// Values by name, in the order of the names, so that no names make a look-up slow. Their marks tell most other names from
-/// them at once.
-#[derive(Drop)]
-pub struct Named<'a, V> {
-    marks: Vec<bool>,
-    values: BTreeMap<&'a str, V>,
-}
-
-impl<'a, V: Copy + Drop> Named<'a, V> {
-    /// One value at each of some names.
-    pub fn new(alloc: Global, names: &[&'a str], value: V) -> Result<Named<'a, V>, AllocError>
+impl<'a, V: Copy + Drop> NameTable<'a, V> {
+    /// A table of some names, with one value for all.
+    pub fn new(alloc: Global, names: &[&'a str], value: V) -> Result<NameTable<'a, V>, AllocError>
         ensures { IfOk result (λ m. (q : List ℕ) → value_named m q ≡ only_at (lent_bytes names.now) (λ _. value) q) }
     {
         let marks = marks_of(alloc, names)?;
@@ -48,7 +66,7 @@ impl<'a, V: Copy + Drop> Named<'a, V> {
         for name in names {
             values.insert(*name, value)?;
         }
-        Ok(Named { marks, values })
+        Ok(NameTable { marks, values })
     }
 
     /// The value at a name.
@@ -72,33 +90,15 @@ impl<'a, V: Copy + Drop> Named<'a, V> {
     }
 }
 
-/// An extern and its name.
-#[derive(Drop)]
-pub struct NamedExtern<'a> {
-    /// The name.
-    pub name: &'a str,
-    /// The extern.
-    pub desc: ExternDesc,
-}
-
-impl<'a> Model for NamedExtern<'a> {
-    ghost use Rattle.std.specs.Prelude.{ℕ, List};
-    ghost use Rattle.ebpf_model.specs.declared.symbol.ExternDesc.{ExternDesc};
-
-    ghost Value = { List ℕ × ExternDesc };
-
-    ghost view = { λ e. (e.name.now, e.desc) };
-}
-
 impl<'a> NamedExtern<'a> {
-    /// Whether it is unresolved and has a type.
+    /// Whether the extern is unresolved and has a type.
     pub fn is_typed(&self) -> bool
         ensures { result ≡ is_typed self.now.1 }
     {
         !self.desc.is_resolved && self.desc.is_typed
     }
 
-    /// Whether it is unresolved and has no type.
+    /// Whether the extern is unresolved and has no type.
     pub fn is_typeless(&self) -> bool
         ensures { result ≡ is_typeless self.now.1 }
     {

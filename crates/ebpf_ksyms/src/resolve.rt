@@ -17,7 +17,7 @@ use ebpf_model::ExternDesc;
 use std::alloc::Global;
 use std::io::{self, BufRead};
 
-/// What has the lines of a kernel's symbols: each reader, and a text in memory.
+/// A source of the lines of a kernel's symbols: a reader, or a text in memory.
 pub trait SymbolSource: Drop {
     ghost source: { Self → Source };
 

@@ -9,8 +9,7 @@ use Rattle.std.specs.Ordering.{eq_by_cmp, is_eq}
 use Rattle.std.specs.declared.cmp.Ordering.TheVariants.{Less}
 use Rattle.ebpf_base.proofs.Maps.{key_exact, is_equal}
 use Rattle.ebpf_base.specs.Maps.{key_cmp, key_total}
-use Rattle.ebpf_object.specs.LinkedPrograms.{is_program_key, ProgramsAreLinked}
-use Rattle.ebpf_object.specs.PrivateContracts.{replaced}
+use Rattle.ebpf_object.specs.LinkedPrograms.{is_program_key, ProgramsAreLinked, replaced}
 use Rattle.ebpf_reloc.specs.Linking.{ProgramValue, IsLinked, AreLinked}
 use Rattle.ebpf_reloc.specs.SlotTargets.{LinkableValue}
 use Rattle.ebpf_model.specs.Symbols.{FunctionKey}

@@ -5,11 +5,11 @@ use Rattle.std.proofs.lemmas.List.{append_assoc, map-append}
 use Rattle.std.specs.FinMap.{FinMap, get}
 use Rattle.std.specs.List.{cons_option}
 use Rattle.ebpf_base.proofs.Lists.{rest_more}
-use Rattle.ebpf_base.specs.Maps.{text_cmp}
+use Rattle.ebpf_base.specs.Maps.{lent_bytes, text_cmp}
 use Rattle.ebpf_ksyms.specs.Sources.{Source}
 use Rattle.ebpf_object.specs.Objects.{object_as, parse_fault_as}
 use Rattle.ebpf_object.specs.Prepared.{Stages, before_calls, before_externs, before_resolution, before_maps, IsStageFault, IsFirstPrepareFault, IsPrepared, IsParsed, RefusesPreparing, NamesNothing, is_prepare_memory}
-use Rattle.ebpf_object.specs.Stages.{Wrapped, RelocatesTypes, TypesFault, fds_written, fds_fault, Resolves, ResolvingFault, with_externs_if, externs_fault_if, LinksPrograms, LinkingFault, Chosen, own_maps, descriptor_of}
+use Rattle.ebpf_object.specs.Stages.{Wrapped, RelocatesTypes, TypesFault, fds_written, fds_fault, Resolves, ResolvingFault, with_externs_if, externs_fault_if, LinksPrograms, LinkingFault, Chosen, own_maps, descriptor_of, following, numbered_descriptors}
 use Rattle.ebpf_object.specs.UnchangedFields.{KeepsOthers}
 use Rattle.ebpf_object.specs.declared.object.Object.{Object}
 use Rattle.ebpf_object.specs.declared.prepare_error.PrepareError.{PrepareError}
@@ -211,3 +211,24 @@ module _ (maps : FinMap text_cmp Map) where
       → own_maps maps (map descriptor_of (drop (i + 1) ds)) ≡ own_maps maps (map descriptor_of (drop i ds))
   none_listed ds i d below here absent =
       sym (ap listed (rest_more ds i d below here) ∙ ap (λ found. cons_option (option_map (λ f. (d.1, f)) found) (listed (drop (i + 1) ds))) absent)
+
+-- ---- names with descriptors that count on, one after the other
+
+pub one_with_descriptor : (before : List (Bor (List ℕ) × ℤ)) (lent : Bor (List ℕ)) (d e : ℤ) (names : List (List ℕ)) (i : ℕ) (name : List ℕ)
+    → i < length names → name ≡ slice_index_or names i name → lent.now ≡ name → e ≡ following d
+    → map descriptor_of (before ++ (lent, e) ∷ []) ++ numbered_descriptors e (drop (i + 1) names) ≡ map descriptor_of before ++ numbered_descriptors d (drop i names)
+one_with_descriptor before lent d e names i name below here same is =
+    ap (λ front. front ++ numbered_descriptors e (drop (i + 1) names)) (map-append descriptor_of before ((lent, e) ∷ []))
+    ∙ append_assoc (map descriptor_of before) ((lent.now, e) ∷ []) (numbered_descriptors e (drop (i + 1) names))
+    ∙ ap (λ n. map descriptor_of before ++ (n, e) ∷ numbered_descriptors e (drop (i + 1) names)) same
+    ∙ ap (λ n. map descriptor_of before ++ (name, n) ∷ numbered_descriptors n (drop (i + 1) names)) is
+    ∙ ap (λ rest. map descriptor_of before ++ numbered_descriptors d rest) (sym (rest_more names i name below here))
+
+-- one more name is copied
+pub one_copied : (before : List (List ℕ)) (copy : List ℕ) (names : List (Bor (List ℕ))) (i : ℕ) (name : Bor (List ℕ))
+    → i < length names → name ≡ slice_index_or names i name → copy ≡ name.now
+    → (before ++ copy ∷ []) ++ lent_bytes (drop (i + 1) names) ≡ before ++ lent_bytes (drop i names)
+one_copied before copy names i name below here same =
+    append_assoc before (copy ∷ []) (lent_bytes (drop (i + 1) names))
+    ∙ ap (λ n. before ++ n ∷ lent_bytes (drop (i + 1) names)) same
+    ∙ ap (λ rest. before ++ lent_bytes rest) (sym (rest_more names i name below here))

@@ -1,5 +1,5 @@
 -- Linking the programs of an object with the functions that they reach.
-use Rattle.std.specs.Prelude.{◌≡◌, ℕ, Bool, List, map, Some, MatchBool, slice_get, Option, None, Result, Ok, Err, ⊤, option_map, option_and_then}
+use Rattle.std.specs.Prelude.{◌≡◌, ℕ, Bool, List, map, Some, MatchBool, slice_get, Option, None, Result, Ok, Err, ⊤, option_and_then}
 use Rattle.std.specs.FinMap.{FinMap, get, entries}
 use Rattle.std.specs.List.{list_any}
 use Rattle.std.specs.Ordering.{eq_by_cmp}
@@ -10,7 +10,6 @@ use Rattle.ebpf_model.specs.declared.error.EbpfRelocationError.{EbpfRelocationEr
 use Rattle.ebpf_model.specs.declared.function.Function.{Function}
 use Rattle.ebpf_model.specs.declared.function.Program.{Program}
 use Rattle.ebpf_object.specs.declared.object.Object.{Object}
-use Rattle.ebpf_parts.specs.declared.insn.bpf_insn.{bpf_insn}
 use Rattle.ebpf_reloc.specs.Laws.{MatchesLinked}
 use Rattle.ebpf_reloc.specs.Linking.{ProgramValue, key_of, IsLinked, IsLinkMapAt, IsProgramRefusal}
 use Rattle.ebpf_reloc.specs.SlotTargets.{LinkableValue}
@@ -44,6 +43,12 @@ ProgramsAreLinked parts programs after =
     ((g : Function) × (get after key ≡ Some g) × IsLinked parts key g)
     (get after key ≡ get parts.functions key)
 
+-- what stands at a key where a function takes the place of the one there
+abbrev pub replaced : Option Function → Option Function → Option Function
+replaced None g = None
+replaced (Some f) None = Some f
+replaced (Some f) (Some g) = Some g
+
 -- linking the programs leaves one map of functions
 abbrev pub OneLinking : Type 0
 OneLinking = (parts : LinkableValue) (programs : List ProgramValue) (after other : FinMap key_cmp Function)
@@ -65,12 +70,8 @@ MapsProgram parts program (Ok (Some m)) = IsLinkMapAt parts (key_of program) m
 MapsProgram parts program (Ok None) = ⊥
 MapsProgram parts program (Err e) = MatchBool (is_memory_at e) ⊤ (IsProgramRefusal parts program e)
 
--- ---- the function and the slots of a program, by the program's name
+-- ---- the function of a program, by the program's name
 
 -- the function at the key of the program with a name
 abbrev pub function_of_named_program : Object → List ℕ → Option Function
 function_of_named_program o name = option_and_then (λ p. get o.functions (p.section_index, p.address)) (get o.programs name)
-
--- its slots
-abbrev pub program_slots : Object → List ℕ → Option (List bpf_insn)
-program_slots o name = option_map (λ f. f.instructions) (function_of_named_program o name)

@@ -4,10 +4,9 @@ use Rattle.std.specs.FinMap.{FinMap, get}
 use Rattle.ebpf_base.specs.Maps.{text_cmp}
 use Rattle.ebpf_model.specs.declared.function.Program.{Program}
 use Rattle.ebpf_reloc.specs.Linking.{ProgramValue}
-use Rattle.ebpf_model.specs.declared.function.Function.{Function}
 use Rattle.ebpf_object.specs.LinkedPrograms.{program_value}
 use Rattle.ebpf_object.specs.Patches.{PatchValue}
-use Rattle.ebpf_object.specs.declared.patch.Patch.{Patch}
+use Rattle.ebpf_object.specs.declared.set_globals.write.Patch.{Patch}
 
 abbrev pub program_if : List ℕ → Option Program → List ProgramValue
 program_if name None = []
@@ -16,12 +15,6 @@ program_if name (Some p) = program_value name p ∷ []
 -- the program with a name, where there is one
 abbrev pub program_with : FinMap text_cmp Program → List ℕ → List ProgramValue
 program_with programs name = program_if name (get programs name)
-
--- what stands at a key where a function takes the place of the one there
-abbrev pub replaced : Option Function → Option Function → Option Function
-replaced None g = None
-replaced (Some f) None = Some f
-replaced (Some f) (Some g) = Some g
 
 abbrev pub value_of : Patch → PatchValue
 value_of p = record { map_name = p.map_name; offset = p.offset; bytes = p.bytes.now }

@@ -1,7 +1,8 @@
 -- What is chosen of the passes over an object.
-use Rattle.std.specs.Prelude.{ℕ, ℤ, Bool, List, map, Option, option_map, is_some, ◌≡◌, true, false, Some, None, Err}
+use Rattle.std.specs.Prelude.{ℕ, ℤ, pos, ◌+ℤ◌, Bool, List, [], ◌∷◌, map, Option, option_map, is_some, ◌≡◌, true, false, Some, None, Err}
 use Rattle.std.specs.Option.{option_copied}
 use Rattle.std.specs.FinMap.{FinMap, get}
+use Rattle.std.specs.Int.{w32, saturate_signed}
 use Rattle.std.specs.List.{filter_map}
 use denote.Ref.{Bor}
 use Rattle.ebpf_base.specs.Maps.{text_cmp}
@@ -30,6 +31,15 @@ descriptor_of lent = (lent.0.now, lent.1)
 
 abbrev pub descriptors_of : Option (Bor (List (Bor (List ℕ) × ℤ))) → Option (List Descriptor)
 descriptors_of lent = option_map (λ ds. map descriptor_of ds.now) lent
+
+-- the number behind one, or the greatest that 32 signed bits hold
+abbrev pub following : ℤ → ℤ
+following n = saturate_signed w32 (n +ℤ pos 1)
+
+-- names with descriptors, from the number behind one on
+abbrev pub numbered_descriptors : ℤ → List (List ℕ) → List Descriptor
+numbered_descriptors n [] = []
+numbered_descriptors n (name ∷ names) = (name, following n) ∷ numbered_descriptors (following n) names
 
 -- The types to relocate to, the descriptors of maps, and the kernel's types to resolve externs with, if it has any: each
 -- where its pass is chosen. The last two say whether externs are written, and whether programs are linked.

@@ -10,7 +10,16 @@ use ebpf_parsing::ObjectTables;
 use ebpf_parts::Relocation;
 use std::alloc::AllocError;
 
-/// A copy of what is kept by names.
+/// The fields of an object that its programs and functions share.
+#[derive(Drop)]
+struct Carried {
+    license: Items<u8>,
+    kernel_version: Option<u32>,
+    btf: Option<Btf>,
+    btf_ext: Option<BtfExt>,
+}
+
+/// A copy of a map by names.
 #[tactic(auto, using(ebpf_base::proofs::SameMaps::exact_copy))]
 pub fn copy_names<V: Clone>(values: &ByName<V>) -> Result<ByName<V>, AllocError>
     requires { (x y : V) → V.is_clone x y → y ≡ x }
@@ -19,7 +28,7 @@ pub fn copy_names<V: Clone>(values: &ByName<V>) -> Result<ByName<V>, AllocError>
     values.clone()
 }
 
-/// A copy of what is kept by sections and addresses.
+/// A copy of a map by sections and addresses.
 #[tactic(auto, using(ebpf_base::proofs::SameMaps::exact_copy))]
 pub fn copy_keys<V: Clone>(values: &ByKey<V>) -> Result<ByKey<V>, AllocError>
     requires { (x y : V) → V.is_clone x y → y ≡ x }
@@ -28,7 +37,7 @@ pub fn copy_keys<V: Clone>(values: &ByKey<V>) -> Result<ByKey<V>, AllocError>
     values.clone()
 }
 
-/// A copy of what is kept by numbers.
+/// A copy of a map by numbers.
 #[tactic(auto, using(ebpf_base::proofs::SameMaps::exact_copy))]
 fn copy_indices<V: Clone>(values: &ByIndex<V>) -> Result<ByIndex<V>, AllocError>
     requires { (x y : V) → V.is_clone x y → y ≡ x }
@@ -47,7 +56,7 @@ fn copy_relocations(
     relocations.clone()
 }
 
-/// A copy of type information that there may be.
+/// A copy of the type information, where there is some.
 fn copy_btf(btf: &Option<Btf>) -> Result<Option<Btf>, AllocError>
     ensures { IfOk result (λ copy. copy ≡ btf.now) }
 {
@@ -57,7 +66,7 @@ fn copy_btf(btf: &Option<Btf>) -> Result<Option<Btf>, AllocError>
     }
 }
 
-/// A copy of the records of `.BTF.ext`, where there are some.
+/// A copy of the contents of `.BTF.ext`, where there are some.
 fn copy_ext(ext: &Option<BtfExt>) -> Result<Option<BtfExt>, AllocError>
     ensures { IfOk result (λ copy. copy ≡ ext.now) }
 {
@@ -67,16 +76,7 @@ fn copy_ext(ext: &Option<BtfExt>) -> Result<Option<BtfExt>, AllocError>
     }
 }
 
-/// What programs and functions carry of their object.
-#[derive(Drop)]
-struct Carried {
-    license: Items<u8>,
-    kernel_version: Option<u32>,
-    btf: Option<Btf>,
-    btf_ext: Option<BtfExt>,
-}
-
-/// A copy of what programs and functions carry of their object.
+/// A copy of the fields that an object's programs and functions share.
 fn copy_carried(object: &Object) -> Result<Carried, AllocError>
     ensures { IfOk result (λ copy. copy ≡ record { license = object.now.license; kernel_version = object.now.kernel_version; btf = object.now.btf; btf_ext = object.now.btf_ext }) }
 {
@@ -88,7 +88,7 @@ fn copy_carried(object: &Object) -> Result<Carried, AllocError>
     })
 }
 
-/// A copy of what the sections gave.
+/// A copy of the tables that sections give.
 fn copy_object_tables(object: &Object) -> Result<ObjectTables, AllocError>
     ensures { IfOk result (λ copy. copy ≡ record { maps = object.now.maps; programs = object.now.programs; functions = object.now.functions; relocations = object.now.relocations; section_infos = object.now.section_infos }) }
 {

@@ -1,10 +1,9 @@
-//! Errors beside the object that they are about.
+//! Errors with the object that they are about.
 
 ghost use Rattle.std.specs.Prelude.{◌≡◌};
 
 use crate::object::Object;
 use crate::prepare_error::PrepareError;
-use crate::queries::SectionWords;
 use ebpf_base::Text;
 use ebpf_ksyms::KsymsError;
 use ebpf_model::{EbpfRelocationError, RelocationError};
@@ -20,6 +19,23 @@ pub struct Explained<'a> {
     pub object: &'a Object,
     /// The error.
     pub error: &'a PrepareError,
+}
+
+/// A section, as errors speak of it: `section 5 ".bss"`, its index as `readelf -S` has it, and its name where that is
+/// known.
+#[derive(Clone, Copy)]
+pub struct SectionWords<'a> {
+    pub number: usize,
+    pub name: Option<&'a str>,
+}
+
+impl fmt::Display for SectionWords<'_> {
+    fn fmt<W: fmt::Write>(&self, f: &mut fmt::Formatter<W>) -> fmt::Result {
+        match self.name {
+            Some(name) => write!(f, "section {} {name:?}", self.number),
+            None => write!(f, "section {}", self.number),
+        }
+    }
 }
 
 impl Object {
@@ -158,7 +174,7 @@ impl<'a> Explained<'a> {
         }
     }
 
-    /// That a map has no descriptor, or that no map is there.
+    /// Writes that a map has no descriptor, or that no map is there.
     fn write_map<W: fmt::Write>(
         &self,
         section_index: usize,
@@ -180,7 +196,7 @@ impl<'a> Explained<'a> {
         }
     }
 
-    /// That a reference leads to a symbol which names no function.
+    /// Writes that a reference leads to a symbol that names no function.
     fn write_target<W: fmt::Write>(&self, index: usize, f: &mut fmt::Formatter<W>) -> fmt::Result {
         match self.object.symbol_table.get(index) {
             Some(symbol) => {

@@ -2,7 +2,8 @@
 
 ghost use Rattle.std.specs.Prelude.{◌≡◌};
 
-use crate::queries::{SectionWords, section_name};
+use crate::explained::SectionWords;
+use crate::queries::section_name;
 use crate::refused_places::{section_without_symbol, symbol_without_name, uneven_function};
 use ebpf_btf::BtfError;
 use ebpf_elf::ElfFile;
@@ -44,7 +45,7 @@ fn section_of(file: &[u8], number: usize) -> SectionWords<'_> {
 }
 
 impl ExplainedParse<'_> {
-    /// That a relocation names no symbol, and of which section it is.
+    /// Writes that a relocation names no symbol, and the relocation's section.
     fn write_relocation<W: fmt::Write>(&self, f: &mut fmt::Formatter<W>) -> fmt::Result {
         match section_without_symbol(self.file) {
             Some(number) => {
@@ -55,7 +56,7 @@ impl ExplainedParse<'_> {
         }
     }
 
-    /// That a function is no whole slots, and which one.
+    /// Writes that a function is no whole slots, and the function's name.
     fn write_function<W: fmt::Write>(&self, f: &mut fmt::Formatter<W>) -> fmt::Result {
         let Some((number, symbol)) = uneven_function(self.file) else {
             return write!(f, "{}", self.error);
@@ -72,7 +73,8 @@ impl ExplainedParse<'_> {
         )
     }
 
-    /// That a symbol's name can't be read, and the symbol's number. Where all can, an extern or a map has no symbol.
+    /// Writes that a symbol's name can't be read, and the symbol's number. Where all names can be read, writes that an extern
+    /// or a map has no symbol.
     fn write_symbol<W: fmt::Write>(&self, f: &mut fmt::Formatter<W>) -> fmt::Result {
         match symbol_without_name(self.file) {
             Some(number) => write!(f, "the name of symbol {number} can't be read"),

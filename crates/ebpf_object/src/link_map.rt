@@ -1,4 +1,4 @@
-//! What the linked programs of an object are made of.
+//! The link maps of an object's programs.
 
 ghost use Rattle.std.specs.Prelude.{◌≡◌, true, IfOk, IfErr, ⊤, MatchBool, MatchOption, Ok, None};
 ghost use Rattle.std.specs.FinMap as map;
@@ -18,18 +18,18 @@ use std::collections::HashSet;
 pub struct ProgramMaps<'a> {
     /// The object.
     pub object: &'a Object,
-    /// Its functions, with their calls.
+    /// The object's functions, with their calls.
     pub functions: NumberedFunctions<'a>,
 }
 
 impl ProgramMaps<'_> {
-    /// What a program with this name is made of once it is linked.
+    /// The link map of a program with this name.
     fn map_of(&self, name: &str, program: &Program) -> Result<LinkMap, EbpfRelocationError>
         ensures mapped { IfOk result (λ m. IsLinkMapAt (read self.now.functions.parts) (key_of (program_value name.now program.now)) m) }
         ensures fault { IfErr result (λ e. MatchBool (is_memory_at e) ⊤ (IsProgramRefusal (read self.now.functions.parts) (program_value name.now program.now) e)) }
         ensures memory { IfErr result NamesNoneForMemory }
     {
-        let alloc = *self.object.license.as_vec().allocator();
+        let alloc = self.object.allocator();
         let key = ProgramKey {
             name,
             section_index: program.section_index,
@@ -38,7 +38,7 @@ impl ProgramMaps<'_> {
         self.functions.program_link_map(alloc, &key)
     }
 
-    /// What the program with this name is made of, as `Object::link_map` gives it.
+    /// The link map of the program with this name, as `Object::link_map` gives it.
     ///
     /// # Errors
     ///
@@ -73,7 +73,7 @@ impl Object {
         ensures memory { IfErr result (λ e. is_memory_at e ≡ true) }
         ensures unnamed { IfErr result NamesNoneForMemory }
     {
-        let alloc = *self.license.as_vec().allocator();
+        let alloc = self.allocator();
         let parts = Linkable {
             functions: &self.functions,
             symbols: &self.symbol_table,

@@ -50,23 +50,28 @@ impl Object {
     ///
     /// # Errors
     ///
-    /// In this order: `ElfError` where the bytes are no file; of the first section `license` those of
-    /// `Section::from_elf`, `InvalidLicense` where it has fewer than two bytes, `MissingLicenseNullTerminator`
-    /// where none of them is zero, and `InvalidLicense` where another than the last is; of the first section
-    /// `version` those of `Section::from_elf`, and `InvalidKernelVersion` where it has not four bytes;
-    /// `BtfError(InvalidSymbolName)` at the first symbol whose name can't be read; of the first section `.BTF`
-    /// those of `Section::from_elf`, and `BtfError` with that of `Btf::parse`; where there is one, of the first
-    /// section `.BTF.ext` the same with that of `BtfExt::parse`, and `BtfError` with that of the externs; then the
-    /// first fault of the other sections by index, each of which has those of `Section::from_elf`. Of a Text section these are
-    /// `SymbolTableConflict` where two defined Text symbols have one address, and then at the functions from
-    /// offset 0 on `UnknownSymbol` where no such symbol has the address, `InvalidSymbol` where its size is 0 or
-    /// passes the data, and `InvalidProgramCode` where it is no whole slots; of a Program section
-    /// `InvalidProgramSection`, `NoSymbolsForSection` and for each program by symbol `InvalidSymbol` and
-    /// `InvalidProgramCode`; of a data section `InvalidMapDefinition` where its size passes 32 bits; of a section
-    /// `maps` `NoSymbolsForSection` and for each symbol `InvalidSymbol` where its range passes the data, and
-    /// `InvalidMapDefinition` where it has fewer than 20 bytes or another pinning than 0 and 1; of a section as
-    /// `.maps` `NoBTF`, `NoSymbolsForSection`, and the first fault of its maps. `OutOfMemory` only where memory was
-    /// refused.
+    /// The first of these faults, in this order. Of `license`, `version`, `.BTF` and `.BTF.ext` the first section of the
+    /// name counts. Of each section the errors of `Section::from_elf` come before the faults listed here.
+    ///
+    /// - `ElfError`: the bytes are no ELF64 file.
+    /// - Section `license`: `InvalidLicense`, fewer than two bytes; `MissingLicenseNullTerminator`, no byte is zero;
+    ///   `InvalidLicense`, another byte than the last is zero.
+    /// - Section `version`: `InvalidKernelVersion`, not four bytes.
+    /// - `BtfError(InvalidSymbolName)`: the name of a symbol can't be read.
+    /// - Section `.BTF`: `BtfError` with that of `Btf::parse`.
+    /// - Section `.BTF.ext`, only where there is `.BTF`: `BtfError` with that of `BtfExt::parse`.
+    /// - `BtfError` with that of the externs, only where there is `.BTF`.
+    /// - The other sections by index, each with its faults:
+    ///   - Text: `SymbolTableConflict`, two defined Text symbols have one address; then at the functions from offset 0 on
+    ///     `UnknownSymbol`, no such symbol has the address, `InvalidSymbol`, its size is 0 or passes the data, and
+    ///     `InvalidProgramCode`, the function is no whole slots.
+    ///   - Program: `InvalidProgramSection`; `NoSymbolsForSection`; by symbol, `InvalidSymbol` and `InvalidProgramCode` of
+    ///     the program.
+    ///   - data: `InvalidMapDefinition`, the size passes 32 bits.
+    ///   - `maps`: `NoSymbolsForSection`; by symbol, `InvalidSymbol`, its range passes the data, and
+    ///     `InvalidMapDefinition`, fewer than 20 bytes or another pinning than 0 and 1.
+    ///   - `.maps`, or a name as that: `NoBTF`; `NoSymbolsForSection`; the first fault of its maps.
+    /// - `OutOfMemory`: only where memory was refused.
     pub fn parse(alloc: Global, bytes: &[u8]) -> Result<Object, ParseError>
         ensures object { IfOk result (λ o. o ≡ object_of bytes.now) }
         ensures fault { Refuses is_parse_memory result (parse_fault bytes.now) }

@@ -1,8 +1,11 @@
-//! The descriptors of an object's own maps.
+//! The names and the descriptors of an object's own maps.
 
-ghost use Rattle.std.specs.Prelude.{◌≡◌, map, None, Some, OnOk, OnErr, IfOk, IfErr, MatchBool};
+ghost use Rattle.std.specs.Prelude.{◌≡◌, map, pos, None, Some, OnOk, OnErr, IfOk, IfErr, MatchBool};
+ghost use Rattle.std.specs.FinMap.{entries};
+ghost use Rattle.std.specs.Map.{keys_of};
+ghost use Rattle.ebpf_base.specs.Maps.{lent_bytes};
 ghost use Rattle.ebpf_object.specs.Prepared.{RefusesPreparing};
-ghost use Rattle.ebpf_object.specs.Stages.{Wrapped, own_maps, fds_written, fds_fault, descriptor_of};
+ghost use Rattle.ebpf_object.specs.Stages.{Wrapped, own_maps, fds_written, fds_fault, descriptor_of, numbered_descriptors};
 ghost use Rattle.ebpf_object.specs.Names.{has_function_in};
 ghost use Rattle.ebpf_object.specs.WrittenSlots.{with_maps, maps_fault};
 ghost use Rattle.ebpf_object.specs.declared.prepare_error.PrepareError.TheVariants.{Maps};
@@ -13,7 +16,7 @@ ghost use Rattle.ebpf_model.specs.Symbols.{text_sections_in};
 
 use crate::object::Object;
 use crate::prepare_error::PrepareError;
-use ebpf_base::ByName;
+use ebpf_base::{ByName, Items, Text};
 use ebpf_model::EbpfRelocationError;
 use ebpf_parts::maps::Map;
 use std::alloc::{AllocError, Global};
@@ -22,6 +25,44 @@ use std::mem;
 
 /// A map with its name and its descriptor.
 type MapWithFd<'a> = (&'a str, i32, &'a Map);
+
+/// Copies of names.
+#[tactic(auto, using(crate::proofs::Staging::one_copied, ebpf_base::proofs::Lists::rest_none))]
+fn copies_of(alloc: Global, names: &[&str]) -> Result<Items<Text>, AllocError>
+    ensures { IfOk result (λ copies. copies ≡ lent_bytes names.now) }
+{
+    let mut copies = Items::new(alloc);
+    for name in names {
+        copies.push(Text::from_str(alloc, name)?)?;
+    }
+    Ok(copies)
+}
+
+impl Object {
+    /// Copies of the names of the object's own maps, in byte order. So steps that name the maps don't borrow the object
+    /// that they are for.
+    pub fn map_names(&self, alloc: Global) -> Result<Items<Text>, AllocError>
+        ensures { IfOk result (λ names. names ≡ keys_of (entries self.now.maps)) }
+    {
+        let names = self.maps.names(alloc)?;
+        copies_of(alloc, &names)
+    }
+}
+
+/// Names of maps with the descriptors 1, 2, .. in their order, for a run without a kernel. Past the greatest `i32` all
+/// names have that one.
+#[tactic(auto, using(crate::proofs::Staging::one_with_descriptor, ebpf_base::proofs::Lists::rest_none))]
+pub fn numbered_descriptors(alloc: Global, names: &[Text]) -> Result<Vec<(&str, i32)>, AllocError>
+    ensures { IfOk result (λ named. map descriptor_of named.items ≡ numbered_descriptors (pos 0) names.now) }
+{
+    let mut numbered = Vec::with_capacity(alloc, names.len())?;
+    let mut descriptor: i32 = 0;
+    for name in names {
+        descriptor = descriptor.saturating_add(1);
+        numbered.push((name.as_str(), descriptor))?;
+    }
+    Ok(numbered)
+}
 
 /// The maps of these names with their descriptors; a name that stands for none is passed over.
 #[tactic(auto, using(crate::proofs::Staging::one_listed, crate::proofs::Staging::none_listed, ebpf_base::proofs::Lists::rest_none))]
@@ -77,9 +118,8 @@ fn relocate_some(
     }
 }
 
-/// Writes the descriptors of the object's own maps by name, as `Object::relocate_maps` does. Every map that a slot refers
-/// to needs a descriptor, also `.bss`, `.data` and `.rodata`. A name that the object lacks is passed over; of maps of one
-/// symbol or one section the later one counts. The maps are taken out for it and put back.
+/// Writes the descriptors of the object's own maps by name, as `Object::relocate_maps` does. Descriptors are given as
+/// `Steps::map_fds` says. The maps are taken out for it and put back.
 ///
 /// # Errors
 ///

@@ -25,15 +25,15 @@ impl Object {
         ensures others_stay { self.new ≡ record self.old { functions = self.new.functions } }
         ensures unchanged { OnErr result (self.new ≡ self.old) }
     {
-        let alloc = *self.license.as_vec().allocator();
+        let alloc = self.allocator();
         let Ok(sections) = self.text_sections(alloc) else {
             return Err(EbpfRelocationError::memory(alloc));
         };
         self.relocate_calls(&sections)
     }
 
-    /// What the program with this name is made of once `relocate_own_calls` has linked it, as `link_map` tells it with
-    /// the sections that the object's functions stand in. `None` exactly where no program has the name.
+    /// The link map of the program with this name, as `link_map` gives it with the sections that the object's functions
+    /// stand in. `None` exactly where no program has the name.
     ///
     /// # Errors
     ///
@@ -45,7 +45,7 @@ impl Object {
         if !self.programs.contains_key(name) {
             return Ok(None);
         }
-        let alloc = *self.license.as_vec().allocator();
+        let alloc = self.allocator();
         let Ok(sections) = self.text_sections(alloc) else {
             return Err(EbpfRelocationError::memory(alloc));
         };

@@ -12,23 +12,27 @@ ghost use Rattle.ebpf_parts.specs.declared.reading.Reading.TheVariants.{Stated};
 use crate::clones::{copy_keys, copy_names};
 pub use crate::explained::Explained;
 use crate::object::Object;
-pub use crate::own_maps::relocate_own_maps;
+pub use crate::own_maps::{numbered_descriptors, relocate_own_maps};
 pub use crate::prepare_error::PrepareError;
 use crate::stages::run_stages;
 use ebpf_btf::Btf;
 pub use ebpf_ksyms::{SymbolSource, SymbolText};
 use std::alloc::Global;
 
-/// What is chosen of the passes over an object.
+/// The passes over an object that are chosen.
 #[derive(Clone, Copy)]
 pub struct Steps<'a> {
     /// A kernel's types, where functions are to be relocated to them.
     pub target_btf: Option<&'a Btf>,
-    /// Names of maps with their descriptors, where these are to be written. Every map that a slot refers to needs one,
-    /// also `.bss`, `.data` and `.rodata` with the variables: without it the maps pass refuses. A name that the object
-    /// lacks is passed over, and of maps of one symbol or one section the later one counts.
+    /// Names of maps with their descriptors, where these are to be written.
+    ///
+    /// Give one for every map that a slot refers to, also for `.bss`, `.data` and `.rodata` with the variables. The maps
+    /// pass refuses a slot only where no map of its section has a descriptor: else the slot gets the descriptor of another
+    /// map of that section. A name that the object lacks is passed over, and of maps of one symbol or one section the
+    /// later one counts.
     pub map_fds: Option<&'a [(&'a str, i32)]>,
-    /// Where externs are to be resolved and written: the kernel's types, if they are known.
+    /// How externs are resolved, before they are written: `None` leaves them alone, `Some(None)` resolves them by the
+    /// kernel's symbols alone, `Some(Some(kernel))` by its types too.
     pub externs: Option<Option<&'a Btf>>,
     /// Whether programs are linked with the functions that they reach.
     pub calls: bool,

@@ -1,4 +1,4 @@
-//! What an object has by a name or a number, and what its functions ask for.
+//! Look-ups in an object by name or number, and yes-or-no questions about it.
 
 ghost use Rattle.std.specs.Prelude.{◌≡◌, not, ◌&&◌, IfOk, ℕ, List, is_some, codes};
 ghost use Rattle.std.specs.List.{list_any};
@@ -9,7 +9,7 @@ ghost use Rattle.std.specs.Option.{option_copied};
 ghost use Rattle.std.specs.declared.alloc.Global.{Global};
 ghost use Rattle.std.specs.FinMap as map;
 ghost use Rattle.ebpf_model.specs.Symbols.{text_sections_in};
-ghost use Rattle.ebpf_object.specs.LinkedPrograms.{function_of_named_program, program_slots};
+ghost use Rattle.ebpf_object.specs.LinkedPrograms.{function_of_named_program};
 ghost use Rattle.ebpf_object.specs.Names.{name_in_file, has_function_in};
 ghost use Rattle.ebpf_object.specs.Prepared.{IsParsed};
 ghost use Rattle.ebpf_object.specs.TypedExterns.{has_extern, has_typed, has_strong_typed};
@@ -20,12 +20,10 @@ use crate::object::Object;
 use ebpf_base::ByName;
 use ebpf_elf::ElfFile;
 use ebpf_model::{ExternDesc, Function};
-use ebpf_parts::insn::bpf_insn;
 use std::alloc::{AllocError, Global};
 use std::collections::{BTreeMap, HashSet};
-use std::fmt;
 
-// The externs in the order of their names.
+/// Whether some extern's type is compared with the kernel's. The clauses see the externs in the order of their names.
 fn typed_among(externs: &BTreeMap<String, ExternDesc>) -> bool
     ensures found { result ≡ list_any (λ x. x.is_typed) (values_of externs.now.entries) }
     ensures rising { IsStrictlySortedBy string_cmp (keys_of externs.now.entries) }
@@ -33,7 +31,7 @@ fn typed_among(externs: &BTreeMap<String, ExternDesc>) -> bool
     externs.values().any(|x| x.is_typed)
 }
 
-// The externs in the order of their names.
+/// As `typed_among`, of the externs that may not stay unresolved.
 fn strong_typed_among(externs: &BTreeMap<String, ExternDesc>) -> bool
     ensures found { result ≡ list_any (λ x. x.is_typed && not x.is_weak) (values_of externs.now.entries) }
     ensures rising { IsStrictlySortedBy string_cmp (keys_of externs.now.entries) }
@@ -70,9 +68,7 @@ impl Object {
     {
         self.btf.is_some() && any_strong_typed(&self.externs)
     }
-}
 
-impl Object {
     /// The function of the program with this name: its own slots as parsed, and after `relocate_calls` those of every
     /// function that it reaches behind them. `None` where no program has the name, or the program no function, as never
     /// in a parsed object.
@@ -81,17 +77,6 @@ impl Object {
     {
         match self.programs.get(name) {
             Some(program) => self.functions.get(program.function_key()),
-            None => None,
-        }
-    }
-
-    /// The slots of the function of the program with this name, which a kernel takes once the passes are done. `None`
-    /// as of `program_function`.
-    pub fn program_slots(&self, name: &str) -> Option<&[bpf_insn]>
-        ensures { option_copied result ≡ program_slots self.now name.now }
-    {
-        match self.program_function(name) {
-            Some(function) => Some(function.instructions.as_slice()),
             None => None,
         }
     }
@@ -123,9 +108,7 @@ impl Object {
         }
         Ok(sections)
     }
-}
 
-impl Object {
     /// Whether the file has a section `license`, and so states the license. Else `license` is the default `GPL`.
     pub fn states_license(&self) -> bool
         ensures named { result ≡ map.contains_key self.now.section_infos (codes "license") }
@@ -139,22 +122,5 @@ impl Object {
         ensures { (other : Global) → result ≡ other }
     {
         *self.license.as_vec().allocator()
-    }
-}
-
-/// A section, as errors speak of it: `section 5 ".bss"`, its index as `readelf -S` has it, and its name where that is
-/// known.
-#[derive(Clone, Copy)]
-pub struct SectionWords<'a> {
-    pub number: usize,
-    pub name: Option<&'a str>,
-}
-
-impl fmt::Display for SectionWords<'_> {
-    fn fmt<W: fmt::Write>(&self, f: &mut fmt::Formatter<W>) -> fmt::Result {
-        match self.name {
-            Some(name) => write!(f, "section {} {name:?}", self.number),
-            None => write!(f, "section {}", self.number),
-        }
     }
 }

@@ -23,7 +23,7 @@ impl Object {
     pub fn record_outcomes(&self, target: &Btf) -> Result<RecordOutcomes, AllocError>
         ensures { IfOk result (λ outcomes. AreRecordOutcomes self.now target.now outcomes) }
     {
-        let alloc = *self.license.as_vec().allocator();
+        let alloc = self.allocator();
         let (Some(local), Some(relocations)) = (&self.btf, &self.btf_ext) else {
             return Ok(RecordOutcomes {
                 records: Items::new(alloc),

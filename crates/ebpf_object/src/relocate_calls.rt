@@ -5,8 +5,8 @@ ghost use Rattle.std.specs.FinMap as map;
 ghost use Rattle.std.specs.List.{flat_map};
 ghost use Rattle.std.specs.Ordering.{eq_by_cmp};
 ghost use Rattle.ebpf_base.specs.Maps.{key_cmp, lent_bytes};
-ghost use Rattle.ebpf_object.specs.LinkedPrograms.{linkable_of, programs_in_order, ProgramsAreLinked};
-ghost use Rattle.ebpf_object.specs.PrivateContracts.{program_with, replaced};
+ghost use Rattle.ebpf_object.specs.LinkedPrograms.{linkable_of, programs_in_order, ProgramsAreLinked, replaced};
+ghost use Rattle.ebpf_object.specs.PrivateContracts.{program_with};
 ghost use Rattle.ebpf_reloc.specs.Linking.{AreLinked, IsFirstRefusal};
 ghost use Rattle.ebpf_model.specs.Symbols.{FunctionKey, text_sections_in};
 ghost use Rattle.ebpf_model.specs.Memory.{is_memory_at, NamesNoneForMemory};
@@ -72,8 +72,8 @@ fn take_place(functions: &mut ByKey<Function>, key: (usize, u64), function: Func
     let _before = functions.replace(key, function);
 }
 
-/// Puts functions in the places of those at their keys. No memory is taken.
-fn take_places(functions: &mut ByKey<Function>, linked: ByKey<Function>)
+/// Puts functions in the places of those at their keys. One whose key has no function is dropped. No memory is taken.
+pub fn take_places(functions: &mut ByKey<Function>, linked: ByKey<Function>)
     ensures { (q : FunctionKey) → map.get functions.new q ≡ replaced (map.get functions.old q) (map.get linked q) }
 {
     for (key, function) in linked.into_map() {
@@ -91,7 +91,7 @@ impl Object {
         ensures fault { IfErr result (λ e. MatchBool (is_memory_at e) ⊤ (IsFirstRefusal (linkable_of self.now (text_sections_in text_sections.now)) (programs_in_order self.now.programs) e)) }
         ensures memory { IfErr result NamesNoneForMemory }
     {
-        let alloc = *self.license.as_vec().allocator();
+        let alloc = self.allocator();
         let Ok(programs) = programs_in_order(alloc, &self.programs) else {
             return Err(EbpfRelocationError::memory(alloc));
         };

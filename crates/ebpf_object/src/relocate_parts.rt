@@ -25,7 +25,7 @@ impl Object {
         ensures slots { IfOk result (λ slots. relocated_slots self.now target.now ≡ Ok slots) }
         ensures fault { IfErr result (λ e. MatchBool (is_memory_in_section e) (e.section ≡ []) (relocated_slots self.now target.now ≡ Err (without_texts_at e))) }
     {
-        let alloc = *self.license.as_vec().allocator();
+        let alloc = self.allocator();
         let (Some(local), Some(relocations)) = (&self.btf, &self.btf_ext) else {
             return Ok(ByKey::new(alloc));
         };
@@ -97,7 +97,7 @@ impl Object {
         ensures others_stay { self.new ≡ record self.old { functions = self.new.functions } }
         ensures err { OnErr result (self.new ≡ self.old) }
     {
-        let alloc = *self.license.as_vec().allocator();
+        let alloc = self.allocator();
         ebpf_passes::relocate_maps(
             alloc,
             &mut self.functions,
@@ -136,7 +136,7 @@ impl Object {
         if self.btf.is_none() {
             return Ok(());
         }
-        let alloc = *self.license.as_vec().allocator();
+        let alloc = self.allocator();
         ebpf_passes::relocate_externs(
             alloc,
             &mut self.functions,

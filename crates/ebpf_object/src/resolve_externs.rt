@@ -41,7 +41,7 @@ impl Object {
         ensures others_stay { self.new ≡ record self.old { externs = self.new.externs } }
         ensures unchanged { OnErr result (self.new ≡ self.old) }
     {
-        let alloc = *self.license.as_vec().allocator();
+        let alloc = self.allocator();
         match resolve_lines(alloc, self.btf.as_ref(), &self.externs, kernel_btf, lines) {
             Ok(externs) => {
                 self.externs = externs;
@@ -62,7 +62,7 @@ impl Object {
         ensures others_stay { self.new ≡ record self.old { externs = self.new.externs } }
         ensures unchanged { OnErr result (self.new ≡ self.old) }
     {
-        let alloc = *self.license.as_vec().allocator();
+        let alloc = self.allocator();
         match symbols.resolve(alloc, self.btf.as_ref(), &self.externs, kernel_btf) {
             Ok(externs) => {
                 self.externs = externs;

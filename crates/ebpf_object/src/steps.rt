@@ -1,4 +1,4 @@
-//! What people choose of the passes.
+//! Common choices of the passes.
 
 ghost use Rattle.std.specs.Prelude.{◌≡◌, map, false, true, None, Some};
 ghost use Rattle.std.specs.Option.{option_copied};
@@ -20,9 +20,11 @@ impl<'a> Steps<'a> {
         }
     }
 
-    /// All passes, for a kernel whose types are known, with descriptors of the object's maps by their names. Every map
-    /// that a slot refers to needs one, also `.bss`, `.data` and `.rodata` with the variables: without it the maps pass
-    /// refuses. A name that the object lacks is passed over.
+    /// All passes, for a kernel whose types are known, with descriptors of the object's maps by their names.
+    ///
+    /// Give a descriptor for every map that a slot refers to, also for `.bss`, `.data` and `.rodata` with the variables.
+    /// The maps pass refuses a slot only where no map of its section has one: else the slot gets the descriptor of another
+    /// map of that section. A name that the object lacks is passed over.
     pub fn all(kernel: &'a Btf, descriptors: &'a [(&'a str, i32)]) -> Steps<'a>
         ensures { chosen result ≡ record { target = Some kernel.now; descriptors = Some (map descriptor_of descriptors.now); kernel = Some (Some kernel.now); externs = true; calls = true } }
     {
@@ -40,15 +42,6 @@ impl<'a> Steps<'a> {
             externs: Some(kernel),
             calls: true,
         }
-    }
-
-    /// The passes that need nothing of a kernel but descriptors: these are written as `all` says, and programs are linked.
-    /// Functions are not relocated to types, and externs are left alone.
-    pub fn without_kernel(descriptors: &'a [(&'a str, i32)]) -> Steps<'a>
-        ensures { chosen result ≡ record { target = None; descriptors = Some (map descriptor_of descriptors.now); kernel = None; externs = false; calls = true } }
-    {
-        let fds_written = Steps::none().with_descriptors(descriptors);
-        fds_written.with_calls()
     }
 
     /// These steps, with functions relocated to a kernel's types.
@@ -88,14 +81,6 @@ impl<'a> Steps<'a> {
             externs: Some(None),
             ..self
         }
-    }
-
-    /// These steps, with externs left alone: none is resolved, and none is written.
-    pub fn leaving_externs(self) -> Steps<'a>
-        ensures { chosen result ≡ record (chosen self.entry) { kernel = None; externs = false } }
-    {
-        let externs = None;
-        Steps { externs, ..self }
     }
 
     /// These steps, with programs linked with the functions that they reach.

@@ -143,7 +143,7 @@ fn go_in_place(
 
 /// Prepares the object without descriptors, which is refused.
 fn go_without_fds(rt: &HostRuntime, object: &mut Object) -> io::Result<()> {
-    let steps = Steps::without_kernel(&[]);
+    let steps = Steps::none().with_descriptors(&[]).with_calls();
     go_in_place(rt, object, "without descriptors", &steps, &[])
 }
 
@@ -156,7 +156,7 @@ fn go_by_symbols(rt: &HostRuntime, object: &mut Object, symbols: &[u8]) -> io::R
 /// Links programs whose externs are left alone, which is refused where one is called.
 fn go_unresolved(rt: &HostRuntime, object: &mut Object) -> io::Result<()> {
     let descriptors = [("counts", 3), (".bss", 4), (".rodata", 5)];
-    let steps = Steps::without_kernel(&descriptors);
+    let steps = Steps::none().with_descriptors(&descriptors).with_calls();
     go_in_place(rt, object, "externs left alone", &steps, &[])
 }
 

@@ -3,7 +3,7 @@ use Rattle.std.specs.FinMap.{get, find}
 use Rattle.std.specs.List.Sorted.{IsStrictlySortedBy}
 use Rattle.std.specs.Map.{keys_of}
 use Rattle.ebpf_base.specs.Maps.{key_cmp}
-use Rattle.ebpf_object.specs.PrivateContracts.{replaced}
+use Rattle.ebpf_object.specs.LinkedPrograms.{replaced}
 use Rattle.ebpf_model.specs.Symbols.{FunctionKey}
 use Rattle.ebpf_object.proofs.relocate_calls.take_places.Given as goal
 

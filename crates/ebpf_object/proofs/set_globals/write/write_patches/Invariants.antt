@@ -1,7 +1,7 @@
 use Rattle.std.proofs.Common.{◌≡◌, map, drop}
 use Rattle.ebpf_object.specs.Patches.{all_patched}
 use Rattle.ebpf_object.specs.PrivateContracts.{value_of}
-use Rattle.ebpf_object.proofs.patch.write_patches.Given as goal
+use Rattle.ebpf_object.proofs.set_globals.write.write_patches.Given as goal
 
 -- what is left to write from here gives what all gives from the start
 abbrev pub invariant-loop-patch : goal.invariant-loop-patch

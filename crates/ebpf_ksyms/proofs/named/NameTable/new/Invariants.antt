@@ -4,7 +4,7 @@ use Rattle.std.specs.BTreeMap.{get_by}
 use Rattle.ebpf_base.specs.Maps.{lent_bytes, text_cmp}
 use Rattle.ebpf_ksyms.specs.Addresses.{is_one_of}
 use Rattle.ebpf_ksyms.specs.PrivateContracts.{only_at}
-use Rattle.ebpf_ksyms.proofs.named.Named.new.Given as goal
+use Rattle.ebpf_ksyms.proofs.named.NameTable.new.Given as goal
 
 -- with the names that are left, each name has the value
 abbrev pub invariant-loop-name : goal.invariant-loop-name

@@ -1,4 +1,4 @@
-//! Variables that are handed over by name.
+//! The given values of variables, by name.
 
 ghost use denote.Ref.{Bor};
 ghost use Rattle.std.specs.Prelude.{◌≡◌, ℕ, List, IfOk, option_map};
@@ -26,7 +26,7 @@ pub fn value_at<'a>(
     }
 }
 
-// The names as the map has them.
+/// The names in the order of the map.
 fn given_names<'a>(
     alloc: Global,
     globals: &HashMap<&'a str, (&[u8], bool)>,

@@ -1,7 +1,7 @@
 use Rattle.std.proofs.Common.{◌∙◌}
 use Rattle.ebpf_ksyms.specs.PrivateContracts.{value_named}
 use Rattle.ebpf_ksyms.proofs.Resolving.{marked_only, named-step, named-end}
-use Rattle.ebpf_ksyms.proofs.named.Named.new.Goals as goal
+use Rattle.ebpf_ksyms.proofs.named.NameTable.new.Goals as goal
 
 pub loop-name-preserved : goal.loop-name-preserved
 loop-name-preserved g c = λ q.

@@ -1,21 +1,25 @@
-//! Where the value of a global variable goes.
+//! The map and the offset in its data that the value of a global variable goes to.
 
 ghost use Rattle.std.specs.Prelude.{◌≡◌, ℕ, ◌+◌, ◌∷◌, [], nat_le, length, IfOk, IfErr, MatchBool, ⊤, Ok, Err, Some};
+ghost use Rattle.std.specs.FinMap as finite;
 ghost use Rattle.std.specs.FinMap.{get};
+ghost use Rattle.std.specs.List.{flat_map};
 ghost use Rattle.std.specs.Option.{option_copied};
-ghost use Rattle.ebpf_object.specs.Patches.{symbol_indices, symbol_named, first_map, map_in_section, in_map, of_symbol, patch_of};
+ghost use Rattle.ebpf_base.specs.Maps.{put_all, lent_bytes};
+ghost use Rattle.ebpf_object.specs.Names.{with_map_names};
+ghost use Rattle.ebpf_object.specs.Patches.{named_at, symbol_indices, symbol_named, first_map, map_in_section, in_map, of_symbol, patch_of};
 ghost use Rattle.ebpf_object.specs.PrivateContracts.{value_of, values_of};
 ghost use Rattle.ebpf_parts.specs.Memory.{is_parse_memory};
 ghost use Rattle.ebpf_parts.specs.declared.error.ParseError.TheVariants.{InvalidGlobalData, SymbolNotFound, MapNotFound};
 
-use crate::patch::Patch;
+use crate::set_globals::write::Patch;
 use ebpf_base::{ByIndex, ByName, Text};
 use ebpf_model::Symbol;
 use ebpf_parts::ParseError;
 use ebpf_parts::maps::Map;
-use std::alloc::Global;
+use std::alloc::{AllocError, Global};
 
-/// What a variable's map and offset are found by.
+/// The tables that a variable's map and offset are found by.
 #[derive(Drop)]
 pub struct VariableLookup<'a> {
     pub symbols: &'a ByIndex<Symbol>,
@@ -24,6 +28,71 @@ pub struct VariableLookup<'a> {
     pub names: &'a ByIndex<Text>,
     ghost numbers_are: { numbers.now ≡ symbol_indices symbols.now },
     ghost names_are: { (section : ℕ) → get names.now section ≡ first_map maps.now section },
+}
+
+/// Puts the indices of symbols at their names, later ones over earlier ones.
+fn put_indices(
+    alloc: Global,
+    numbers: ByName<usize>,
+    symbols: &ByIndex<Symbol>,
+    indices: &[usize],
+) -> Result<ByName<usize>, AllocError>
+    ensures { IfOk result (λ found. found ≡ put_all numbers (flat_map (λ number. named_at number (finite.get symbols.now number)) indices.now)) }
+{
+    let mut numbers = numbers;
+    for index in indices {
+        let Some(symbol) = symbols.get(*index) else {
+            continue;
+        };
+        let Some(name) = &symbol.name else {
+            continue;
+        };
+        numbers.insert(String::from_str(alloc, name.as_str())?, *index)?;
+    }
+    Ok(numbers)
+}
+
+/// The indices of the symbols by their names: of equal names the greatest.
+///
+/// # Errors
+///
+/// `AllocError` where no memory is found.
+pub fn symbol_indices(alloc: Global, symbols: &ByIndex<Symbol>) -> Result<ByName<usize>, AllocError>
+    ensures { IfOk result (λ numbers. numbers ≡ symbol_indices symbols.now) }
+{
+    let indices = symbols.indices(alloc)?;
+    put_indices(alloc, ByName::new(alloc), symbols, indices.as_slice())
+}
+
+/// Puts the names of maps at their sections, where none is there.
+fn put_maps(
+    alloc: Global,
+    found: ByIndex<Text>,
+    maps: &ByName<Map>,
+    names: &[&str],
+) -> Result<ByIndex<Text>, AllocError>
+    ensures { IfOk result (λ all. all ≡ with_map_names maps.now found (lent_bytes names.now)) }
+{
+    let mut found = found;
+    for name in names {
+        let Some(map) = maps.get(*name) else {
+            continue;
+        };
+        if found.contains_key(map.section_index()) {
+            continue;
+        }
+        found.insert(map.section_index(), Text::from_str(alloc, *name)?)?;
+    }
+    Ok(found)
+}
+
+/// The name of the first map by name that each section has.
+#[tactic(auto, using(crate::proofs::MapNames::first_maps))]
+pub fn map_names(alloc: Global, maps: &ByName<Map>) -> Result<ByIndex<Text>, AllocError>
+    ensures { IfOk result (λ names. (section : ℕ) → finite.get names section ≡ first_map maps.now section) }
+{
+    let names = maps.names(alloc)?;
+    put_maps(alloc, ByIndex::new(alloc), maps, names.as_slice())
 }
 
 /// Whether a range lies inside.
@@ -58,7 +127,7 @@ fn no_symbol(alloc: Global, name: &str) -> ParseError
     }
 }
 
-/// Where a value goes in the data of its map.
+/// The patch that puts a value into the data of its map.
 fn patch_in_map<'a>(
     alloc: Global,
     maps: &ByName<Map>,
@@ -107,7 +176,7 @@ fn symbol_of<'a>(lookup: &VariableLookup<'a>, name: &str) -> Option<&'a Symbol>
     }
 }
 
-/// Where the value of a variable with a symbol goes.
+/// The patch of the value of a variable with a symbol.
 fn patch_by_symbol<'a>(
     alloc: Global,
     lookup: &VariableLookup<'_>,
@@ -129,7 +198,7 @@ fn patch_by_symbol<'a>(
     }
 }
 
-/// Where the value of a variable goes, where it has a symbol.
+/// The patch of the value of a variable. `None` where the variable has no symbol and needs none.
 #[tactic(auto, unfolding(crate::specs::Patches::patch_of))]
 pub fn patch_of<'a>(
     alloc: Global,

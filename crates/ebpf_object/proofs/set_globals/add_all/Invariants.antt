@@ -5,7 +5,7 @@ use Rattle.ebpf_base.specs.Faults.{first_some}
 use Rattle.ebpf_base.specs.Maps.{lent_bytes}
 use Rattle.ebpf_object.specs.Patches.{patches_at, patch_fault_at, globals_of}
 use Rattle.ebpf_object.specs.PrivateContracts.{value_of}
-use Rattle.ebpf_object.proofs.patch_data.add_all.Given as goal
+use Rattle.ebpf_object.proofs.set_globals.add_all.Given as goal
 
 -- what is left from here is what all asked for from the start
 abbrev pub invariant-loop-name : goal.invariant-loop-name

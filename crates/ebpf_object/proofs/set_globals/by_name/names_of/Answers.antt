@@ -7,7 +7,7 @@ use Rattle.ebpf_base.proofs.Maps.{sorted_keys, sorted_map}
 use Rattle.ebpf_base.proofs.TextMaps.{text_exact}
 use Rattle.ebpf_object.specs.Patches.{global_of}
 use Rattle.ebpf_object.proofs.Values.{keys_given, distinct_given}
-use Rattle.ebpf_object.proofs.globals.names_of.Goals as goal
+use Rattle.ebpf_object.proofs.set_globals.by_name.names_of.Goals as goal
 
 pub returns : goal.returns
 returns c =

@@ -1,4 +1,8 @@
-//! The values of global variables.
+//! New values of an object's global variables.
+
+mod by_name;
+mod lookup;
+mod write;
 
 ghost use Rattle.std.specs.Prelude.{◌≡◌, ◌++◌, map, IfOk, OnOk, OnErr};
 ghost use Rattle.std.specs.FinMap as finite;
@@ -9,15 +13,16 @@ ghost use Rattle.ebpf_object.specs.Patches.{patches_at, patch_fault_at, patches_
 ghost use Rattle.ebpf_object.specs.PrivateContracts.{value_of};
 ghost use Rattle.ebpf_parts.specs.Memory.{is_parse_memory};
 
-use crate::globals::{names_of, value_at};
 use crate::object::Object;
-use crate::patch::{Patch, map_names, symbol_indices, write_patches};
-use crate::patch_plan::{VariableLookup, patch_of};
+use by_name::{names_of, value_at};
 use ebpf_parts::ParseError;
+pub use lookup::symbol_indices;
+use lookup::{VariableLookup, map_names, patch_of};
 use std::alloc::Global;
 use std::collections::HashMap;
+use write::{Patch, write_patches};
 
-/// Adds what the value of one variable asks for.
+/// Adds the patch of one variable's value, where the object has the variable.
 #[tactic(auto, unfolding(crate::specs::Patches::patch_of))]
 fn add<'a>(
     alloc: Global,
@@ -43,7 +48,7 @@ fn add<'a>(
     }
 }
 
-/// What the values of variables ask for, in the order of the names.
+/// The patches of variables' values, in the order of the names.
 fn add_all<'a>(
     alloc: Global,
     lookup: &VariableLookup<'_>,
@@ -64,7 +69,7 @@ fn add_all<'a>(
 }
 
 impl Object {
-    /// What the values of variables ask for.
+    /// The patches of variables' values.
     fn patches<'a>(
         &self,
         globals: &HashMap<&str, (&'a [u8], bool)>,
@@ -72,7 +77,7 @@ impl Object {
         ensures patches { IfOk result (λ all. map value_of all.items ≡ patches_of self.now.symbol_table self.now.maps (globals_of globals.now.entries)) }
         ensures fault { Refuses is_parse_memory result (patches_fault self.now.symbol_table self.now.maps (globals_of globals.now.entries)) }
     {
-        let alloc = *self.license.as_vec().allocator();
+        let alloc = self.allocator();
         let Ok(names) = names_of(alloc, globals) else {
             return Err(ParseError::OutOfMemory);
         };

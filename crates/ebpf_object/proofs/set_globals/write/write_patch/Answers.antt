@@ -3,7 +3,7 @@ use Rattle.std.specs.FinMap.{insert}
 use Rattle.std.specs.Option.{OnSome}
 use Rattle.ebpf_object.specs.PrivateContracts.{value_of}
 use Rattle.ebpf_object.proofs.Patches.{written}
-use Rattle.ebpf_object.proofs.patch.write_patch.Goals as goal
+use Rattle.ebpf_object.proofs.set_globals.write.write_patch.Goals as goal
 
 pub returns : goal.returns
 returns c =

@@ -6,7 +6,7 @@ use Rattle.ebpf_base.specs.Maps.{text_cmp}
 use Rattle.ebpf_core_candidates.specs.Candidates.{is_hash_marked, name_hash}
 use Rattle.ebpf_ksyms.specs.PrivateContracts.{value_named}
 use Rattle.ebpf_ksyms.proofs.Resolving.{put_there, not_there, same_bytes, under_mark}
-use Rattle.ebpf_ksyms.proofs.named.Named.replace.Goals as goal
+use Rattle.ebpf_ksyms.proofs.named.NameTable.replace.Goals as goal
 
 pub returns-in-Some : goal.returns-in-Some
 unfolding value_named
