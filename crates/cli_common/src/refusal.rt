@@ -1,7 +1,7 @@
 //! Why a file is refused, in words.
 
 use crate::json::write_document;
-use crate::names::Shown;
+use crate::names::EscapedName;
 use std::alloc::{AllocError, Global};
 use std::fmt;
 use std::io::{self, Write};
@@ -11,7 +11,7 @@ pub const READING: &str = "file";
 
 /// Why a file is refused.
 #[derive(Drop)]
-pub struct Refusal {
+pub struct FileRefusal {
     /// The stage that refuses: `file`, `parse`, or a pass.
     pub stage: &'static str,
     /// The name of the error.
@@ -36,13 +36,13 @@ pub struct RefusalLines<'a> {
     /// The file.
     pub path: &'a str,
     /// Why it is refused.
-    pub refusal: &'a Refusal,
+    pub refusal: &'a FileRefusal,
 }
 
 impl fmt::Display for RefusalLines<'_> {
     fn fmt<W: fmt::Write>(&self, f: &mut fmt::Formatter<W>) -> fmt::Result {
         let refusal = self.refusal;
-        let (path, text) = (Shown(self.path), Shown(refusal.text.as_str()));
+        let (path, text) = (EscapedName(self.path), EscapedName(refusal.text.as_str()));
         write!(f, "ebpf: {path}: {text}")?;
         if refusal.stage != READING {
             write!(f, " ({}: {})", refusal.stage, refusal.variant)?;
@@ -50,13 +50,13 @@ impl fmt::Display for RefusalLines<'_> {
         let Some(help) = &refusal.help else {
             return Ok(());
         };
-        let help = Shown(help.as_str());
+        let help = EscapedName(help.as_str());
         write!(f, "\n  help: {help}")
     }
 }
 
 /// Writes a refusal of a file as one JSON object, on one line.
-pub fn write_refusal<W: Write>(out: &mut W, path: &str, refusal: &Refusal) -> io::Result<()> {
+pub fn write_refusal<W: Write>(out: &mut W, path: &str, refusal: &FileRefusal) -> io::Result<()> {
     write_document(out, |json| {
         json.key("error")?;
         json.object(|json| {

@@ -4,7 +4,7 @@ use crate::compressed::Compression;
 use crate::object_file::read_file;
 use crate::parse_help::parse_help;
 use crate::programs::{ObjectProgram, object_programs};
-use crate::refusal::{READING, Refusal, RefusalLines, help_of, write_refusal};
+use crate::refusal::{FileRefusal, READING, RefusalLines, help_of, write_refusal};
 use crate::variants::variant_of_parsing;
 use ebpf_base::Text;
 use ebpf_object::Object;
@@ -14,20 +14,26 @@ use std::alloc::{AllocError, Global};
 use std::io::{self, BufWriter, ErrorKind, Write};
 
 /// Tells a refusal of a file on standard error.
-pub fn tell(rt: &HostRuntime, path: &str, refusal: &Refusal) {
+pub fn tell(rt: &HostRuntime, path: &str, refusal: &FileRefusal) {
     let lines = RefusalLines { path, refusal };
     let _ = eprintln!(rt; "{lines}");
 }
 
 /// Prints a refusal of a file as JSON.
-fn print_refusal(rt: &HostRuntime, path: &str, refusal: &Refusal) -> io::Result<()> {
+fn print_refusal(rt: &HostRuntime, path: &str, refusal: &FileRefusal) -> io::Result<()> {
     let mut out = BufWriter::new(rt.alloc(), rt.stdout())?;
     write_refusal(&mut out, path, refusal)?;
     out.flush()
 }
 
 /// Tells a refusal of a file, as JSON on standard output too where that is asked for; why the work ends, with this status.
-pub fn refused(rt: &HostRuntime, json: bool, path: &str, refusal: &Refusal, status: u8) -> Stop {
+pub fn refused(
+    rt: &HostRuntime,
+    json: bool,
+    path: &str,
+    refusal: &FileRefusal,
+    status: u8,
+) -> Stop {
     tell(rt, path, refusal);
     match if json {
         print_refusal(rt, path, refusal)
@@ -40,11 +46,11 @@ pub fn refused(rt: &HostRuntime, json: bool, path: &str, refusal: &Refusal, stat
 }
 
 /// Why a file can't be read, as the system has it.
-fn unreadable(alloc: Global, error: &io::Error) -> Result<Refusal, AllocError> {
+fn unreadable(alloc: Global, error: &io::Error) -> Result<FileRefusal, AllocError> {
     if matches!(error.kind(), ErrorKind::OutOfMemory) {
         return Err(AllocError);
     }
-    Ok(Refusal {
+    Ok(FileRefusal {
         stage: READING,
         variant: "CannotRead",
         text: format!(in alloc; "{error}")?,
@@ -53,9 +59,9 @@ fn unreadable(alloc: Global, error: &io::Error) -> Result<Refusal, AllocError> {
 }
 
 /// That a file is compressed.
-fn compressed(alloc: Global, path: &str, by: Compression) -> Result<Refusal, AllocError> {
+fn compressed(alloc: Global, path: &str, by: Compression) -> Result<FileRefusal, AllocError> {
     let program = by.program();
-    Ok(Refusal {
+    Ok(FileRefusal {
         stage: READING,
         variant: "Compressed",
         text: format!(in alloc; "compressed ({program})")?,
@@ -68,7 +74,10 @@ fn compressed(alloc: Global, path: &str, by: Compression) -> Result<Refusal, All
 /// # Errors
 ///
 /// The outer one where memory is refused.
-pub fn read_plain(rt: &HostRuntime, path: &str) -> Result<Result<Vec<u8>, Refusal>, AllocError> {
+pub fn read_plain(
+    rt: &HostRuntime,
+    path: &str,
+) -> Result<Result<Vec<u8>, FileRefusal>, AllocError> {
     let alloc = rt.alloc();
     let bytes = match read_file(rt, path) {
         Ok(bytes) => bytes,
@@ -89,9 +98,9 @@ pub fn read_given(rt: &HostRuntime, json: bool, path: &str) -> Result<Vec<u8>, S
 }
 
 /// Why an object can't be parsed.
-fn unparsed(alloc: Global, file: &[u8], error: &ParseError) -> Result<Refusal, AllocError> {
+fn unparsed(alloc: Global, file: &[u8], error: &ParseError) -> Result<FileRefusal, AllocError> {
     let explained = ExplainedParse::new(file, error);
-    Ok(Refusal {
+    Ok(FileRefusal {
         stage: "parse",
         variant: variant_of_parsing(error),
         text: format!(in alloc; "{explained}")?,
@@ -133,13 +142,13 @@ fn no_program(
     alloc: Global,
     programs: &[ObjectProgram],
     name: &str,
-) -> Result<Refusal, AllocError> {
+) -> Result<FileRefusal, AllocError> {
     let help = if programs.is_empty() {
         String::from_str(alloc, "it has no program")?
     } else {
         known_names(alloc, programs)?
     };
-    Ok(Refusal {
+    Ok(FileRefusal {
         stage: READING,
         variant: "NoProgram",
         text: format!(in alloc; "no program {name}")?,

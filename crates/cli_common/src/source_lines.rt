@@ -8,7 +8,7 @@ use std::alloc::{AllocError, Global};
 
 /// A slot in the copy of a function.
 #[derive(Clone, Copy)]
-pub struct Span {
+pub struct LineSpan {
     /// Where the copy begins.
     pub begin: usize,
     /// Where it ends.
@@ -105,7 +105,7 @@ impl<'a> Lines<'a> {
 
     /// The record of a slot: where it leads the instructions behind it, which have lines of their own, the first one from
     /// it on; else, and where there is none, the last one up to it.
-    fn record(&self, span: Span) -> Option<&'a bpf_line_info> {
+    fn record(&self, span: LineSpan) -> Option<&'a bpf_line_info> {
         if span.leads {
             if let Some(record) = self.first_in(span.slot, span.end) {
                 return Some(record);
@@ -119,7 +119,7 @@ impl<'a> Lines<'a> {
         &self,
         alloc: Global,
         local: Option<&Btf>,
-        span: Span,
+        span: LineSpan,
     ) -> Result<Option<(Text, u32)>, AllocError> {
         let (Some(local), Some(record)) = (local, self.record(span)) else {
             return Ok(None);

@@ -47,7 +47,7 @@ fn calls_among(alloc: Global, edges: &[Edge]) -> Result<Vec<Edge>, AllocError> {
 
 /// A walk over copies, each after all that refer to it.
 #[derive(Drop)]
-struct Walk {
+struct ChainWalk {
     /// How many references to each copy are still to come.
     waiting: Vec<usize>,
     /// How many functions the deepest chain to each copy has, its own too.
@@ -88,12 +88,12 @@ fn edges_from(edges: &[Edge], copy: usize) -> &[Edge] {
     rest.get(..length).unwrap_or(&[])
 }
 
-impl Walk {
-    fn new(alloc: Global, count: usize, edges: &[Edge]) -> Result<Walk, AllocError> {
+impl ChainWalk {
+    fn new(alloc: Global, count: usize, edges: &[Edge]) -> Result<ChainWalk, AllocError> {
         let waiting = counted(alloc, count, edges)?;
         let ready = without(alloc, &waiting)?;
         let depths = vec![in alloc; 1usize; count]?;
-        Ok(Walk {
+        Ok(ChainWalk {
             waiting,
             depths,
             ready,
@@ -132,7 +132,7 @@ impl Walk {
 
 /// How many functions the deepest chain of these references has; none where one leads back to its beginning.
 fn longest(alloc: Global, count: usize, edges: &[Edge]) -> Result<Option<usize>, AllocError> {
-    let mut walk = Walk::new(alloc, count, edges)?;
+    let mut walk = ChainWalk::new(alloc, count, edges)?;
     for _ in 0..count {
         let Some(copy) = walk.ready.pop() else {
             return Ok(None);

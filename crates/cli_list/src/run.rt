@@ -1,8 +1,8 @@
 //! What an object's file has, told.
 
 use crate::json::write_json;
-use crate::layout::Layout;
-use crate::listing::{Wanted, layouts_of, listing_of, wanted_by};
+use crate::layout::ProgramLayout;
+use crate::listing::{ObjectContents, layouts_of, listing_of, wanted_by};
 use crate::text::write_listing;
 use cli_common::object_file::{parsed_object, read_object};
 use cli_common::refuse::Stop;
@@ -26,8 +26,8 @@ fn tell(
     rt: &HostRuntime,
     words: &ListWords,
     object: &Object,
-    wanted: &Wanted,
-    layouts: &Items<Layout>,
+    wanted: &ObjectContents,
+    layouts: &Items<ProgramLayout>,
 ) -> Result<(), Stop> {
     let alloc = rt.alloc();
     let listing = listing_of(alloc, object, wanted, layouts)?;
