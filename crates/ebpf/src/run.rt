@@ -4,7 +4,7 @@ use crate::help::{
     CHECK_HELP, CHECK_USAGE, HELP, INSPECT_HELP, INSPECT_USAGE, LINK_HELP, LINK_USAGE, LIST_HELP,
     LIST_USAGE, USAGE, VERSION,
 };
-use crate::words::{Invocation, InvocationError, read_words};
+use crate::words::{Invocation, InvocationError, Verb, read_words};
 use cli_check::check;
 use cli_common::names::EscapedName;
 use cli_common::object_file::gather_words;
@@ -15,17 +15,23 @@ use cli_list::list;
 use std::io::ErrorKind;
 use std::process::ExitCode;
 
-/// The usage line of the command that words begin with.
-fn usage_of(words: &[String]) -> &'static str {
-    match words.first() {
-        Some(word) => match word.as_str() {
-            "check" => CHECK_USAGE,
-            "list" => LIST_USAGE,
-            "inspect" => INSPECT_USAGE,
-            "link" => LINK_USAGE,
-            _ => USAGE,
-        },
-        None => USAGE,
+/// The usage line of a command.
+fn usage_of(verb: Verb) -> &'static str {
+    match verb {
+        Verb::Check => CHECK_USAGE,
+        Verb::List => LIST_USAGE,
+        Verb::Inspect => INSPECT_USAGE,
+        Verb::Link => LINK_USAGE,
+    }
+}
+
+/// The text that `--help` of a command prints below the usage line.
+fn help_of(verb: Verb) -> &'static str {
+    match verb {
+        Verb::Check => CHECK_HELP,
+        Verb::List => LIST_HELP,
+        Verb::Inspect => INSPECT_HELP,
+        Verb::Link => LINK_HELP,
     }
 }
 
@@ -35,7 +41,10 @@ fn usage(rt: &HostRuntime, words: &[String], error: &InvocationError<'_>) -> Res
     let sentence = format!(in alloc; "{error}")?;
     let sentence = EscapedName(sentence.as_str());
     let _ = eprintln!(rt; "ebpf: {sentence}");
-    let usage = usage_of(words);
+    let usage = match words.first().and_then(|word| Verb::named(word.as_str())) {
+        Some(verb) => usage_of(verb),
+        None => USAGE,
+    };
     let _ = eprintln!(rt; "{usage}");
     Ok(2)
 }
@@ -46,20 +55,14 @@ fn tell(rt: &HostRuntime, text: &str) -> Result<u8, Stop> {
     Ok(0)
 }
 
-/// Prints the usage line of a command and what it does.
-fn tell_both(rt: &HostRuntime, usage: &str, help: &str) -> Result<u8, Stop> {
-    tell(rt, usage)?;
-    tell(rt, help)
-}
-
 /// Does what a command line asks.
 fn obey(rt: &HostRuntime, command: &Invocation) -> Result<u8, Stop> {
     match command {
         Invocation::Help => tell(rt, HELP),
-        Invocation::CheckHelp => tell_both(rt, CHECK_USAGE, CHECK_HELP),
-        Invocation::ListHelp => tell_both(rt, LIST_USAGE, LIST_HELP),
-        Invocation::InspectHelp => tell_both(rt, INSPECT_USAGE, INSPECT_HELP),
-        Invocation::LinkHelp => tell_both(rt, LINK_USAGE, LINK_HELP),
+        Invocation::VerbHelp(verb) => {
+            tell(rt, usage_of(*verb))?;
+            tell(rt, help_of(*verb))
+        }
         Invocation::Version => tell(rt, VERSION),
         Invocation::Check(words) => check(rt, words),
         Invocation::List(words) => list(rt, words),

@@ -8,19 +8,40 @@ use ebpf_base::{Items, Text};
 use std::alloc::{AllocError, AllocFailed, Global};
 use thiserror::Error;
 
+/// A command that reads an object.
+#[derive(Clone, Copy, PartialEq, Eq)]
+pub enum Verb {
+    Check,
+    List,
+    Inspect,
+    Link,
+}
+
+impl Verb {
+    /// The command of a name.
+    pub fn named(name: &str) -> Option<Verb> {
+        match name {
+            "check" => Some(Verb::Check),
+            "list" => Some(Verb::List),
+            "inspect" => Some(Verb::Inspect),
+            "link" => Some(Verb::Link),
+            _ => None,
+        }
+    }
+
+    /// Whether it links programs, for a kernel that options may name.
+    fn links(self) -> bool {
+        matches!(self, Verb::Inspect | Verb::Link)
+    }
+}
+
 /// What a command line asks for.
 #[derive(Drop)]
 pub enum Invocation {
     /// What `ebpf` does, in general.
     Help,
-    /// What `ebpf check` does.
-    CheckHelp,
-    /// What `ebpf list` does.
-    ListHelp,
-    /// What `ebpf inspect` does.
-    InspectHelp,
-    /// What `ebpf link` does.
-    LinkHelp,
+    /// The options of a command.
+    VerbHelp(Verb),
     /// The program's version.
     Version,
     /// An object's programs over kernels.
@@ -83,22 +104,6 @@ impl<T: Drop> From<AllocFailed<T>> for InvocationError<'_> {
     }
 }
 
-/// A command that reads an object.
-#[derive(Clone, Copy, PartialEq, Eq)]
-enum Verb {
-    Check,
-    List,
-    Inspect,
-    Link,
-}
-
-impl Verb {
-    /// Whether it links programs, for a kernel that options may name.
-    fn links(self) -> bool {
-        matches!(self, Verb::Inspect | Verb::Link)
-    }
-}
-
 /// An option of a command.
 #[derive(Clone, Copy, PartialEq, Eq)]
 enum Choice {
@@ -141,7 +146,7 @@ fn is_option(word: &str) -> bool {
 }
 
 /// An option's name, and what stands behind the first `=` of a word that begins with two dashes.
-fn parted(word: &str) -> (&str, Option<&str>) {
+fn split_option(word: &str) -> (&str, Option<&str>) {
     if !word.starts_with("--") {
         return (word, None);
     }
@@ -164,7 +169,7 @@ struct Options<'a> {
 }
 
 /// Copies of words.
-fn copies(alloc: Global, words: &[&str]) -> Result<Items<Text>, AllocError> {
+fn texts_of(alloc: Global, words: &[&str]) -> Result<Items<Text>, AllocError> {
     let mut texts = Items::new(alloc);
     for word in words {
         texts.push(Text::from_str(alloc, word)?)?;
@@ -173,7 +178,7 @@ fn copies(alloc: Global, words: &[&str]) -> Result<Items<Text>, AllocError> {
 }
 
 /// A copy of a word that may be absent.
-fn copy(alloc: Global, word: Option<&str>) -> Result<Option<Text>, AllocError> {
+fn text_of(alloc: Global, word: Option<&str>) -> Result<Option<Text>, AllocError> {
     match word {
         Some(word) => Ok(Some(Text::from_str(alloc, word)?)),
         None => Ok(None),
@@ -269,8 +274,8 @@ impl<'a> Options<'a> {
         Ok(Invocation::Check(CheckWords {
             file: Text::from_str(alloc, file)?,
             object: self.object,
-            kernels: copies(alloc, kernels)?,
-            programs: copies(alloc, &self.programs)?,
+            kernels: texts_of(alloc, kernels)?,
+            programs: texts_of(alloc, &self.programs)?,
             all: self.has(Choice::All),
             json: self.has(Choice::Json),
         }))
@@ -292,18 +297,13 @@ impl<'a> Options<'a> {
         Ok(PrepareWords {
             file: Text::from_str(alloc, file)?,
             object: self.object,
-            btf: copy(alloc, self.value(Choice::Btf))?,
-            kallsyms: copy(alloc, self.value(Choice::Kallsyms))?,
-            kconfig: copy(alloc, self.value(Choice::Kconfig))?,
+            btf: text_of(alloc, self.value(Choice::Btf))?,
+            kallsyms: text_of(alloc, self.value(Choice::Kallsyms))?,
+            kconfig: text_of(alloc, self.value(Choice::Kconfig))?,
             kernel: self.kernel,
-            programs: copies(alloc, &self.programs)?,
+            programs: texts_of(alloc, &self.programs)?,
             json: self.has(Choice::Json),
         })
-    }
-
-    /// What `ebpf inspect` is asked for.
-    fn inspect(&self, alloc: Global) -> Result<Invocation, InvocationError<'a>> {
-        Ok(Invocation::Inspect(self.prepare(alloc)?))
     }
 
     /// What `ebpf link` is asked for.
@@ -321,13 +321,10 @@ impl<'a> Options<'a> {
             return Ok(Invocation::Version);
         }
         match verb {
-            Verb::Check if self.has(Choice::Help) => Ok(Invocation::CheckHelp),
-            Verb::List if self.has(Choice::Help) => Ok(Invocation::ListHelp),
-            Verb::Inspect if self.has(Choice::Help) => Ok(Invocation::InspectHelp),
-            Verb::Link if self.has(Choice::Help) => Ok(Invocation::LinkHelp),
+            _ if self.has(Choice::Help) => Ok(Invocation::VerbHelp(verb)),
             Verb::Check => self.check(alloc),
             Verb::List => self.list(alloc),
-            Verb::Inspect => self.inspect(alloc),
+            Verb::Inspect => Ok(Invocation::Inspect(self.prepare(alloc)?)),
             Verb::Link => self.link(alloc),
         }
     }
@@ -339,7 +336,7 @@ fn read_option<'a>(
     options: &mut Options<'a>,
     word: &'a str,
 ) -> Result<Option<(Choice, &'a str)>, InvocationError<'a>> {
-    let (name, value) = parted(word);
+    let (name, value) = split_option(word);
     let Some(choice) = choice_of(verb, name) else {
         return Err(InvocationError::UnknownOption(word));
     };
@@ -400,13 +397,12 @@ pub fn read_words<'a>(
         return Err(InvocationError::NoCommand);
     };
     match first.as_str() {
-        "check" => read_options(alloc, Verb::Check, rest),
-        "list" => read_options(alloc, Verb::List, rest),
-        "inspect" => read_options(alloc, Verb::Inspect, rest),
-        "link" => read_options(alloc, Verb::Link, rest),
         "-h" | "--help" | "help" => Ok(Invocation::Help),
         "-V" | "--version" => Ok(Invocation::Version),
         word if is_option(word) => Err(InvocationError::UnknownOption(word)),
-        word => Err(InvocationError::UnknownCommand(word)),
+        word => match Verb::named(word) {
+            Some(verb) => read_options(alloc, verb, rest),
+            None => Err(InvocationError::UnknownCommand(word)),
+        },
     }
 }
