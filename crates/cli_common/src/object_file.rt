@@ -14,7 +14,7 @@ use std::alloc::{AllocError, Global};
 use std::io::{self, Read};
 use std::{env, fs};
 
-/// For which machine a file is.
+/// The machine of a file, in words.
 fn machine_text(alloc: Global, machine: u16) -> Result<String, AllocError> {
     match machine_name(machine) {
         Some(name) => format!(in alloc; "is for {name} (machine {machine})"),
@@ -32,14 +32,14 @@ fn no_choice(variant: &'static str, text: String, help: Option<String>) -> FileR
     }
 }
 
-/// That a file of another machine holds no object.
+/// The refusal of a file for another machine that holds no object.
 fn without_object(alloc: Global, machine: u16) -> Result<FileRefusal, AllocError> {
     let mut text = machine_text(alloc, machine)?;
     text.push_str(" and holds no eBPF object")?;
     Ok(no_choice("NoObject", text, None))
 }
 
-/// The objects that can be chosen, with where they stand.
+/// The objects that can be chosen, with their sizes and offsets.
 fn choices(alloc: Global, found: &[ObjectRange]) -> Result<String, AllocError> {
     let mut text = String::new(alloc);
     for (at, range) in found.iter().enumerate() {
@@ -55,7 +55,7 @@ fn choices(alloc: Global, found: &[ObjectRange]) -> Result<String, AllocError> {
     Ok(text)
 }
 
-/// That none of several objects is chosen, or one that isn't there.
+/// The refusal of a choice that selects none of several objects.
 fn without_choice(
     alloc: Global,
     machine: u16,
@@ -76,7 +76,7 @@ fn without_choice(
     Ok(no_choice(variant, text, Some(choices(alloc, found)?)))
 }
 
-/// That a file that is an object is asked for another one.
+/// The refusal of a second object in a file that is one object.
 fn without_other(alloc: Global, number: usize) -> Result<FileRefusal, AllocError> {
     let text = format!(in alloc; "is one eBPF object, no object {number}")?;
     Ok(no_choice("NoObject", text, None))

@@ -1,4 +1,4 @@
-//! Why a file is refused, in words.
+//! Refusals of files: their parts, and their text and JSON.
 
 use crate::json::write_document;
 use crate::names::EscapedName;
@@ -6,23 +6,23 @@ use std::alloc::{AllocError, Global};
 use std::fmt;
 use std::io::{self, Write};
 
-/// The stage at which files are read, and what is asked of them is looked for.
+/// The stage of reading files and choosing among their parts.
 pub const READING: &str = "file";
 
-/// Why a file is refused.
+/// The reason to refuse a file.
 #[derive(Drop)]
 pub struct FileRefusal {
-    /// The stage that refuses: `file`, `parse`, or a pass.
+    /// The stage that refuses: `file`, `parse` or a pass.
     pub stage: &'static str,
     /// The name of the error.
     pub variant: &'static str,
-    /// The error in a sentence.
+    /// The error as a sentence.
     pub text: String,
-    /// What one can do, where one can.
+    /// The remedy, if one is known.
     pub help: Option<String>,
 }
 
-/// A help of known words.
+/// A copy of a known help text.
 pub fn help_of(alloc: Global, words: Option<&str>) -> Result<Option<String>, AllocError> {
     match words {
         Some(words) => Ok(Some(String::from_str(alloc, words)?)),
@@ -30,12 +30,12 @@ pub fn help_of(alloc: Global, words: Option<&str>) -> Result<Option<String>, All
     }
 }
 
-/// A refusal of a file as people read it: one line, and one more with the help.
+/// A refusal of a file as text: one line, and a second one with the help.
 #[derive(Clone, Copy)]
 pub struct RefusalLines<'a> {
     /// The file.
     pub path: &'a str,
-    /// Why it is refused.
+    /// The refusal.
     pub refusal: &'a FileRefusal,
 }
 

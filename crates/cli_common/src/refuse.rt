@@ -1,4 +1,4 @@
-//! Refusals, told.
+//! Refusals of files, and how they are reported.
 
 use crate::compressed::Compression;
 use crate::object_file::read_file;
@@ -13,7 +13,7 @@ use ebpf_parts::ParseError;
 use std::alloc::{AllocError, Global};
 use std::io::{self, BufWriter, ErrorKind, Write};
 
-/// Tells a refusal of a file on standard error.
+/// Prints a refusal of a file on standard error.
 pub fn tell(rt: &HostRuntime, path: &str, refusal: &FileRefusal) {
     let lines = RefusalLines { path, refusal };
     let _ = eprintln!(rt; "{lines}");
@@ -26,7 +26,7 @@ fn print_refusal(rt: &HostRuntime, path: &str, refusal: &FileRefusal) -> io::Res
     out.flush()
 }
 
-/// Tells a refusal of a file, as JSON on standard output too where that is asked for; why the work ends, with this status.
+/// Reports a refusal of a file, on standard output as JSON too if `json` holds. Returns the reason to stop, with the status.
 pub fn refused(
     rt: &HostRuntime,
     json: bool,
@@ -35,17 +35,16 @@ pub fn refused(
     status: u8,
 ) -> Stop {
     tell(rt, path, refusal);
-    match if json {
-        print_refusal(rt, path, refusal)
-    } else {
-        Ok(())
-    } {
+    if !json {
+        return Stop::Told(status);
+    }
+    match print_refusal(rt, path, refusal) {
         Ok(()) => Stop::Told(status),
         Err(error) => Stop::Output(error),
     }
 }
 
-/// Why a file can't be read, as the system has it.
+/// The refusal of a file that the system can't read.
 fn unreadable(alloc: Global, error: &io::Error) -> Result<FileRefusal, AllocError> {
     if matches!(error.kind(), ErrorKind::OutOfMemory) {
         return Err(AllocError);
@@ -58,7 +57,7 @@ fn unreadable(alloc: Global, error: &io::Error) -> Result<FileRefusal, AllocErro
     })
 }
 
-/// That a file is compressed.
+/// The refusal of a compressed file.
 fn compressed(alloc: Global, path: &str, by: Compression) -> Result<FileRefusal, AllocError> {
     let program = by.program();
     Ok(FileRefusal {
@@ -69,11 +68,11 @@ fn compressed(alloc: Global, path: &str, by: Compression) -> Result<FileRefusal,
     })
 }
 
-/// The bytes of a file, or why it is refused: it can't be read, or is compressed.
+/// The bytes of a file, or the refusal of a file that is unreadable or compressed.
 ///
 /// # Errors
 ///
-/// The outer one where memory is refused.
+/// - `AllocError` (the outer one): out of memory.
 pub fn read_plain(
     rt: &HostRuntime,
     path: &str,
@@ -89,7 +88,7 @@ pub fn read_plain(
     }
 }
 
-/// The bytes of a file that words name; one that is refused is told.
+/// The bytes of a file of the command line. A refusal is reported.
 pub fn read_given(rt: &HostRuntime, json: bool, path: &str) -> Result<Vec<u8>, Stop> {
     match read_plain(rt, path)? {
         Ok(bytes) => Ok(bytes),
@@ -97,7 +96,7 @@ pub fn read_given(rt: &HostRuntime, json: bool, path: &str) -> Result<Vec<u8>, S
     }
 }
 
-/// Why an object can't be parsed.
+/// The refusal of an object that can't be parsed.
 fn unparsed(alloc: Global, file: &[u8], error: &ParseError) -> Result<FileRefusal, AllocError> {
     let explained = ExplainedParse::new(file, error);
     Ok(FileRefusal {
@@ -108,7 +107,7 @@ fn unparsed(alloc: Global, file: &[u8], error: &ParseError) -> Result<FileRefusa
     })
 }
 
-/// Says why an object can't be parsed.
+/// Reports an error of parsing.
 pub fn refuse_parsing(
     rt: &HostRuntime,
     json: bool,
@@ -125,7 +124,7 @@ pub fn refuse_parsing(
     }
 }
 
-/// The names of programs, one behind the other.
+/// The names of all programs, after a title.
 fn known_names(alloc: Global, programs: &[ObjectProgram]) -> Result<String, AllocError> {
     let mut names = String::from_str(alloc, "its programs:")?;
     let mut between = " ";
@@ -137,7 +136,7 @@ fn known_names(alloc: Global, programs: &[ObjectProgram]) -> Result<String, Allo
     Ok(names)
 }
 
-/// That an object has no program of a name.
+/// The refusal of a program name that the object lacks.
 fn no_program(
     alloc: Global,
     programs: &[ObjectProgram],
@@ -156,14 +155,14 @@ fn no_program(
     })
 }
 
-/// Whether a program has a name.
+/// Whether some program has a name.
 fn has_name(programs: &[ObjectProgram], name: &Text) -> bool {
     programs
         .iter()
         .any(|program| program.name.is(name.as_str()))
 }
 
-/// Refuses names that no program of an object has.
+/// Refuses names that no program has.
 fn check_names(
     rt: &HostRuntime,
     json: bool,
@@ -181,7 +180,7 @@ fn check_names(
     Ok(())
 }
 
-/// The programs of these names.
+/// The programs that have one of these names.
 fn of_names(
     alloc: Global,
     programs: Vec<ObjectProgram>,
@@ -197,7 +196,7 @@ fn of_names(
     Ok(chosen)
 }
 
-/// The programs of an object that have these names, or all without a name; a name that no program has is told.
+/// The programs of an object that have these names, or all if no name is given. A name that no program has is reported.
 pub fn chosen_programs(
     rt: &HostRuntime,
     json: bool,
@@ -214,14 +213,14 @@ pub fn chosen_programs(
     Ok(of_names(rt.alloc(), programs, names)?)
 }
 
-/// Why the work ends before its end.
+/// Why a command stops early.
 #[derive(Drop)]
 pub enum Stop {
-    /// What was told already; with the status.
+    /// A refusal, reported already; with the status.
     Told(u8),
-    /// The output can't be written.
+    /// An error of writing the output.
     Output(io::Error),
-    /// No memory was found.
+    /// Out of memory.
     Memory,
 }
 
@@ -237,7 +236,7 @@ impl From<io::Error> for Stop {
     }
 }
 
-/// Says why nothing more is done, and gives the status. An output whose reader is gone ends without a word.
+/// Reports why a command stops, and returns the status. A closed pipe isn't reported.
 pub fn stopped(rt: &HostRuntime, stop: Stop) -> u8 {
     match stop {
         Stop::Told(status) => status,

@@ -28,7 +28,7 @@ pub struct LineNumber {
     pub number: u32,
 }
 
-/// The source lines of a program's slots.
+/// The source lines of the slots of a linked program.
 #[derive(Drop)]
 pub struct Lines<'a> {
     records: &'a [bpf_line_info],
@@ -36,7 +36,7 @@ pub struct Lines<'a> {
     begins: Vec<usize>,
 }
 
-/// A table in which no record begins anywhere.
+/// A table of slots at which no record begins.
 fn empty_table(alloc: Global, slots: usize, none: usize) -> Result<Vec<usize>, AllocError> {
     let mut begins = Vec::with_capacity(alloc, slots)?;
     for _ in 0..slots {
@@ -45,7 +45,7 @@ fn empty_table(alloc: Global, slots: usize, none: usize) -> Result<Vec<usize>, A
     Ok(begins)
 }
 
-/// Notes where records begin; of several at a slot the last one stands.
+/// Notes the slots at which records begin. The last record of a slot wins.
 fn note_records(begins: &mut [usize], records: &[bpf_line_info]) {
     for (number, record) in records.iter().enumerate() {
         if let Some(place) = begins.get_mut(record.insn_off as usize) {
@@ -64,7 +64,7 @@ impl<'a> Lines<'a> {
         Ok(Lines { records, begins })
     }
 
-    /// The record of a number, where it names a line.
+    /// The record of a number, if it names a line.
     fn naming(&self, number: usize) -> Option<&'a bpf_line_info> {
         let record = self.records.get(number)?;
         if record.line_col >> 10 == 0 {
@@ -73,7 +73,7 @@ impl<'a> Lines<'a> {
         Some(record)
     }
 
-    /// The line that begins at a slot, where one does.
+    /// The line that begins at a slot, if any.
     pub fn beginning(&self, slot: usize) -> Option<LineNumber> {
         let number = self.begins.get(slot)?;
         let record = self.naming(*number)?;

@@ -34,7 +34,7 @@ pub fn edges_of(alloc: Global, map: &LinkMap) -> Result<Vec<Edge>, AllocError> {
     Ok(edges)
 }
 
-/// Those of some references that are calls.
+/// The calls among references.
 fn calls_among(alloc: Global, edges: &[Edge]) -> Result<Vec<Edge>, AllocError> {
     let mut calls = Vec::new(alloc);
     for edge in edges {
@@ -100,7 +100,7 @@ impl ChainWalk {
         })
     }
 
-    /// Comes to a copy by one of its references, on a chain of so many functions.
+    /// Follows a reference to a copy, on a chain of `depth` functions.
     fn arrive(&mut self, copy: usize, depth: usize) -> Result<(), AllocError> {
         if let Some(known) = self.depths.get_mut(copy) {
             *known = depth.max(*known);
@@ -115,7 +115,7 @@ impl ChainWalk {
         Ok(())
     }
 
-    /// Goes on from a copy by its references.
+    /// Follows the references of a copy.
     fn leave(&mut self, copy: usize, edges: &[Edge]) -> Result<(), AllocError> {
         let depth = self.depths.get(copy).copied().unwrap_or(0);
         for edge in edges {
@@ -130,7 +130,7 @@ impl ChainWalk {
     }
 }
 
-/// How many functions the deepest chain of these references has; none where one leads back to its beginning.
+/// The number of functions in the deepest chain of these references. `None` if they form a cycle.
 fn longest(alloc: Global, count: usize, edges: &[Edge]) -> Result<Option<usize>, AllocError> {
     let mut walk = ChainWalk::new(alloc, count, edges)?;
     for _ in 0..count {
