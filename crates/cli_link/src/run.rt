@@ -6,7 +6,7 @@ use crate::linked::Linked;
 use crate::notes::RecordNotes;
 use crate::origins::Origins;
 use crate::record_words::RecordTeller;
-use cli_common::names::Shown;
+use cli_common::names::EscapedName;
 use cli_common::programs::ObjectProgram;
 use cli_common::refuse::Stop;
 use cli_prepare::{
@@ -53,7 +53,7 @@ fn write_name<W: Write>(
     if !stands_alone {
         writeln!(out, "")?;
     }
-    let name = Shown(program.name.as_str());
+    let name = EscapedName(program.name.as_str());
     let slots = function.instructions.len();
     writeln!(out, "program {name} slots {slots}")
 }

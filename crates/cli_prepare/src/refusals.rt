@@ -3,7 +3,7 @@
 use crate::pass_help::{Given, pass_help};
 use crate::prepared::PrepareWords;
 use crate::refused_slots::refused_slot;
-use cli_common::refusal::{Refusal, help_of};
+use cli_common::refusal::{FileRefusal, help_of};
 use cli_common::refuse::{Stop, refused};
 use cli_common::variants::{
     variant_of_parsing, variant_of_relocation, variant_of_resolving, variant_of_type_relocation,
@@ -99,9 +99,9 @@ fn refusal_of(
     object: &Object,
     error: &PrepareError,
     given: Given,
-) -> Result<Refusal, AllocError> {
+) -> Result<FileRefusal, AllocError> {
     let (front, stage, variant) = stage_of(error);
-    Ok(Refusal {
+    Ok(FileRefusal {
         stage,
         variant,
         text: sentence_of(alloc, object, error, front)?,

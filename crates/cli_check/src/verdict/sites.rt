@@ -8,7 +8,7 @@ use crate::verdict::loaded::Record;
 use cli_common::kinds::Kind;
 use cli_common::map_uses::MapUse;
 use cli_common::record_names::{absence_words, has_sign, record_name};
-use cli_common::source_lines::{Lines, Span};
+use cli_common::source_lines::{LineSpan, Lines};
 use ebpf_btf::Btf;
 use ebpf_core::Outcome;
 use ebpf_core_relo::{Absence, RecordResult, RelocationError};
@@ -44,8 +44,8 @@ impl Spot<'_> {
     }
 
     /// The slot in its copy.
-    fn span(&self) -> Span {
-        Span {
+    fn span(&self) -> LineSpan {
+        LineSpan {
             begin: self.copy.base,
             end: self.copy.base.saturating_add(self.copy.slots),
             slot: self.place(),
