@@ -1,7 +1,7 @@
 //! What `ebpf check --json` prints.
 
 use crate::session::{Judgement, KernelAnswer, Session};
-use crate::verdict::findings::{At, Found, Location, Rank, Topic};
+use crate::verdict::findings::{Finding, FindingKey, Severity, SourceLocation};
 use cli_common::kinds::Kind;
 use cli_common::names::{Quoted, separate, write_value};
 use ebpf_base::Text;
@@ -90,8 +90,8 @@ fn write_line<W: Write>(out: &mut W, line: &Option<(Text, u32)>) -> io::Result<(
 fn write_place<W: Write>(
     out: &mut W,
     session: &Session,
-    at: At,
-    place: &Location,
+    at: (usize, Option<usize>),
+    place: &SourceLocation,
 ) -> io::Result<()> {
     let name = match session.loaded.needs.programs.get(at.0) {
         Some(program) => program.name.as_str(),
@@ -115,7 +115,7 @@ fn write_place<W: Write>(
 fn write_places<W: Write>(
     out: &mut W,
     session: &Session,
-    places: &BTreeMap<At, Location>,
+    places: &BTreeMap<(usize, Option<usize>), SourceLocation>,
 ) -> io::Result<()> {
     let mut is_first = true;
     write!(out, "\"places\":[")?;
@@ -128,7 +128,7 @@ fn write_places<W: Write>(
 }
 
 /// Writes what a finding is about, and what is asked of it.
-fn write_topic<W: Write>(out: &mut W, topic: &Topic, kind: Kind) -> io::Result<()> {
+fn write_topic<W: Write>(out: &mut W, topic: &FindingKey, kind: Kind) -> io::Result<()> {
     let name = Quoted(topic.name.as_str());
     let kind = kind.word();
     write!(out, "{{\"name\":{name},\"kind\":\"{kind}\",")
@@ -148,7 +148,11 @@ fn write_kinds<W: Write>(out: &mut W, kinds: &BTreeSet<Kind>) -> io::Result<()> 
 }
 
 /// Writes what a finding is about, and all that is asked of it, the first also by itself.
-fn write_asked<W: Write>(out: &mut W, topic: &Topic, kinds: &BTreeSet<Kind>) -> io::Result<()> {
+fn write_asked<W: Write>(
+    out: &mut W,
+    topic: &FindingKey,
+    kinds: &BTreeSet<Kind>,
+) -> io::Result<()> {
     let kind = kinds.first().copied().unwrap_or(topic.kind);
     write_topic(out, topic, kind)?;
     write_kinds(out, kinds)
@@ -158,8 +162,8 @@ fn write_asked<W: Write>(out: &mut W, topic: &Topic, kinds: &BTreeSet<Kind>) -> 
 fn write_found<W: Write>(
     out: &mut W,
     session: &Session,
-    topic: &Topic,
-    found: &Found,
+    topic: &FindingKey,
+    found: &Finding,
 ) -> io::Result<()> {
     write_asked(out, topic, &found.kinds)?;
     let reason = Quoted(topic.reason.as_str());
@@ -195,8 +199,8 @@ fn write_values<W: Write>(
 fn write_changed<W: Write>(
     out: &mut W,
     session: &Session,
-    topic: &Topic,
-    found: &Found,
+    topic: &FindingKey,
+    found: &Finding,
 ) -> io::Result<()> {
     write_topic(out, topic, topic.kind)?;
     if let Some(own) = found.own {
@@ -209,17 +213,22 @@ fn write_changed<W: Write>(
 }
 
 /// Writes the findings of a rank.
-fn write_rank<W: Write>(out: &mut W, session: &Session, key: &str, rank: Rank) -> io::Result<()> {
+fn write_rank<W: Write>(
+    out: &mut W,
+    session: &Session,
+    key: &str,
+    rank: Severity,
+) -> io::Result<()> {
     let mut is_first = true;
     write!(out, "\"{key}\":[")?;
-    for (topic, found) in session.findings.topics.iter() {
-        if topic.rank != rank {
+    for (topic, found) in session.findings.by_key.iter() {
+        if topic.severity != rank {
             continue;
         }
         separate(out, is_first)?;
         is_first = false;
         match rank {
-            Rank::Changed => write_changed(out, session, topic, found)?,
+            Severity::Changed => write_changed(out, session, topic, found)?,
             _ => write_found(out, session, topic, found)?,
         }
     }
@@ -246,11 +255,11 @@ pub fn write_json<W: Write>(out: &mut W, session: &Session) -> io::Result<()> {
     write!(out, ",")?;
     write_kernels(out, session)?;
     write!(out, ",")?;
-    write_rank(out, session, "breaks", Rank::Breaks)?;
+    write_rank(out, session, "breaks", Severity::Breaks)?;
     write!(out, ",")?;
-    write_rank(out, session, "guarded", Rank::Guarded)?;
+    write_rank(out, session, "guarded", Severity::Guarded)?;
     write!(out, ",")?;
-    write_rank(out, session, "changed", Rank::Changed)?;
+    write_rank(out, session, "changed", Severity::Changed)?;
     write!(out, ",")?;
     write_settings(out, session)?;
     writeln!(out, "}}")
