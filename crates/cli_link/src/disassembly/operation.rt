@@ -3,7 +3,7 @@
 use crate::disassembly::arithmetic::{Arithmetic, decode_arithmetic};
 use crate::disassembly::jumps::{Jump, decode_jump};
 use crate::disassembly::memory::{
-    Load, Memory, decode_first_class, decode_load, decode_number_store, decode_store,
+    Memory, MemoryLoad, decode_first_class, decode_load, decode_number_store, decode_store,
 };
 use ebpf_parts::insn::bpf_insn;
 use ebpf_parts::insn::opcodes::{ALU, ALU64, LD, LDX, ST, STX};
@@ -13,7 +13,7 @@ use std::fmt;
 #[derive(Clone, Copy)]
 pub enum Operation {
     /// A wide number or a packet's bytes are loaded.
-    Load(Load),
+    Load(MemoryLoad),
     /// Memory is read or written.
     Memory(Memory),
     /// Registers are computed.
@@ -35,7 +35,10 @@ impl Operation {
 
     /// Whether it takes two slots: a wide load does.
     pub fn takes_two(&self) -> bool {
-        matches!(self, Operation::Load(Load::Wide(..) | Load::Pseudo(..)))
+        matches!(
+            self,
+            Operation::Load(MemoryLoad::Wide(..) | MemoryLoad::Pseudo(..))
+        )
     }
 }
 
