@@ -4,7 +4,7 @@ ghost use Rattle.std.specs.Prelude.{◌≡◌, ◌≤◌, ⊤, ℕ, List, true, 
 ghost use Rattle.std.specs.Io.KnownBytes.{Appends};
 ghost use Rattle.std.specs.Option.{option_copied};
 ghost use Rattle.cli_plain.specs.Done.{is_outside, is_writers, IsFailureOf, IsPreparingFailure, LacksReport, LacksNamedReport};
-ghost use Rattle.cli_plain.specs.Linked.{default_passes};
+ghost use Rattle.cli_common.specs.DefaultPasses.{default_passes};
 ghost use Rattle.cli_plain.specs.Printed.{report_named, reports_text, HasInspected, HasListed};
 ghost use Rattle.ebpf_inspect.specs.Inspected.{IsInspected};
 ghost use Rattle.ebpf_object.specs.Prepared.{IsParsed};
@@ -13,13 +13,13 @@ ghost use Rattle.ebpf_parts.specs.declared.reading.Reading.TheVariants.{Stated};
 use crate::arguments::Words;
 use crate::failure::{Failure, report};
 use crate::link::finish;
-use crate::preparation::{map_names, numbered_descriptors, read_types};
+use crate::preparation::read_types;
 use crate::printed_text::write_report;
 use ebpf_base::Items;
 use ebpf_btf::Btf;
 use ebpf_inspect::{ProgramReport, inspect_object};
 use ebpf_object::Object;
-use ebpf_object::prepare::{PrepareError, Steps, SymbolSource};
+use ebpf_object::prepare::{PrepareError, Steps, SymbolSource, numbered_descriptors};
 use std::alloc::Global;
 use std::io::Write;
 
@@ -83,7 +83,7 @@ fn write_reports<'a, W: Write>(
 }
 
 /// Writes what is wanted, and hands all on.
-#[tactic(auto, using(crate::proofs::Appending::kept))]
+#[tactic(auto, using(cli_common::proofs::Appending::kept))]
 fn print_listed<'a, W: Write>(
     reports: &[ProgramReport],
     program: Option<&'a str>,
@@ -115,7 +115,7 @@ fn inspect_all<K: SymbolSource>(
     ensures inspected { (file : List ℕ) → IsParsed Stated file object → IfOk result (IsInspected (default_passes (option_copied types.entry) object.maps) (K.source kallsyms) Stated file) }
     ensures refused { (file : List ℕ) → IsParsed Stated file object → IfErr result (λ f. MatchBool (is_outside f) ⊤ (IsPreparingFailure (default_passes (option_copied types.entry) object.maps) (K.source kallsyms) file f)) }
 {
-    let Ok(names) = map_names(alloc, &object) else {
+    let Ok(names) = object.map_names(alloc) else {
         drop(object);
         return Err(Failure::Memory);
     };

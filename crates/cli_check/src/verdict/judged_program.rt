@@ -2,7 +2,6 @@
 
 use crate::verdict::findings::SourceLocation;
 use crate::verdict::loaded::Loaded;
-use cli_common::map_uses::own_descriptors;
 use cli_common::programs::ObjectProgram;
 use cli_common::source_lines::{Lines, Span};
 use ebpf_base::{ByKey, ByName, Items};
@@ -10,7 +9,7 @@ use ebpf_btf::Btf;
 use ebpf_core_relo::put_slots;
 use ebpf_model::{EbpfRelocationError, ExternDesc, Function, RelocationError};
 use ebpf_object::Object;
-use ebpf_object::prepare::{PrepareError, relocate_own_maps};
+use ebpf_object::prepare::{PrepareError, numbered_descriptors, relocate_own_maps};
 use ebpf_object::relocation::{CodeCopy, LinkedFunction, ProgramKey, ProgramMaps};
 use ebpf_parts::insn::bpf_insn;
 use ebpf_reach::reached_slots;
@@ -62,7 +61,8 @@ fn explained(
 
 /// Writes descriptors of an object's own maps, which are those of another object.
 fn write_maps(alloc: Global, object: &mut Object, own: &Object) -> Result<(), PrepareError> {
-    let descriptors = own_descriptors(alloc, own)?;
+    let names = own.map_names(alloc)?;
+    let descriptors = numbered_descriptors(alloc, names.as_slice())?;
     relocate_own_maps(alloc, object, &descriptors)
 }
 
