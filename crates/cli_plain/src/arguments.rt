@@ -85,24 +85,24 @@ fn has_dashes(word: &str) -> bool
 
 /// The texts that words give, lent.
 #[derive(Drop)]
-struct Found<'a> {
+struct FoundWords<'a> {
     file: Option<&'a str>,
     btf: Option<&'a str>,
     kallsyms: Option<&'a str>,
     program: Option<&'a str>,
 }
 
-impl<'a> Model for Found<'a> {
+impl<'a> Model for FoundWords<'a> {
     ghost Value = { FoundValue };
 
     ghost view = { λ f. record { file = option_copied f.file; btf = option_copied f.btf; kallsyms = option_copied f.kallsyms; program = option_copied f.program } };
 }
 
-impl<'a> Found<'a> {
-    fn nothing() -> Found<'a>
+impl<'a> FoundWords<'a> {
+    fn nothing() -> FoundWords<'a>
         ensures { result ≡ nothing }
     {
-        Found {
+        FoundWords {
             file: None,
             btf: None,
             kallsyms: None,
@@ -112,18 +112,18 @@ impl<'a> Found<'a> {
 
     /// Puts a text of a kind that has none yet.
     #[tactic(auto, unfolding(crate::specs::Arguments::put))]
-    fn put(self, kind: ArgumentKind, text: &'a str) -> Option<Found<'a>>
+    fn put(self, kind: ArgumentKind, text: &'a str) -> Option<FoundWords<'a>>
         ensures { result ≡ put self.entry (kind, text.entry.now) }
     {
         let text = Some(text);
         match kind {
-            ArgumentKind::File if self.file.is_none() => Some(Found { file: text, ..self }),
-            ArgumentKind::Btf if self.btf.is_none() => Some(Found { btf: text, ..self }),
-            ArgumentKind::Kallsyms if self.kallsyms.is_none() => Some(Found {
+            ArgumentKind::File if self.file.is_none() => Some(FoundWords { file: text, ..self }),
+            ArgumentKind::Btf if self.btf.is_none() => Some(FoundWords { btf: text, ..self }),
+            ArgumentKind::Kallsyms if self.kallsyms.is_none() => Some(FoundWords {
                 kallsyms: text,
                 ..self
             }),
-            ArgumentKind::Program if self.program.is_none() => Some(Found {
+            ArgumentKind::Program if self.program.is_none() => Some(FoundWords {
                 program: text,
                 ..self
             }),
@@ -133,10 +133,10 @@ impl<'a> Found<'a> {
 }
 
 /// The texts that words give.
-fn find_texts(words: &[String]) -> Option<Found<'_>>
+fn find_texts(words: &[String]) -> Option<FoundWords<'_>>
     ensures { result ≡ texts_in (map string_bytes words.now) }
 {
-    let mut found = Found::nothing();
+    let mut found = FoundWords::nothing();
     let mut waits = None;
     for word in words {
         let text = word.as_str();

@@ -13,4 +13,4 @@ pub use arguments::{Words, WordsError, read_words};
 pub use failure::{Failure, cannot_read, report};
 pub use inspect::{print_reports, run_inspect};
 pub use link::{prepare_all, print_programs, run_link};
-pub use opened::{Command, start};
+pub use opened::{OpenFiles, PlainCommand, start};
