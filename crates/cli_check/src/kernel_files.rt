@@ -6,6 +6,15 @@ use std::cmp::Ordering;
 use std::fs;
 use std::io::{self, ErrorKind};
 
+/// A kernel of the command line.
+#[derive(Drop)]
+pub struct KernelFile {
+    /// The path of its file, or of a folder that gives none.
+    pub path: Text,
+    /// The reason why the folder gives none.
+    pub fault: Option<Text>,
+}
+
 /// The number of bytes at the front that are digits, or that are none.
 fn run_length(bytes: &[u8], digits: bool) -> usize {
     bytes
@@ -97,15 +106,6 @@ fn files_in(rt: &HostRuntime, folder: &str) -> io::Result<Vec<Text>> {
     }
     paths.sort_by(|left, right| compare_names(left.as_str(), right.as_str()))?;
     Ok(paths)
-}
-
-/// A kernel of the command line.
-#[derive(Drop)]
-pub struct KernelFile {
-    /// The path of its file, or of a folder that gives none.
-    pub path: Text,
-    /// The reason why the folder gives none.
-    pub fault: Option<Text>,
 }
 
 /// Adds kernels by the paths of their files.

@@ -15,21 +15,6 @@ use ebpf_object::Object;
 use std::alloc::{AllocError, Global};
 use std::io::{self, BufWriter, Stdout, Write};
 
-/// Programs without the optional ones.
-fn without_optional(
-    alloc: Global,
-    programs: Vec<ObjectProgram>,
-) -> Result<Vec<ObjectProgram>, AllocError> {
-    let mut counted = Vec::new(alloc);
-    for program in programs {
-        if program.is_optional() {
-            continue;
-        }
-        counted.push(program)?;
-    }
-    Ok(counted)
-}
-
 /// The arguments of `ebpf check`.
 #[derive(Drop)]
 pub struct CheckWords {
@@ -45,6 +30,21 @@ pub struct CheckWords {
     pub all: bool,
     /// Whether the output is JSON.
     pub json: bool,
+}
+
+/// Programs without the optional ones.
+fn without_optional(
+    alloc: Global,
+    programs: Vec<ObjectProgram>,
+) -> Result<Vec<ObjectProgram>, AllocError> {
+    let mut counted = Vec::new(alloc);
+    for program in programs {
+        if program.is_optional() {
+            continue;
+        }
+        counted.push(program)?;
+    }
+    Ok(counted)
 }
 
 /// The programs of an object that count: those of the names or, without a name, those that aren't optional. A name that no

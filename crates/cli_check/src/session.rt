@@ -11,16 +11,6 @@ use ebpf_base::Text;
 use ebpf_btf::Btf;
 use std::alloc::{AllocError, Global};
 
-/// The exit status by the number of kernels whose types can't be read, and of those on which some program breaks.
-fn status_of(unread: usize, broken: usize) -> u8
-    ensures { result ≡ status_of unread broken }
-{
-    if unread > 0 {
-        return 2;
-    }
-    if broken > 0 { 1 } else { 0 }
-}
-
 /// The verdict on a kernel.
 #[derive(Drop)]
 pub enum Judgement {
@@ -37,6 +27,31 @@ pub struct KernelAnswer {
     pub name: Text,
     /// The verdict.
     pub answer: Judgement,
+}
+
+/// An object over the kernels so far.
+#[derive(Drop)]
+pub struct Session {
+    /// The name of the object's file.
+    pub file: Text,
+    /// Whether every kernel is named.
+    pub all: bool,
+    /// The object.
+    pub loaded: Loaded,
+    /// The kernels so far.
+    pub kernels: Vec<KernelAnswer>,
+    /// The findings over the kernels.
+    pub findings: Findings,
+}
+
+/// The exit status by the number of kernels whose types can't be read, and of those on which some program breaks.
+fn status_of(unread: usize, broken: usize) -> u8
+    ensures { result ≡ status_of unread broken }
+{
+    if unread > 0 {
+        return 2;
+    }
+    if broken > 0 { 1 } else { 0 }
 }
 
 impl KernelAnswer {
@@ -60,21 +75,6 @@ impl KernelAnswer {
             Judgement::Unread(_) => false,
         }
     }
-}
-
-/// An object over the kernels so far.
-#[derive(Drop)]
-pub struct Session {
-    /// The name of the object's file.
-    pub file: Text,
-    /// Whether every kernel is named.
-    pub all: bool,
-    /// The object.
-    pub loaded: Loaded,
-    /// The kernels so far.
-    pub kernels: Vec<KernelAnswer>,
-    /// The findings over the kernels.
-    pub findings: Findings,
 }
 
 impl Session {

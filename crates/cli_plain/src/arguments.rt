@@ -1,4 +1,4 @@
-//! The words of the command line.
+//! The arguments of the command line.
 
 ghost use Rattle.std.specs.Prelude.{◌≡◌, IfOk, IfErr, Some, None, true, map, string_bytes};
 ghost use Rattle.std.specs.Option.{option_copied};
@@ -10,7 +10,7 @@ use std::alloc::{AllocError, Global};
 use std::marker::Model;
 use thiserror::Error;
 
-/// What the words of a command line ask for.
+/// The arguments of a command line.
 #[derive(Debug, Drop)]
 pub struct Words {
     /// The object's file.
@@ -35,13 +35,13 @@ impl Words {
     }
 }
 
-/// Why words can't be read.
+/// The reason why arguments can't be read.
 #[derive(Clone, Copy, Debug, Error, PartialEq, Eq)]
 pub enum WordsError {
-    /// They are not as the usage line says.
+    /// The arguments are not as the usage line says.
     #[error("usage: FILE [--btf FILE] [--kallsyms FILE] [--program NAME]")]
     Usage,
-    /// Memory was refused.
+    /// An allocation failed.
     #[error("memory")]
     OutOfMemory,
 }
@@ -56,7 +56,7 @@ impl From<AllocError> for WordsError {
     }
 }
 
-/// What an argument is for.
+/// The kinds of argument.
 #[derive(Clone, Copy)]
 enum ArgumentKind {
     File,
@@ -83,7 +83,7 @@ fn has_dashes(word: &str) -> bool
     word.as_bytes().starts_with(b"--")
 }
 
-/// The texts that words give, lent.
+/// The texts of the arguments, lent.
 #[derive(Drop)]
 struct FoundWords<'a> {
     file: Option<&'a str>,
@@ -132,7 +132,7 @@ impl<'a> FoundWords<'a> {
     }
 }
 
-/// The texts that words give.
+/// The texts of the arguments.
 fn find_texts(words: &[String]) -> Option<FoundWords<'_>>
     ensures { result ≡ texts_in (map string_bytes words.now) }
 {
@@ -171,12 +171,12 @@ fn copied(alloc: Global, text: Option<&str>) -> Result<Option<Text>, WordsError>
     }
 }
 
-/// What the words of a command line ask for: one file, and each option at most once, in any order.
+/// Reads the arguments of a command line: one file, and each option at most once, in any order.
 ///
 /// # Errors
 ///
-/// `Usage` where there is no file or a second one, an option twice or without the word behind it, or
-/// another word that begins with `--`. `OutOfMemory` only where memory was refused.
+/// - `Usage`: there is no file or a second one, an option twice or without its value, or another word that begins with `--`.
+/// - `OutOfMemory`: an allocation failed.
 pub fn read_words(alloc: Global, words: &[String]) -> Result<Words, WordsError>
     ensures words { IfOk result (λ default_passes. parsed_words (map string_bytes words.now) ≡ Some default_passes) }
     ensures fault { Refuses is_words_memory result (words_fault (map string_bytes words.now)) }

@@ -1,4 +1,4 @@
-//! What `ebpf-inspect` does once its files are open.
+//! `ebpf-inspect` over open files.
 
 ghost use Rattle.std.specs.Prelude.{◌≡◌, ◌≤◌, ⊤, ℕ, List, true, Some, None, IfOk, IfErr, OnOk, IsSome, MatchBool, MatchOption, option_map};
 ghost use Rattle.std.specs.Io.KnownBytes.{Appends};
@@ -65,7 +65,7 @@ fn write_all<W: Write>(reports: &[ProgramReport], out: &mut W) -> Result<(), Fai
     Ok(())
 }
 
-/// Writes what is wanted: the report of the program of a name, or all.
+/// Writes the report of the program of a name, or all.
 fn write_reports<'a, W: Write>(
     reports: &[ProgramReport],
     program: Option<&'a str>,
@@ -82,7 +82,7 @@ fn write_reports<'a, W: Write>(
     }
 }
 
-/// Writes what is wanted, and hands all on.
+/// Writes the report of the program of a name, or all, and flushes the writer.
 #[tactic(auto, using(cli_common::proofs::Appending::kept))]
 fn print_listed<'a, W: Write>(
     reports: &[ProgramReport],
@@ -104,7 +104,7 @@ fn print_listed<'a, W: Write>(
     }
 }
 
-/// What the programs of an object are made of after all passes: types where the kernel's are known, descriptors of its
+/// The reports on an object's programs after all passes: types where the kernel's are known, descriptors of its
 /// own maps, externs, calls.
 fn inspect_all<K: SymbolSource>(
     alloc: Global,
@@ -134,7 +134,7 @@ fn inspect_all<K: SymbolSource>(
     }
 }
 
-/// What the programs of a file are made of after all passes.
+/// The reports on a file's programs after all passes.
 fn inspected<K: SymbolSource>(
     alloc: Global,
     file: &[u8],
@@ -155,13 +155,17 @@ fn inspected<K: SymbolSource>(
     inspect_all(alloc, object, types.as_ref(), kallsyms)
 }
 
-/// Inspects a file after all passes, and writes what the programs that are wanted are made of.
+/// Inspects a file after all passes, and writes the report of the program of a name, or all.
 ///
 /// # Errors
 ///
-/// `Btf` where the kernel's types can't be read; else `Preparing` with the first fault of preparing the file; else
-/// `NoProgram` where no program has the name. `CannotWrite` where the writer fails, `Memory` where memory was refused
-/// between the stages. But for `CannotWrite` nothing was written.
+/// - `Btf`: the kernel's types can't be read.
+/// - `Preparing`: the first fault of preparing the file.
+/// - `NoProgram`: no program has the name.
+/// - `CannotWrite`: the writer fails.
+/// - `Memory`: an allocation failed between the passes.
+///
+/// Except on `CannotWrite` nothing was written.
 #[tactic(auto, using(crate::proofs::Refusing::untouched))]
 pub fn print_reports<'a, K: SymbolSource, W: Write>(
     alloc: Global,
@@ -185,8 +189,8 @@ pub fn print_reports<'a, K: SymbolSource, W: Write>(
     }
 }
 
-/// Inspects a file and prints what its programs are made of, all in byte order of their names or the one that `words`
-/// names. What it is given, the passes and the status are those of `run_link`.
+/// Inspects a file and prints the reports on its programs, all in byte order of their names or the one that `words` names.
+/// The parameters, the passes and the status are those of `run_link`.
 pub fn run_inspect<K: SymbolSource, O: Write, E: Write>(
     alloc: Global,
     words: &Words,

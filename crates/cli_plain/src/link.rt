@@ -1,4 +1,4 @@
-//! What `ebpf-link` does once its files are open.
+//! `ebpf-link` over open files.
 
 ghost use Rattle.std.specs.Prelude.{◌≡◌, ◌≤◌, ⊤, ℕ, List, true, None, IfOk, IfErr, OnOk, IsSome, MatchBool, MatchOption, option_map};
 ghost use Rattle.std.specs.Io.KnownBytes.{Appends, Keeps};
@@ -76,7 +76,7 @@ fn write_all<W: Write>(alloc: Global, object: &Object, out: &mut W) -> Result<()
     write_each(object, &names, out)
 }
 
-/// Writes what is wanted: the program of a name, or all.
+/// Writes the program of a name, or all.
 fn write_programs<'a, W: Write>(
     alloc: Global,
     object: &Object,
@@ -94,7 +94,7 @@ fn write_programs<'a, W: Write>(
     }
 }
 
-/// Hands on all that was written.
+/// Flushes the writer.
 pub fn finish<W: Write>(out: &mut W) -> Result<(), Failure<'static>>
     ensures text { OnOk result (Keeps (W.contents out.old) (W.contents out.new)) }
     ensures refused { IfErr result (λ f. is_outside f ≡ true) }
@@ -106,7 +106,7 @@ pub fn finish<W: Write>(out: &mut W) -> Result<(), Failure<'static>>
     }
 }
 
-/// Writes what is wanted, and hands all on.
+/// Writes the program of a name, or all, and flushes the writer.
 #[tactic(auto, using(cli_common::proofs::Appending::kept))]
 fn print_object<'a, W: Write>(
     alloc: Global,
@@ -179,13 +179,17 @@ fn prepared<K: SymbolSource>(
     prepare_all(alloc, object, types.as_ref(), kallsyms)
 }
 
-/// Prepares the object of a file with all passes, and writes the programs that are wanted.
+/// Prepares the object of a file with all passes, and writes the program of a name, or all.
 ///
 /// # Errors
 ///
-/// `Btf` where the kernel's types can't be read; else `Preparing` with the first fault of preparing the file; else
-/// `NoProgram` where no program has the name. `CannotWrite` where the writer fails, `Memory` where memory was refused
-/// between the stages. But for `CannotWrite` nothing was written.
+/// - `Btf`: the kernel's types can't be read.
+/// - `Preparing`: the first fault of preparing the file.
+/// - `NoProgram`: no program has the name.
+/// - `CannotWrite`: the writer fails.
+/// - `Memory`: an allocation failed between the passes.
+///
+/// Except on `CannotWrite` nothing was written.
 #[tactic(auto, using(crate::proofs::Refusing::untouched))]
 pub fn print_programs<'a, K: SymbolSource, W: Write>(
     alloc: Global,
@@ -216,10 +220,10 @@ pub fn print_programs<'a, K: SymbolSource, W: Write>(
 }
 
 /// Prepares an object and prints its programs, all in byte order of their names or the one that `words` names.
-/// `btf` has the kernel's types, little endian, where they are known, and `kallsyms` the lines of the kernel's
-/// symbols. Functions are relocated to the types where they are known, the object's own maps have the descriptors 1 and
-/// on in byte order of their names, externs are resolved and written, and programs are linked with the functions that
-/// they reach. It gives the status: 0, or 1 with one line on `err`, the failure that `print_programs` gives.
+/// `btf` has the kernel's types, little endian, where they are known, and `kallsyms` the lines of the kernel's symbols.
+/// Functions are relocated to the types where they are known, the object's own maps have the descriptors 1, 2, .. in byte
+/// order of their names, externs are resolved and written, and programs are linked with the functions that they reach.
+/// Gives the status: 0, or 1 with one line on `err`, the failure that `print_programs` gives.
 pub fn run_link<K: SymbolSource, O: Write, E: Write>(
     alloc: Global,
     words: &Words,

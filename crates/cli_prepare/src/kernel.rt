@@ -6,6 +6,19 @@ use cli_common::refuse::{Stop, read_given, refused};
 use ebpf_base::Text;
 use ebpf_btf::{Btf, Endianness};
 
+/// A kernel, as far as it is given.
+#[derive(Drop)]
+pub struct Kernel {
+    /// The types.
+    pub types: Option<Btf>,
+    /// The text of the symbols; empty where none is given.
+    pub symbols: Vec<u8>,
+    /// The text of the configuration; empty where none is given.
+    pub config: Vec<u8>,
+    /// The number of the version.
+    pub version: Option<u32>,
+}
+
 /// A number without a sign, up to 255.
 fn byte_of(text: &str) -> Option<u8> {
     if text.starts_with('+') {
@@ -39,19 +52,6 @@ pub fn version_number(text: &str) -> Option<u32> {
     let major = u32::from(byte_of(major)?);
     let minor = u32::from(byte_of(minor)?);
     Some(major << 16 | minor << 8 | patch_of(patch)?)
-}
-
-/// A kernel, as far as it is given.
-#[derive(Drop)]
-pub struct Kernel {
-    /// The types.
-    pub types: Option<Btf>,
-    /// The text of the symbols; empty where none is given.
-    pub symbols: Vec<u8>,
-    /// The text of the configuration; empty where none is given.
-    pub config: Vec<u8>,
-    /// The number of the version.
-    pub version: Option<u32>,
 }
 
 /// The kernel's types, where a file of them is given; types that can't be read are reported.

@@ -6,6 +6,15 @@ use ebpf_model::RelocationError;
 use ebpf_object::Object;
 use ebpf_object::prepare::PrepareError;
 
+/// Which files of a kernel are given.
+#[derive(Clone, Copy)]
+pub struct GivenFiles {
+    /// Whether the types are given.
+    pub types: bool,
+    /// Whether the symbols are given.
+    pub symbols: bool,
+}
+
 /// The help on a refused CO-RE relocation.
 fn types_help(error: &CoreError) -> Option<&'static str> {
     Some(match error {
@@ -25,15 +34,6 @@ fn types_help(error: &CoreError) -> Option<&'static str> {
         | CoreError::MissingTargetDefinition { .. }
         | CoreError::OutOfMemory => return None,
     })
-}
-
-/// Which files of a kernel are given.
-#[derive(Clone, Copy)]
-pub struct GivenFiles {
-    /// Whether the types are given.
-    pub types: bool,
-    /// Whether the symbols are given.
-    pub symbols: bool,
 }
 
 /// The help on a function that isn't found.

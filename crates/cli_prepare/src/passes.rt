@@ -11,6 +11,22 @@ use ebpf_object::relocation::{
 };
 use std::alloc::{AllocError, Global};
 
+/// Linked functions by their keys, and link maps.
+#[derive(Drop)]
+struct LinkedPrograms {
+    functions: ByKey<Function>,
+    maps: Items<LinkMap>,
+}
+
+/// An object after all passes, with the link maps of programs.
+#[derive(Drop)]
+pub struct Passed {
+    /// The object.
+    pub object: Object,
+    /// The link map of each of the programs.
+    pub link_maps: Items<LinkMap>,
+}
+
 /// An object after all passes but the last: types where the kernel's are known, descriptors of its maps, externs.
 fn with_externs(alloc: Global, object: &Object, kernel: &Kernel) -> Result<Object, PrepareError> {
     let names = object.map_names(alloc)?;
@@ -20,13 +36,6 @@ fn with_externs(alloc: Global, object: &Object, kernel: &Kernel) -> Result<Objec
         ..Steps::all_with(kernel.types.as_ref(), &descriptors)
     };
     prepare_copy(alloc, object, &steps, SymbolText(&kernel.symbols))
-}
-
-/// Linked functions by their keys, and link maps.
-#[derive(Drop)]
-struct LinkedPrograms {
-    functions: ByKey<Function>,
-    maps: Items<LinkMap>,
 }
 
 /// Adds a linked program, and its link map where it is the next of the chosen ones.
@@ -81,15 +90,6 @@ fn link_all(
     let linked = linked_programs(alloc, object, chosen)?;
     take_places(&mut object.functions, linked.functions);
     Ok(linked.maps)
-}
-
-/// An object after all passes, with the link maps of programs.
-#[derive(Drop)]
-pub struct Passed {
-    /// The object.
-    pub object: Object,
-    /// The link map of each of the programs.
-    pub link_maps: Items<LinkMap>,
 }
 
 /// An object after all passes: types where the kernel's are known, descriptors of its maps, externs, calls; with the link maps

@@ -41,6 +41,21 @@ pub struct PrepareWords {
     pub json: bool,
 }
 
+/// A prepared object, with its parts before and after the passes.
+#[derive(Drop)]
+pub struct Prepared {
+    /// The object as it was parsed, with the externs defined that the kernel's configuration gives: no pass was made over it.
+    pub parsed: Object,
+    /// The object after all passes.
+    pub object: Object,
+    /// The programs that are chosen, or all, in byte order of their names.
+    pub programs: Vec<ObjectProgram>,
+    /// The link map of each of them, in the same order: copies of functions, and the references between these.
+    pub link_maps: Items<LinkMap>,
+    /// The kernel's types, where they are given.
+    pub types: Option<Btf>,
+}
+
 /// A copy of an object after all passes: types where the kernel's are known, descriptors of its maps, 1 and on in byte order
 /// of their names, externs, calls.
 ///
@@ -69,21 +84,6 @@ pub fn finished_object(
         &Steps::all_with(types, &descriptors),
         SymbolText(&kernel.symbols),
     )
-}
-
-/// A prepared object, with its parts before and after the passes.
-#[derive(Drop)]
-pub struct Prepared {
-    /// The object as it was parsed, with the externs defined that the kernel's configuration gives: no pass was made over it.
-    pub parsed: Object,
-    /// The object after all passes.
-    pub object: Object,
-    /// The programs that are chosen, or all, in byte order of their names.
-    pub programs: Vec<ObjectProgram>,
-    /// The link map of each of them, in the same order: copies of functions, and the references between these.
-    pub link_maps: Items<LinkMap>,
-    /// The kernel's types, where they are given.
-    pub types: Option<Btf>,
 }
 
 /// An object after all passes; the refusal of a pass is reported.

@@ -3,6 +3,15 @@
 use ebpf_model::{EbpfRelocationError, Function, RelocationError, Symbol};
 use ebpf_object::Object;
 
+/// The target of a refused relocation.
+#[derive(Clone, Copy)]
+enum RefusedTarget<'a> {
+    /// The symbol of an index.
+    Symbol(usize),
+    /// An extern of a name.
+    Extern(&'a str),
+}
+
 /// The function of a name, where one alone has it.
 fn function_named<'a>(object: &'a Object, name: &str) -> Option<&'a Function> {
     let mut found = None;
@@ -27,15 +36,6 @@ fn slot_at(function: &Function, offset: u64) -> Option<usize> {
     } else {
         None
     }
-}
-
-/// The target of a refused relocation.
-#[derive(Clone, Copy)]
-enum RefusedTarget<'a> {
-    /// The symbol of an index.
-    Symbol(usize),
-    /// An extern of a name.
-    Extern(&'a str),
 }
 
 impl RefusedTarget<'_> {

@@ -26,7 +26,7 @@ enum Called {
 }
 
 /// The callee of an instruction that calls by a number; none of a poisoned one.
-fn called_by(instruction: bpf_insn) -> Option<Called> {
+fn callee_of(instruction: bpf_insn) -> Option<Called> {
     if instruction.code != CALL || instruction.src_reg() != 0 {
         return None;
     }
@@ -41,8 +41,8 @@ fn called_by(instruction: bpf_insn) -> Option<Called> {
 }
 
 /// The call of a reached slot that the kernel can't do.
-fn lacking_at(answers: &Answers<'_>, slot: SlotRef<'_>) -> Option<Called> {
-    let called = called_by(slot.instruction()?)?;
+fn lacking_call_at(answers: &Answers<'_>, slot: SlotRef<'_>) -> Option<Called> {
+    let called = callee_of(slot.instruction()?)?;
     if !slot.is_reached() {
         return None;
     }
@@ -98,7 +98,7 @@ impl Judge<'_> {
     /// Judges the call of a slot by a number; whether the program breaks by it.
     pub fn judge_call(&mut self, slot: SlotRef<'_>) -> Result<bool, AllocError> {
         let (alloc, answers) = (self.alloc, self.answers);
-        let Some(called) = lacking_at(answers, slot) else {
+        let Some(called) = lacking_call_at(answers, slot) else {
             return Ok(false);
         };
         let object = &answers.loaded.object;

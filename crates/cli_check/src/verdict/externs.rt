@@ -42,7 +42,7 @@ enum ExternAnswer {
 }
 
 /// An extern that a kernel has, by its id.
-fn resolved(known: ExternDesc, id: u32) -> ExternDesc {
+fn extern_with_id(known: ExternDesc, id: u32) -> ExternDesc {
     ExternDesc {
         kernel_btf_id: Some(id),
         is_resolved: true,
@@ -51,7 +51,7 @@ fn resolved(known: ExternDesc, id: u32) -> ExternDesc {
 }
 
 /// An extern that a kernel lacks and may lack.
-fn left_out(known: ExternDesc) -> ExternDesc {
+fn absent_extern(known: ExternDesc) -> ExternDesc {
     ExternDesc {
         ksym_addr: Some(0),
         ..known
@@ -134,7 +134,7 @@ fn lack(
     answer: &ExternAnswer,
 ) -> Result<ExternDesc, AllocError> {
     if known.is_weak && !matches!(answer, ExternAnswer::Unreadable(_)) {
-        return Ok(left_out(known));
+        return Ok(absent_extern(known));
     }
     lacking.push(Lacking {
         name: Text::from_str(alloc, name)?,
@@ -152,7 +152,7 @@ fn written_as(
     answer: &ExternAnswer,
 ) -> Result<ExternDesc, AllocError> {
     match answer {
-        ExternAnswer::Found(id) => Ok(resolved(known, *id)),
+        ExternAnswer::Found(id) => Ok(extern_with_id(known, *id)),
         ExternAnswer::Unreadable(BtfError::OutOfMemory) => Err(AllocError),
         _ => lack(alloc, lacking, name, known, answer),
     }

@@ -49,7 +49,7 @@ fn sentence(alloc: Global, object: &Object, error: &PrepareError) -> Result<Stri
 /// # Errors
 ///
 /// `AllocError`: an allocation failed, in the pass or for the sentence.
-fn explained(
+fn refusal_text(
     alloc: Global,
     object: &Object,
     error: PrepareError,
@@ -105,7 +105,7 @@ pub fn written_object(
     match write_passes(alloc, &mut object, &loaded.object) {
         Ok(()) => Ok(Ok(object)),
         Err(error) => {
-            let sentence = explained(alloc, &object, error);
+            let sentence = refusal_text(alloc, &object, error);
             drop(object);
             Ok(Err(sentence?))
         }
@@ -123,7 +123,7 @@ fn key_of(program: &ObjectProgram) -> ProgramKey<'_> {
 
 /// The reached slots of a function. Nothing is stated of it, so that what calls this isn't proved over all that is stated of
 /// walks.
-fn reached_of(alloc: Global, function: &Function) -> Result<Items<bool>, AllocError> {
+fn reached_slots_of(alloc: Global, function: &Function) -> Result<Items<bool>, AllocError> {
     reached_slots(alloc, function.instructions.as_slice())
 }
 
@@ -153,7 +153,7 @@ impl<'a> JudgedProgram<'a> {
             number,
             function,
             copies: linked.map.copies.as_slice(),
-            reached: reached_of(alloc, function)?,
+            reached: reached_slots_of(alloc, function)?,
             lines: Lines::new(alloc, function)?,
         })
     }
@@ -250,7 +250,7 @@ impl<'a> Linker<'a> {
         match functions.linked_with_map(alloc, &key_of(program)) {
             Ok(linked) => Ok(Ok(linked)),
             Err(error) if is_memory(&error) => Err(AllocError),
-            Err(error) => Ok(Err(explained(alloc, self.object, PrepareError::Calls(error))?)),
+            Err(error) => Ok(Err(refusal_text(alloc, self.object, PrepareError::Calls(error))?)),
         }
     }
 }

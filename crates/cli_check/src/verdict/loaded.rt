@@ -20,6 +20,30 @@ pub struct Record {
     pub own: Option<u64>,
 }
 
+/// The needs of an object.
+#[derive(Drop)]
+pub struct Needs {
+    /// The programs that count, in byte order of their names.
+    pub programs: Vec<ObjectProgram>,
+    /// The CO-RE relocations, section by section and in order.
+    pub records: Vec<Record>,
+    /// The maps that functions use, by the functions' keys.
+    pub map_uses: ByKey<Items<MapUse>>,
+    /// The externs with a type.
+    pub typed: ByName<ExternDesc>,
+    /// The names of the externs that the kernel's configuration gives.
+    pub settings: Items<Text>,
+}
+
+/// An object with its needs.
+#[derive(Drop)]
+pub struct Loaded {
+    /// The object, parsed leniently.
+    pub object: Object,
+    /// The needs of the object.
+    pub needs: Needs,
+}
+
 /// Adds the CO-RE relocations of a section.
 fn add_records(
     alloc: Global,
@@ -62,21 +86,6 @@ fn typed_externs(alloc: Global, object: &Object) -> Result<ByName<ExternDesc>, A
     Ok(typed)
 }
 
-/// The needs of an object.
-#[derive(Drop)]
-pub struct Needs {
-    /// The programs that count, in byte order of their names.
-    pub programs: Vec<ObjectProgram>,
-    /// The CO-RE relocations, section by section and in order.
-    pub records: Vec<Record>,
-    /// The maps that functions use, by the functions' keys.
-    pub map_uses: ByKey<Items<MapUse>>,
-    /// The externs with a type.
-    pub typed: ByName<ExternDesc>,
-    /// The names of the externs that the kernel's configuration gives.
-    pub settings: Items<Text>,
-}
-
 impl Needs {
     /// The needs of an object, of which these programs count; `all` says whether each value that a kernel may change is
     /// reported. It borrows the object: each way out of a function is proved to drop what it holds.
@@ -98,13 +107,4 @@ impl Needs {
             settings,
         })
     }
-}
-
-/// An object with its needs.
-#[derive(Drop)]
-pub struct Loaded {
-    /// The object, parsed leniently.
-    pub object: Object,
-    /// The needs of the object.
-    pub needs: Needs,
 }

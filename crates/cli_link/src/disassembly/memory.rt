@@ -14,7 +14,7 @@ use std::fmt;
 pub enum MemoryLoad {
     /// A number of 64 bits: `r1 = 0x7 ll`.
     Wide(Register, Number),
-    /// What a number stands for: `ld_pseudo r1, 0x1, 0x7`, with a tab.
+    /// A pseudo number: `ld_pseudo r1, 0x1, 0x7`, with a tab.
     Pseudo(Register, u8, u32),
     /// Bytes of a packet: `r0 = *(u32 *)skb[0x7]`.
     Packet(&'static str, Operand),
@@ -31,12 +31,12 @@ pub enum Memory {
     Atomic(Atomic),
 }
 
-/// What an atomic operation does.
+/// The kinds of atomic operation.
 #[derive(Clone, Copy)]
 enum Action {
     /// It changes memory: `lock *(u64 *)(r1 + 0x8) |= r2`.
     Change(&'static str),
-    /// It changes memory and gives what was there: `r2 = atomic_fetch_or((u64 *)(r1 + 0x8), r2)`.
+    /// A change of memory that gives the old value: `r2 = atomic_fetch_or((u64 *)(r1 + 0x8), r2)`.
     Fetch(&'static str),
     /// It exchanges memory and a register: `r2 = xchg_64(r1 + 0x8, r2)`.
     Exchange(&'static str),
@@ -119,7 +119,7 @@ pub fn decode_store(instruction: bpf_insn) -> Option<Memory> {
     }
 }
 
-/// What an atomic operation of 32 bits, where it is half a register's, or of 64 does.
+/// The kind of an atomic operation of 32 bits, where it is half a register's, or of 64.
 fn action_of(operation: i32, is_half: bool) -> Option<Action> {
     let result = Register::of(Register::RESULT, is_half)?;
     match (operation, is_half) {
