@@ -2,265 +2,163 @@
 
 use crate::session::{Judgement, KernelAnswer, Session};
 use crate::verdict::findings::{Finding, FindingKey, Severity, SourceLocation};
+use cli_common::json::{JsonWriter, write_document};
 use cli_common::kinds::Kind;
-use cli_common::names::{Quoted, separate, write_value};
-use ebpf_base::Text;
-use std::collections::{BTreeMap, BTreeSet};
 use std::io::{self, Write};
 
-/// Writes the programs that count.
-fn write_programs<W: Write>(out: &mut W, session: &Session) -> io::Result<()> {
-    write!(out, "\"programs\":[")?;
-    for (number, program) in session.loaded.needs.programs.iter().enumerate() {
-        separate(out, number == 0)?;
-        let name = Quoted(program.name.as_str());
-        let section = Quoted(program.section.as_str());
-        write!(out, "{{\"name\":{name},\"section\":{section}}}")?;
-    }
-    write!(out, "]")
-}
-
-/// Writes the names of the programs that break on a kernel.
-fn write_breaking<W: Write>(
-    out: &mut W,
+/// Writes a kernel: the names of the programs that break on it, or why its types can't be read.
+fn write_kernel<W: Write>(
+    json: &mut JsonWriter<'_, W>,
     session: &Session,
     kernel: &KernelAnswer,
 ) -> io::Result<()> {
-    let mut is_first = true;
-    write!(out, "\"breaks\":[")?;
-    for (number, program) in session.loaded.needs.programs.iter().enumerate() {
-        if !kernel.breaks(number) {
-            continue;
-        }
-        separate(out, is_first)?;
-        is_first = false;
-        let name = Quoted(program.name.as_str());
-        write!(out, "{name}")?;
-    }
-    write!(out, "]")
-}
-
-/// Writes a kernel.
-fn write_kernel<W: Write>(out: &mut W, session: &Session, kernel: &KernelAnswer) -> io::Result<()> {
-    let name = Quoted(kernel.name.as_str());
-    write!(out, "{{\"name\":{name},")?;
+    json.member("name", kernel.name.as_str())?;
     match &kernel.answer {
-        Judgement::Judged(_) => write_breaking(out, session, kernel)?,
-        Judgement::Unread(refusal) => {
-            let sentence = Quoted(refusal.text.as_str());
-            write!(out, "\"error\":{sentence}")?;
+        Judgement::Judged(_) => json.array("breaks", |json| {
+            for (number, program) in session.loaded.needs.programs.iter().enumerate() {
+                if kernel.breaks(number) {
+                    json.value(program.name.as_str())?;
+                }
+            }
+            Ok(())
+        }),
+        Judgement::Unread(refusal) => json.member("error", refusal.text.as_str()),
+    }
+}
+
+/// Writes the names of the kernels of these numbers.
+fn write_names<W: Write>(
+    json: &mut JsonWriter<'_, W>,
+    session: &Session,
+    kernels: &[usize],
+) -> io::Result<()> {
+    json.array("kernels", |json| {
+        for number in kernels {
+            if let Some(kernel) = session.kernels.get(*number) {
+                json.value(kernel.name.as_str())?;
+            }
         }
-    }
-    write!(out, "}}")
-}
-
-/// Writes the kernels in their order.
-fn write_kernels<W: Write>(out: &mut W, session: &Session) -> io::Result<()> {
-    write!(out, "\"kernels\":[")?;
-    for (number, kernel) in session.kernels.iter().enumerate() {
-        separate(out, number == 0)?;
-        write_kernel(out, session, kernel)?;
-    }
-    write!(out, "]")
-}
-
-/// Writes the names of kernels.
-fn write_names<W: Write>(out: &mut W, session: &Session, kernels: &[usize]) -> io::Result<()> {
-    write!(out, "\"kernels\":[")?;
-    for (at, number) in kernels.iter().enumerate() {
-        separate(out, at == 0)?;
-        if let Some(kernel) = session.kernels.get(*number) {
-            let name = Quoted(kernel.name.as_str());
-            write!(out, "{name}")?;
-        }
-    }
-    write!(out, "]")
-}
-
-/// Writes a source line.
-fn write_line<W: Write>(out: &mut W, line: &Option<(Text, u32)>) -> io::Result<()> {
-    if let Some((file, line)) = line {
-        let file = Quoted(file.as_str());
-        write!(out, "\"file\":{file},\"line\":{line},")?;
-    }
-    Ok(())
+        Ok(())
+    })
 }
 
 /// Writes a place.
 fn write_place<W: Write>(
-    out: &mut W,
+    json: &mut JsonWriter<'_, W>,
     session: &Session,
-    at: (usize, Option<usize>),
     place: &SourceLocation,
 ) -> io::Result<()> {
-    let name = match session.loaded.needs.programs.get(at.0) {
+    let program = match session.loaded.needs.programs.get(place.program) {
         Some(program) => program.name.as_str(),
         None => "",
     };
-    let name = Quoted(name);
-    write!(out, "{{\"program\":{name},")?;
-    if let Some(slot) = at.1 {
-        write!(out, "\"slot\":{slot},")?;
+    json.member("program", program)?;
+    if let Some(slot) = place.slot {
+        json.member("slot", slot)?;
     }
     if let Some((function, slot)) = &place.within {
-        let function = Quoted(function.as_str());
-        write!(out, "\"function\":{function},\"function_slot\":{slot},")?;
+        json.member("function", function.as_str())?;
+        json.member("function_slot", *slot)?;
     }
-    write_line(out, &place.line)?;
-    write_names(out, session, &place.kernels)?;
-    write!(out, "}}")
-}
-
-/// Writes places.
-fn write_places<W: Write>(
-    out: &mut W,
-    session: &Session,
-    places: &BTreeMap<(usize, Option<usize>), SourceLocation>,
-) -> io::Result<()> {
-    let mut is_first = true;
-    write!(out, "\"places\":[")?;
-    for (at, place) in places.iter() {
-        separate(out, is_first)?;
-        is_first = false;
-        write_place(out, session, *at, place)?;
+    if let Some((file, line)) = &place.line {
+        json.member("file", file.as_str())?;
+        json.member("line", *line)?;
     }
-    write!(out, "]")
+    write_names(json, session, &place.kernels)
 }
 
-/// Writes what a finding is about, and what is asked of it.
-fn write_topic<W: Write>(out: &mut W, topic: &FindingKey, kind: Kind) -> io::Result<()> {
-    let name = Quoted(topic.name.as_str());
-    let kind = kind.word();
-    write!(out, "{{\"name\":{name},\"kind\":\"{kind}\",")
-}
-
-/// Writes all that is asked.
-fn write_kinds<W: Write>(out: &mut W, kinds: &BTreeSet<Kind>) -> io::Result<()> {
-    let mut is_first = true;
-    write!(out, "\"kinds\":[")?;
-    for kind in kinds.iter() {
-        separate(out, is_first)?;
-        is_first = false;
-        let kind = kind.word();
-        write!(out, "\"{kind}\"")?;
-    }
-    write!(out, "]")
-}
-
-/// Writes what a finding is about, and all that is asked of it, the first also by itself.
-fn write_asked<W: Write>(
-    out: &mut W,
+/// Writes the subject of a finding, and what is asked of it.
+fn write_topic<W: Write>(
+    json: &mut JsonWriter<'_, W>,
     topic: &FindingKey,
-    kinds: &BTreeSet<Kind>,
+    kind: Kind,
 ) -> io::Result<()> {
-    let kind = kinds.first().copied().unwrap_or(topic.kind);
-    write_topic(out, topic, kind)?;
-    write_kinds(out, kinds)
+    json.member("name", topic.name.as_str())?;
+    json.member("kind", kind.word())
 }
 
-/// Writes what is absent or refused.
+/// Writes what is absent or refused, with all that is asked of it, the first also by itself.
 fn write_found<W: Write>(
-    out: &mut W,
+    json: &mut JsonWriter<'_, W>,
     session: &Session,
     topic: &FindingKey,
     found: &Finding,
 ) -> io::Result<()> {
-    write_asked(out, topic, &found.kinds)?;
-    let reason = Quoted(topic.reason.as_str());
-    write!(out, ",\"reason\":{reason},")?;
-    write_names(out, session, &found.kernels)?;
-    write!(out, ",")?;
-    write_places(out, session, &found.places)?;
-    write!(out, "}}")
+    let kind = found.kinds.first().copied().unwrap_or(topic.kind);
+    write_topic(json, topic, kind)?;
+    json.values("kinds", found.kinds.iter().map(|kind| kind.word()))?;
+    json.member("reason", topic.reason.as_str())?;
+    write_names(json, session, &found.kernels)?;
+    json.objects("places", found.places.values(), |json, place| {
+        write_place(json, session, place)
+    })
 }
 
-/// Writes the values that kernels give.
-fn write_values<W: Write>(
-    out: &mut W,
-    session: &Session,
+/// Writes a value, which may have a sign.
+fn write_value<W: Write>(
+    json: &mut JsonWriter<'_, W>,
+    key: &str,
     is_signed: bool,
-    values: &BTreeMap<u64, Vec<usize>>,
+    value: u64,
 ) -> io::Result<()> {
-    let mut is_first = true;
-    write!(out, "\"values\":[")?;
-    for (value, kernels) in values.iter() {
-        separate(out, is_first)?;
-        is_first = false;
-        write!(out, "{{\"value\":")?;
-        write_value(out, is_signed, *value)?;
-        write!(out, ",")?;
-        write_names(out, session, kernels)?;
-        write!(out, "}}")?;
+    if is_signed {
+        json.member(key, value.cast_signed())
+    } else {
+        json.member(key, value)
     }
-    write!(out, "]")
 }
 
-/// Writes what has other values.
+/// Writes what has other values than in the object.
 fn write_changed<W: Write>(
-    out: &mut W,
+    json: &mut JsonWriter<'_, W>,
     session: &Session,
     topic: &FindingKey,
     found: &Finding,
 ) -> io::Result<()> {
-    write_topic(out, topic, topic.kind)?;
+    write_topic(json, topic, topic.kind)?;
     if let Some(own) = found.own {
-        write!(out, "\"own\":")?;
-        write_value(out, topic.is_signed, own)?;
-        write!(out, ",")?;
+        write_value(json, "own", topic.is_signed, own)?;
     }
-    write_values(out, session, topic.is_signed, &found.values)?;
-    write!(out, "}}")
+    json.objects("values", found.values.iter(), |json, (value, kernels)| {
+        write_value(json, "value", topic.is_signed, *value)?;
+        write_names(json, session, kernels)
+    })
 }
 
-/// Writes the findings of a rank.
-fn write_rank<W: Write>(
-    out: &mut W,
+/// Writes the findings of a severity.
+fn write_severity<W: Write>(
+    json: &mut JsonWriter<'_, W>,
     session: &Session,
     key: &str,
-    rank: Severity,
+    severity: Severity,
 ) -> io::Result<()> {
-    let mut is_first = true;
-    write!(out, "\"{key}\":[")?;
-    for (topic, found) in session.findings.by_key.iter() {
-        if topic.severity != rank {
-            continue;
-        }
-        separate(out, is_first)?;
-        is_first = false;
-        match rank {
-            Severity::Changed => write_changed(out, session, topic, found)?,
-            _ => write_found(out, session, topic, found)?,
-        }
-    }
-    write!(out, "]")
+    let findings = session
+        .findings
+        .by_key
+        .iter()
+        .filter(|(topic, _)| topic.severity == severity);
+    json.objects(key, findings, |json, (topic, found)| match severity {
+        Severity::Changed => write_changed(json, session, topic, found),
+        _ => write_found(json, session, topic, found),
+    })
 }
 
-/// Writes the settings of the kernel that the object asks for.
-fn write_settings<W: Write>(out: &mut W, session: &Session) -> io::Result<()> {
-    write!(out, "\"kconfig\":[")?;
-    for (number, name) in session.loaded.needs.settings.iter().enumerate() {
-        separate(out, number == 0)?;
-        let name = Quoted(name.as_str());
-        write!(out, "{name}")?;
-    }
-    write!(out, "]")
-}
-
-/// Writes all that is known as one JSON object, on one line.
+/// Writes the findings over all kernels as one JSON object, on one line.
 pub fn write_json<W: Write>(out: &mut W, session: &Session) -> io::Result<()> {
-    let file = Quoted(session.file.as_str());
-    let status = session.status();
-    write!(out, "{{\"version\":2,\"file\":{file},\"status\":{status},")?;
-    write_programs(out, session)?;
-    write!(out, ",")?;
-    write_kernels(out, session)?;
-    write!(out, ",")?;
-    write_rank(out, session, "breaks", Severity::Breaks)?;
-    write!(out, ",")?;
-    write_rank(out, session, "guarded", Severity::Guarded)?;
-    write!(out, ",")?;
-    write_rank(out, session, "changed", Severity::Changed)?;
-    write!(out, ",")?;
-    write_settings(out, session)?;
-    writeln!(out, "}}")
+    let needs = &session.loaded.needs;
+    write_document(out, |json| {
+        json.member("file", session.file.as_str())?;
+        json.member("status", u32::from(session.status()))?;
+        json.objects("programs", needs.programs.iter(), |json, program| {
+            json.member("name", program.name.as_str())?;
+            json.member("section", program.section.as_str())
+        })?;
+        json.objects("kernels", session.kernels.iter(), |json, kernel| {
+            write_kernel(json, session, kernel)
+        })?;
+        write_severity(json, session, "breaks", Severity::Breaks)?;
+        write_severity(json, session, "guarded", Severity::Guarded)?;
+        write_severity(json, session, "changed", Severity::Changed)?;
+        json.values("kconfig", needs.settings.iter().map(|name| name.as_str()))
+    })
 }

@@ -4,6 +4,7 @@ ghost use Rattle.std.specs.Prelude.{◌≡◌, IfOk};
 ghost use Rattle.ebpf_base.specs.Maps.{map_values};
 ghost use Rattle.cli_common.specs.HelperCalls.{helper_called, helper_set, helpers_called, set_of};
 
+use crate::json::{JsonValue, JsonWriter};
 use ebpf_base::ByKey;
 use ebpf_model::Function;
 use ebpf_object::Object;
@@ -11,6 +12,7 @@ use ebpf_parts::insn::bpf_insn;
 use ebpf_parts::insn::opcodes::CALL;
 use std::alloc::{AllocError, Global};
 use std::collections::BTreeSet;
+use std::io::{self, Write};
 
 /// The kernel's names of its helper functions, without `bpf_`, in the order of their numbers, from 0 (`enum bpf_func_id` of
 /// linux/bpf.h, which is complete since 6.2).
@@ -52,6 +54,22 @@ const NAMES: &str =
 /// The name of the helper function of a number, without `bpf_`.
 pub fn helper_name(number: u32) -> Option<&'static str> {
     NAMES.split(' ').nth(number as usize)
+}
+
+/// The kernel's name of a helper function, printed with `bpf_`.
+#[derive(Clone, Copy)]
+struct KernelName(&'static str);
+
+impl JsonValue for KernelName {
+    fn write_json<W: Write>(&self, out: &mut W) -> io::Result<()> {
+        write!(out, "\"bpf_{}\"", self.0)
+    }
+}
+
+/// Writes the number and the name of a helper function, as members of a JSON object.
+pub fn write_helper<W: Write>(json: &mut JsonWriter<'_, W>, number: u32) -> io::Result<()> {
+    json.member("number", number)?;
+    json.member("name", helper_name(number).map(KernelName))
 }
 
 /// The helper function that an instruction calls.

@@ -4,6 +4,7 @@
 pub mod compressed;
 pub mod embedded;
 pub mod helper_calls;
+pub mod json;
 pub mod kernel_types;
 pub mod kinds;
 mod machines;

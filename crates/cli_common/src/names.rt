@@ -15,13 +15,9 @@ use std::io::{self, Write};
 #[derive(Clone, Copy)]
 pub struct Shown<'a>(pub &'a str);
 
-/// A text as JSON has it, between quotes.
-#[derive(Clone, Copy)]
-pub struct Quoted<'a>(pub &'a str);
-
 /// Whether a character speaks to a terminal: the controls, the marks and overrides of a line's direction, and the two
 /// separators of lines.
-fn speaks(c: char) -> bool
+pub fn speaks(c: char) -> bool
     ensures { result ≡ speaks c }
 {
     matches!(
@@ -98,40 +94,12 @@ impl fmt::Display for Shown<'_> {
     }
 }
 
-/// Writes a character of a JSON text.
-fn write_quoted<W: fmt::Write>(f: &mut fmt::Formatter<W>, c: char) -> fmt::Result {
-    if c == '"' || c == '\\' {
-        f.write_char('\\')?;
-        return f.write_char(c);
-    }
-    if speaks(c) {
-        let code = u32::from(c);
-        return write!(f, "\\u{code:04x}");
-    }
-    f.write_char(c)
-}
-
-impl fmt::Display for Quoted<'_> {
-    fn fmt<W: fmt::Write>(&self, f: &mut fmt::Formatter<W>) -> fmt::Result {
-        f.write_char('"')?;
-        for c in self.0.chars() {
-            write_quoted(f, c)?;
-        }
-        f.write_char('"')
-    }
-}
-
 /// What stands behind the last slash of a path.
 pub fn last_part(path: &str) -> &str {
     match path.rsplit_once('/') {
         Some((_, last)) => last,
         None => path,
     }
-}
-
-/// Writes a comma before all but the first of a list.
-pub fn separate<W: Write>(out: &mut W, is_first: bool) -> io::Result<()> {
-    if is_first { Ok(()) } else { write!(out, ",") }
 }
 
 /// Writes a value, which may have a sign.

@@ -3,12 +3,15 @@
 ghost use Rattle.std.specs.Prelude.{◌≡◌, map, IfOk};
 ghost use Rattle.cli_common.specs.ObjectPrograms.{program_row, program_rows};
 
+use crate::json::JsonWriter;
+use crate::types::program_type_name;
 use ebpf_base::Text;
 use ebpf_elf::ElfFile;
 use ebpf_model::Program;
 use ebpf_object::Object;
 use std::alloc::{AllocError, Global};
 use std::collections::BTreeMap;
+use std::io::{self, Write};
 
 /// A program of an object.
 #[derive(Drop)]
@@ -25,6 +28,14 @@ impl ObjectProgram {
     /// Whether it is loaded only where someone asks for it, as the `?` before its section's name says.
     pub fn is_optional(&self) -> bool {
         self.section.as_str().starts_with('?')
+    }
+
+    /// Writes the program's name, section and type, as members of a JSON object.
+    pub fn write_json<W: Write>(&self, json: &mut JsonWriter<'_, W>) -> io::Result<()> {
+        let section = self.section.as_str();
+        json.member("name", self.name.as_str())?;
+        json.member("section", section)?;
+        json.member("type", program_type_name(section))
     }
 }
 

@@ -1,8 +1,10 @@
 //! Why a file is refused, in words.
 
-use crate::names::{Quoted, Shown};
+use crate::json::write_document;
+use crate::names::Shown;
 use std::alloc::{AllocError, Global};
 use std::fmt;
+use std::io::{self, Write};
 
 /// The stage at which files are read, and what is asked of them is looked for.
 pub const READING: &str = "file";
@@ -53,29 +55,16 @@ impl fmt::Display for RefusalLines<'_> {
     }
 }
 
-/// A refusal of a file as JSON.
-#[derive(Clone, Copy)]
-pub struct RefusalObject<'a> {
-    /// The file.
-    pub path: &'a str,
-    /// Why it is refused.
-    pub refusal: &'a Refusal,
-}
-
-impl fmt::Display for RefusalObject<'_> {
-    fn fmt<W: fmt::Write>(&self, f: &mut fmt::Formatter<W>) -> fmt::Result {
-        let refusal = self.refusal;
-        let (stage, variant) = (refusal.stage, refusal.variant);
-        let (path, text) = (Quoted(self.path), Quoted(refusal.text.as_str()));
-        write!(f, "{{\"version\":2,\"error\":{{\"file\":{path}")?;
-        write!(f, ",\"stage\":\"{stage}\",\"variant\":\"{variant}\"")?;
-        write!(f, ",\"text\":{text},\"help\":")?;
-        match &refusal.help {
-            Some(help) => {
-                let help = Quoted(help.as_str());
-                write!(f, "{help}}}}}")
-            }
-            None => write!(f, "null}}}}"),
-        }
-    }
+/// Writes a refusal of a file as one JSON object, on one line.
+pub fn write_refusal<W: Write>(out: &mut W, path: &str, refusal: &Refusal) -> io::Result<()> {
+    write_document(out, |json| {
+        json.key("error")?;
+        json.object(|json| {
+            json.member("file", path)?;
+            json.member("stage", refusal.stage)?;
+            json.member("variant", refusal.variant)?;
+            json.member("text", refusal.text.as_str())?;
+            json.member("help", refusal.help.as_ref().map(|help| help.as_str()))
+        })
+    })
 }

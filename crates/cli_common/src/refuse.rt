@@ -4,14 +4,14 @@ use crate::compressed::Compression;
 use crate::object_file::read_file;
 use crate::parse_help::parse_help;
 use crate::programs::{ObjectProgram, object_programs};
-use crate::refusal::{READING, Refusal, RefusalLines, RefusalObject, help_of};
+use crate::refusal::{READING, Refusal, RefusalLines, help_of, write_refusal};
 use crate::variants::variant_of_parsing;
 use ebpf_base::Text;
 use ebpf_object::Object;
 use ebpf_object::obj::ExplainedParse;
 use ebpf_parts::ParseError;
 use std::alloc::{AllocError, Global};
-use std::io::{self, ErrorKind};
+use std::io::{self, BufWriter, ErrorKind, Write};
 
 /// Tells a refusal of a file on standard error.
 pub fn tell(rt: &HostRuntime, path: &str, refusal: &Refusal) {
@@ -19,14 +19,21 @@ pub fn tell(rt: &HostRuntime, path: &str, refusal: &Refusal) {
     let _ = eprintln!(rt; "{lines}");
 }
 
+/// Prints a refusal of a file as JSON.
+fn print_refusal(rt: &HostRuntime, path: &str, refusal: &Refusal) -> io::Result<()> {
+    let mut out = BufWriter::new(rt.alloc(), rt.stdout())?;
+    write_refusal(&mut out, path, refusal)?;
+    out.flush()
+}
+
 /// Tells a refusal of a file, as JSON on standard output too where that is asked for; why the work ends, with this status.
 pub fn refused(rt: &HostRuntime, json: bool, path: &str, refusal: &Refusal, status: u8) -> Stop {
     tell(rt, path, refusal);
-    if !json {
-        return Stop::Told(status);
-    }
-    let object = RefusalObject { path, refusal };
-    match println!(rt; "{object}") {
+    match if json {
+        print_refusal(rt, path, refusal)
+    } else {
+        Ok(())
+    } {
         Ok(()) => Stop::Told(status),
         Err(error) => Stop::Output(error),
     }

@@ -2,155 +2,79 @@
 
 use crate::parts::{CHAIN, FUNCTIONS, MAPS, ProgramParts, SLOTS};
 use crate::text::reference_word;
-use cli_common::helper_calls::helper_name;
-use cli_common::names::{Quoted, separate};
-use cli_common::programs::ObjectProgram;
-use cli_common::types::program_type_name;
+use cli_common::helper_calls::write_helper;
+use cli_common::json::{JsonWriter, write_document};
 use ebpf_object::relocation::{CodeCopy, Reference};
-use std::collections::BTreeSet;
 use std::io::{self, Write};
 
 /// Writes the kernel's limits.
-fn write_limits<W: Write>(out: &mut W) -> io::Result<()> {
-    write!(
-        out,
-        "\"limits\":{{\"slots\":{SLOTS},\"functions\":{FUNCTIONS},\"call_chain\":{CHAIN},\"maps\":{MAPS}}}"
-    )
+fn write_limits<W: Write>(json: &mut JsonWriter<'_, W>) -> io::Result<()> {
+    json.key("limits")?;
+    json.object(|json| {
+        json.member("slots", SLOTS)?;
+        json.member("functions", FUNCTIONS)?;
+        json.member("call_chain", CHAIN)?;
+        json.member("maps", MAPS)
+    })
 }
 
-/// Writes a program's names.
-fn write_names<W: Write>(out: &mut W, program: &ObjectProgram) -> io::Result<()> {
-    let name = Quoted(program.name.as_str());
-    let section = program.section.as_str();
-    let quoted = Quoted(section);
-    write!(out, "\"name\":{name},\"section\":{quoted},\"type\":")?;
-    match program_type_name(section) {
-        Some(word) => write!(out, "\"{word}\""),
-        None => write!(out, "null"),
-    }
+/// Writes a copy of a function.
+fn write_copy<W: Write>(json: &mut JsonWriter<'_, W>, copy: &CodeCopy) -> io::Result<()> {
+    json.member("base", copy.base)?;
+    json.member("slots", copy.slots)?;
+    json.member("section", copy.key.0)?;
+    json.member("address", copy.key.1)?;
+    json.member("name", copy.name.as_str())
 }
 
-/// Writes how many functions the deepest chain of calls has.
-fn write_chain<W: Write>(out: &mut W, chain: Option<usize>) -> io::Result<()> {
-    write!(out, ",\"call_chain\":")?;
-    match chain {
-        Some(chain) => write!(out, "{chain}"),
-        None => write!(out, "null"),
-    }
-}
-
-/// Writes a copy.
-fn write_copy<W: Write>(out: &mut W, copy: &CodeCopy) -> io::Result<()> {
-    let (base, slots) = (copy.base, copy.slots);
-    let (section, address) = copy.key;
-    let name = Quoted(copy.name.as_str());
-    write!(out, "{{\"base\":{base},\"slots\":{slots}")?;
-    write!(
-        out,
-        ",\"section\":{section},\"address\":{address},\"name\":{name}}}"
-    )
-}
-
-/// Writes copies.
-fn write_copies<W: Write>(out: &mut W, copies: &[CodeCopy]) -> io::Result<()> {
-    let mut is_first = true;
-    write!(out, ",\"copies\":[")?;
-    for copy in copies {
-        separate(out, is_first)?;
-        is_first = false;
-        write_copy(out, copy)?;
-    }
-    write!(out, "]")
-}
-
-/// Writes references.
-fn write_references<W: Write>(out: &mut W, references: &[Reference]) -> io::Result<()> {
-    let mut is_first = true;
-    write!(out, ",\"references\":[")?;
-    for reference in references {
-        separate(out, is_first)?;
-        is_first = false;
-        let (slot, base) = (reference.place, reference.base);
-        let kind = reference_word(reference.is_call);
-        write!(
-            out,
-            "{{\"slot\":{slot},\"base\":{base},\"kind\":\"{kind}\"}}"
-        )?;
-    }
-    write!(out, "]")
-}
-
-/// Writes a list of texts under a key.
-fn write_texts<W: Write>(out: &mut W, key: &str, texts: &BTreeSet<&str>) -> io::Result<()> {
-    let mut is_first = true;
-    write!(out, ",\"{key}\":[")?;
-    for text in texts.iter() {
-        separate(out, is_first)?;
-        is_first = false;
-        let text = Quoted(text);
-        write!(out, "{text}")?;
-    }
-    write!(out, "]")
-}
-
-/// Writes a helper function.
-fn write_helper<W: Write>(out: &mut W, helper: u32) -> io::Result<()> {
-    write!(out, "{{\"number\":{helper},\"name\":")?;
-    match helper_name(helper) {
-        Some(name) => write!(out, "\"bpf_{name}\"}}"),
-        None => write!(out, "null}}"),
-    }
-}
-
-/// Writes helper functions.
-fn write_helpers<W: Write>(out: &mut W, helpers: &BTreeSet<u32>) -> io::Result<()> {
-    let mut is_first = true;
-    write!(out, ",\"helpers\":[")?;
-    for helper in helpers.iter() {
-        separate(out, is_first)?;
-        is_first = false;
-        write_helper(out, *helper)?;
-    }
-    write!(out, "]")
+/// Writes a reference between two copies.
+fn write_reference<W: Write>(json: &mut JsonWriter<'_, W>, to: &Reference) -> io::Result<()> {
+    json.member("slot", to.place)?;
+    json.member("base", to.base)?;
+    json.member("kind", reference_word(to.is_call))
 }
 
 /// Writes a program.
-fn write_program<W: Write>(out: &mut W, parts: &ProgramParts<'_>) -> io::Result<()> {
-    let slots = parts.slots;
-    write!(out, "{{")?;
-    write_names(out, parts.program)?;
-    write!(out, ",\"slots\":{slots}")?;
-    write_chain(out, parts.chain)?;
-    write_copies(out, parts.map.copies.as_slice())?;
-    write_references(out, parts.map.references.as_slice())?;
-    write_texts(out, "maps", &parts.uses.maps)?;
-    write_helpers(out, &parts.uses.helpers)?;
-    write_texts(out, "kernel_functions", &parts.uses.kernel_functions)?;
-    write!(out, "}}")
+fn write_program<W: Write>(
+    json: &mut JsonWriter<'_, W>,
+    parts: &ProgramParts<'_>,
+) -> io::Result<()> {
+    let (map, uses) = (parts.map, &parts.uses);
+    parts.program.write_json(json)?;
+    json.member("slots", parts.slots)?;
+    json.member("call_chain", parts.chain)?;
+    json.objects(
+        "copies",
+        map.copies.iter(),
+        |json, copy| write_copy(json, copy),
+    )?;
+    json.objects(
+        "references",
+        map.references.iter(),
+        |json, reference| write_reference(json, reference),
+    )?;
+    json.values("maps", uses.maps.iter().copied())?;
+    json.objects(
+        "helpers",
+        uses.helpers.iter(),
+        |json, helper| write_helper(json, *helper),
+    )?;
+    json.values("kernel_functions", uses.kernel_functions.iter().copied())
 }
 
-/// Writes programs.
-fn write_programs<W: Write>(out: &mut W, programs: &[ProgramParts<'_>]) -> io::Result<()> {
-    let mut is_first = true;
-    write!(out, "\"programs\":[")?;
-    for parts in programs {
-        separate(out, is_first)?;
-        is_first = false;
-        write_program(out, parts)?;
-    }
-    write!(out, "]")
-}
-
-/// Writes what the programs of an object are made of, as one JSON object on one line.
+/// Writes the parts of an object's linked programs as one JSON object, on one line.
 pub fn write_json<W: Write>(
     out: &mut W,
     file: &str,
     programs: &[ProgramParts<'_>],
 ) -> io::Result<()> {
-    let file = Quoted(file);
-    write!(out, "{{\"version\":2,\"file\":{file},")?;
-    write_limits(out)?;
-    write!(out, ",")?;
-    write_programs(out, programs)?;
-    writeln!(out, "}}")
+    write_document(out, |json| {
+        json.member("file", file)?;
+        write_limits(json)?;
+        json.objects(
+            "programs",
+            programs.iter(),
+            |json, parts| write_program(json, parts),
+        )
+    })
 }

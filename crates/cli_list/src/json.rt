@@ -1,277 +1,152 @@
 //! What `ebpf list --json` prints.
 
 use crate::layout::Layout;
-use crate::listing::{Extern, Listing, QuotedBytes};
+use crate::listing::{Extern, Listing};
 use crate::text::{extern_word, order_word, pinning_word};
-use cli_common::helper_calls::helper_name;
-use cli_common::names::{Quoted, separate};
+use cli_common::helper_calls::write_helper;
+use cli_common::json::{JsonWriter, write_document};
 use cli_common::programs::ObjectProgram;
-use cli_common::refuse::Stop;
-use cli_common::types::{map_type_name, program_type_name};
+use cli_common::types::map_type_name;
 use ebpf_parts::maps::{Map, PinningType};
 use std::io::{self, Write};
 
-/// Writes a text, or `null`.
-fn write_text<W: Write>(out: &mut W, text: Option<&str>) -> io::Result<()> {
-    match text {
-        Some(text) => {
-            let text = Quoted(text);
-            write!(out, "{text}")
-        }
-        None => write!(out, "null"),
-    }
-}
-
-/// Writes a number, or `null`.
-fn write_number<W: Write>(out: &mut W, number: Option<usize>) -> io::Result<()> {
-    match number {
-        Some(number) => write!(out, "{number}"),
-        None => write!(out, "null"),
-    }
-}
-
-/// Writes the license.
-fn write_license<W: Write>(out: &mut W, license: Option<&[u8]>) -> io::Result<()> {
-    let Some(license) = license else {
-        return write!(out, "null");
-    };
-    let license = QuotedBytes(license);
-    write!(out, "{license}")
-}
-
-/// Writes what is known of the file.
-fn write_file<W: Write>(out: &mut W, file: &str, listing: &Listing<'_>) -> io::Result<()> {
-    let object = listing.object;
-    let file = Quoted(file);
-    let order = order_word(object.endianness);
-    write!(
-        out,
-        "\"version\":2,\"file\":{file},\"byte_order\":\"{order}\""
-    )?;
-    write!(out, ",\"license\":")?;
-    write_license(out, listing.license())?;
-    write!(out, ",\"kernel_version\":")?;
-    write_number(out, object.kernel_version.map(|version| version as usize))?;
-    write!(out, ",\"types\":")?;
-    write_number(out, listing.wanted.types)
-}
-
 /// Writes a program.
 fn write_program<W: Write>(
-    out: &mut W,
-    own: usize,
+    json: &mut JsonWriter<'_, W>,
+    listing: &Listing<'_>,
     program: &ObjectProgram,
     layout: &Layout,
 ) -> io::Result<()> {
-    let section = program.section.as_str();
-    let name = Quoted(program.name.as_str());
-    let quoted = Quoted(section);
-    write!(out, "{{\"name\":{name},\"section\":{quoted},\"type\":")?;
-    write_text(out, program_type_name(section))?;
-    write!(out, ",\"slots\":{own},\"linked_slots\":")?;
-    write_number(out, layout.slots)?;
-    write!(out, ",\"functions\":")?;
-    write_number(out, layout.slots.map(|_| layout.functions.len()))?;
-    write!(out, "}}")
+    program.write_json(json)?;
+    json.member("slots", listing.slots_of(program.key))?;
+    json.member("linked_slots", layout.slots)?;
+    json.member("functions", layout.slots.map(|_| layout.functions.len()))
 }
 
-/// Writes the programs.
-fn write_programs<W: Write>(out: &mut W, listing: &Listing<'_>) -> io::Result<()> {
-    let mut is_first = true;
-    write!(out, ",\"programs\":[")?;
-    let programs = &listing.wanted.programs;
-    for (program, layout) in programs.iter().zip(listing.layouts.iter()) {
-        separate(out, is_first)?;
-        is_first = false;
-        write_program(out, listing.slots_of(program.key), program, layout)?;
-    }
-    write!(out, "]")
-}
-
-/// Writes the names of programs.
-fn write_names<W: Write>(out: &mut W, listing: &Listing<'_>, numbers: &[usize]) -> io::Result<()> {
-    let mut is_first = true;
-    write!(out, "\"programs\":[")?;
-    for number in numbers {
-        let Some(program) = listing.wanted.programs.get(*number) else {
-            continue;
-        };
-        separate(out, is_first)?;
-        is_first = false;
-        let name = Quoted(program.name.as_str());
-        write!(out, "{name}")?;
-    }
-    write!(out, "]")
+/// Writes the names of the programs of these numbers.
+fn write_users<W: Write>(
+    json: &mut JsonWriter<'_, W>,
+    listing: &Listing<'_>,
+    numbers: &[usize],
+) -> io::Result<()> {
+    json.array("programs", |json| {
+        for number in numbers {
+            if let Some(program) = listing.wanted.programs.get(*number) {
+                json.value(program.name.as_str())?;
+            }
+        }
+        Ok(())
+    })
 }
 
 /// Writes the sizes of a map.
-fn write_sizes<W: Write>(out: &mut W, map: &Map) -> io::Result<()> {
-    let (number, key, value) = (map.map_type(), map.key_size(), map.value_size());
-    let (entries, flags, extra) = (map.max_entries(), map.map_flags(), map.map_extra());
-    write!(out, "\"type\":")?;
-    write_text(out, map_type_name(number))?;
-    write!(
-        out,
-        ",\"type_number\":{number},\"key_size\":{key},\"value_size\":{value}"
-    )?;
-    write!(
-        out,
-        ",\"max_entries\":{entries},\"flags\":{flags},\"extra\":{extra}"
-    )
+fn write_sizes<W: Write>(json: &mut JsonWriter<'_, W>, map: &Map) -> io::Result<()> {
+    json.member("type", map_type_name(map.map_type()))?;
+    json.member("type_number", map.map_type())?;
+    json.member("key_size", map.key_size())?;
+    json.member("value_size", map.value_size())?;
+    json.member("max_entries", map.max_entries())?;
+    json.member("flags", map.map_flags())?;
+    json.member("extra", map.map_extra())
 }
 
-/// Writes how a map is pinned, and how many bytes of data it begins with.
-fn write_state<W: Write>(out: &mut W, map: &Map) -> io::Result<()> {
-    let pinning = match map.pinning() {
-        PinningType::None => None,
-        other => Some(pinning_word(other)),
-    };
-    write!(out, ",\"pinning\":")?;
-    write_text(out, pinning)?;
-    let data = map.data().len();
-    write!(out, ",\"data\":{data}")
-}
-
-/// Writes the map that a map holds.
-fn write_inner<W: Write>(out: &mut W, map: &Map) -> Result<(), Stop> {
-    write!(out, ",\"inner\":")?;
+/// Writes the map that a map holds, or `null`.
+fn write_inner<W: Write>(json: &mut JsonWriter<'_, W>, map: &Map) -> io::Result<()> {
     match map.inner()? {
         Some(inner) => {
-            write!(out, "{{")?;
-            write_sizes(out, &inner)?;
-            Ok(write!(out, "}}")?)
+            json.key("inner")?;
+            json.object(|json| write_sizes(json, &inner))
         }
-        None => Ok(write!(out, "null")?),
+        None => json.member("inner", None::<&str>),
     }
 }
 
 /// Writes a map.
 fn write_map<W: Write>(
-    out: &mut W,
+    json: &mut JsonWriter<'_, W>,
     listing: &Listing<'_>,
     name: &str,
     map: &Map,
-) -> Result<(), Stop> {
-    let quoted = Quoted(name);
-    write!(out, "{{\"name\":{quoted},")?;
-    write_sizes(out, map)?;
-    write_state(out, map)?;
-    write_inner(out, map)?;
-    write!(out, ",")?;
-    write_names(out, listing, listing.users_of_map(name))?;
-    Ok(write!(out, "}}")?)
-}
-
-/// Writes the maps.
-fn write_maps<W: Write>(out: &mut W, listing: &Listing<'_>) -> Result<(), Stop> {
-    let mut is_first = true;
-    write!(out, ",\"maps\":[")?;
-    for (name, map) in listing.object.maps.iter() {
-        separate(out, is_first)?;
-        is_first = false;
-        write_map(out, listing, name.as_str(), map)?;
-    }
-    Ok(write!(out, "]")?)
-}
-
-/// Writes the name of a helper function, or `null`.
-fn write_helper_name<W: Write>(out: &mut W, helper: u32) -> io::Result<()> {
-    match helper_name(helper) {
-        Some(name) => write!(out, "\"bpf_{name}\""),
-        None => write!(out, "null"),
-    }
-}
-
-/// Writes the helper functions.
-fn write_helpers<W: Write>(out: &mut W, listing: &Listing<'_>) -> io::Result<()> {
-    let mut is_first = true;
-    write!(out, ",\"helpers\":[")?;
-    for (helper, programs) in listing.helper_users.iter() {
-        separate(out, is_first)?;
-        is_first = false;
-        write!(out, "{{\"number\":{helper},\"name\":")?;
-        write_helper_name(out, *helper)?;
-        write!(out, ",")?;
-        write_names(out, listing, programs.as_slice())?;
-        write!(out, "}}")?;
-    }
-    write!(out, "]")
+) -> io::Result<()> {
+    let pinning = match map.pinning() {
+        PinningType::None => None,
+        other => Some(pinning_word(other)),
+    };
+    json.member("name", name)?;
+    write_sizes(json, map)?;
+    json.member("pinning", pinning)?;
+    json.member("data", map.data().len())?;
+    write_inner(json, map)?;
+    write_users(json, listing, listing.users_of_map(name))
 }
 
 /// Writes an extern.
-fn write_extern<W: Write>(out: &mut W, known: &Extern) -> io::Result<()> {
-    let name = Quoted(known.name.as_str());
-    let kind = extern_word(known.is_function);
-    let (typed, weak) = (known.is_typed, known.is_weak);
-    write!(out, "{{\"name\":{name},\"kind\":\"{kind}\"")?;
-    write!(out, ",\"typed\":{typed},\"weak\":{weak}}}")
-}
-
-/// Writes the externs.
-fn write_externs<W: Write>(out: &mut W, listing: &Listing<'_>) -> io::Result<()> {
-    write!(out, ",\"externs\":[")?;
-    for (number, known) in listing.wanted.externs.iter().enumerate() {
-        separate(out, number == 0)?;
-        write_extern(out, known)?;
-    }
-    write!(out, "]")
-}
-
-/// Writes what is wanted of the kernel's configuration.
-fn write_settings<W: Write>(out: &mut W, listing: &Listing<'_>) -> io::Result<()> {
-    write!(out, ",\"kconfig\":[")?;
-    for (number, name) in listing.wanted.settings.iter().enumerate() {
-        separate(out, number == 0)?;
-        let name = Quoted(name.as_str());
-        write!(out, "{name}")?;
-    }
-    write!(out, "]")
-}
-
-/// Writes how many records ask what of which type.
-fn write_records<W: Write>(out: &mut W, listing: &Listing<'_>) -> io::Result<()> {
-    let mut is_first = true;
-    write!(out, ",\"records\":[")?;
-    for (asked, count) in listing.records.iter() {
-        separate(out, is_first)?;
-        is_first = false;
-        let name = Quoted(asked.name.as_str());
-        let kind = asked.kind.word();
-        write!(
-            out,
-            "{{\"kind\":\"{kind}\",\"type\":{name},\"count\":{count}}}"
-        )?;
-    }
-    write!(out, "]")
+fn write_extern<W: Write>(json: &mut JsonWriter<'_, W>, known: &Extern) -> io::Result<()> {
+    json.member("name", known.name.as_str())?;
+    json.member("kind", extern_word(known.is_function))?;
+    json.member("typed", known.is_typed)?;
+    json.member("weak", known.is_weak)
 }
 
 /// Writes the functions that no program reaches.
-fn write_unreached<W: Write>(out: &mut W, listing: &Listing<'_>) -> io::Result<()> {
-    let mut is_first = true;
-    write!(out, ",\"unreached\":[")?;
-    for key in listing.unreached.iter() {
-        let Some(function) = listing.object.functions.get(*key) else {
-            continue;
-        };
-        separate(out, is_first)?;
-        is_first = false;
-        let name = Quoted(function.name.as_str());
-        let slots = function.instructions.len();
-        write!(out, "{{\"name\":{name},\"slots\":{slots}}}")?;
-    }
-    write!(out, "]")
+fn write_unreached<W: Write>(
+    json: &mut JsonWriter<'_, W>,
+    listing: &Listing<'_>,
+) -> io::Result<()> {
+    json.array("unreached", |json| {
+        for key in listing.unreached.iter() {
+            let Some(function) = listing.object.functions.get(*key) else {
+                continue;
+            };
+            json.object(|json| {
+                json.member("name", function.name.as_str())?;
+                json.member("slots", function.instructions.len())
+            })?;
+        }
+        Ok(())
+    })
 }
 
-/// Writes what an object has as one JSON object, on one line.
-pub fn write_json<W: Write>(out: &mut W, file: &str, listing: &Listing<'_>) -> Result<(), Stop> {
-    write!(out, "{{")?;
-    write_file(out, file, listing)?;
-    write_programs(out, listing)?;
-    write_maps(out, listing)?;
-    write_helpers(out, listing)?;
-    write_externs(out, listing)?;
-    write_settings(out, listing)?;
-    write_records(out, listing)?;
-    write_unreached(out, listing)?;
-    Ok(writeln!(out, "}}")?)
+/// Writes the tables of what programs are made of and what they use.
+fn write_tables<W: Write>(json: &mut JsonWriter<'_, W>, listing: &Listing<'_>) -> io::Result<()> {
+    let programs = listing.wanted.programs.iter().zip(listing.layouts.iter());
+    json.objects("programs", programs, |json, (program, layout)| {
+        write_program(json, listing, program, layout)
+    })?;
+    json.objects("maps", listing.object.maps.iter(), |json, (name, map)| {
+        write_map(json, listing, name.as_str(), map)
+    })?;
+    json.objects(
+        "helpers",
+        listing.helper_users.iter(),
+        |json, (helper, programs)| {
+            write_helper(json, *helper)?;
+            write_users(json, listing, programs.as_slice())
+        },
+    )
+}
+
+/// Writes the contents of an object as one JSON object, on one line.
+pub fn write_json<W: Write>(out: &mut W, file: &str, listing: &Listing<'_>) -> io::Result<()> {
+    let (object, wanted) = (listing.object, listing.wanted);
+    write_document(out, |json| {
+        json.member("file", file)?;
+        json.member("byte_order", order_word(object.endianness))?;
+        json.member("license", listing.license())?;
+        json.member("kernel_version", object.kernel_version)?;
+        json.member("types", wanted.types)?;
+        write_tables(json, listing)?;
+        json.objects(
+            "externs",
+            wanted.externs.iter(),
+            |json, known| write_extern(json, known),
+        )?;
+        json.values("kconfig", wanted.settings.iter().map(|name| name.as_str()))?;
+        json.objects("records", listing.records.iter(), |json, (asked, count)| {
+            json.member("kind", asked.kind.word())?;
+            json.member("type", asked.name.as_str())?;
+            json.member("count", *count)
+        })?;
+        write_unreached(json, listing)
+    })
 }

@@ -9,7 +9,7 @@ use crate::layout::{Layout, layouts_if, unreached, write_externs};
 use crate::records::{Asked, counted_records};
 use crate::users::{helper_users, map_users};
 use cli_common::map_uses::{MapUse, map_uses};
-use cli_common::names::{Quoted, Shown};
+use cli_common::names::Shown;
 use cli_common::programs::{ObjectProgram, object_programs};
 use cli_common::settings::object_settings;
 use ebpf_base::{ByKey, ByName, ByNumber, Items, Text};
@@ -25,10 +25,6 @@ use std::{fmt, str};
 /// ASCII.
 #[derive(Clone, Copy)]
 pub struct ShownBytes<'a>(pub &'a [u8]);
-
-/// Bytes as JSON has them, between quotes; of bytes that are no text each beyond ASCII is U+FFFD.
-#[derive(Clone, Copy)]
-pub struct QuotedBytes<'a>(pub &'a [u8]);
 
 /// Writes a byte of what is no text.
 fn write_byte<W: fmt::Write>(f: &mut fmt::Formatter<W>, byte: u8) -> fmt::Result {
@@ -48,34 +44,6 @@ impl fmt::Display for ShownBytes<'_> {
             write_byte(f, *byte)?;
         }
         Ok(())
-    }
-}
-
-/// Writes a byte of what is no text as JSON has it.
-fn write_quoted_byte<W: fmt::Write>(f: &mut fmt::Formatter<W>, byte: u8) -> fmt::Result {
-    if byte >= 0x80 {
-        return f.write_char('\u{fffd}');
-    }
-    if byte == b'"' || byte == b'\\' {
-        f.write_char('\\')?;
-    }
-    if byte < b' ' || byte == 0x7f {
-        return write!(f, "\\u{byte:04x}");
-    }
-    f.write_char(char::from(byte))
-}
-
-impl fmt::Display for QuotedBytes<'_> {
-    fn fmt<W: fmt::Write>(&self, f: &mut fmt::Formatter<W>) -> fmt::Result {
-        if let Ok(text) = str::from_utf8(self.0) {
-            let text = Quoted(text);
-            return write!(f, "{text}");
-        }
-        f.write_char('"')?;
-        for byte in self.0 {
-            write_quoted_byte(f, *byte)?;
-        }
-        f.write_char('"')
     }
 }
 
