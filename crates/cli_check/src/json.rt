@@ -1,7 +1,7 @@
 //! What `ebpf check --json` prints.
 
 use crate::session::{Judgement, KernelAnswer, Session};
-use crate::verdict::findings::{At, Found, Location, Rank, Topic};
+use crate::verdict::findings::{Finding, FindingKey, Severity, SourceLocation};
 use cli_common::json::{JsonWriter, write_document};
 use cli_common::kinds::Kind;
 use std::io::{self, Write};
@@ -46,15 +46,14 @@ fn write_names<W: Write>(
 fn write_place<W: Write>(
     json: &mut JsonWriter<'_, W>,
     session: &Session,
-    at: At,
-    place: &Location,
+    place: &SourceLocation,
 ) -> io::Result<()> {
-    let program = match session.loaded.needs.programs.get(at.0) {
+    let program = match session.loaded.needs.programs.get(place.program) {
         Some(program) => program.name.as_str(),
         None => "",
     };
     json.member("program", program)?;
-    if let Some(slot) = at.1 {
+    if let Some(slot) = place.slot {
         json.member("slot", slot)?;
     }
     if let Some((function, slot)) = &place.within {
@@ -71,7 +70,7 @@ fn write_place<W: Write>(
 /// Writes the subject of a finding, and what is asked of it.
 fn write_topic<W: Write>(
     json: &mut JsonWriter<'_, W>,
-    topic: &Topic,
+    topic: &FindingKey,
     kind: Kind,
 ) -> io::Result<()> {
     json.member("name", topic.name.as_str())?;
@@ -82,16 +81,16 @@ fn write_topic<W: Write>(
 fn write_found<W: Write>(
     json: &mut JsonWriter<'_, W>,
     session: &Session,
-    topic: &Topic,
-    found: &Found,
+    topic: &FindingKey,
+    found: &Finding,
 ) -> io::Result<()> {
     let kind = found.kinds.first().copied().unwrap_or(topic.kind);
     write_topic(json, topic, kind)?;
     json.values("kinds", found.kinds.iter().map(|kind| kind.word()))?;
     json.member("reason", topic.reason.as_str())?;
     write_names(json, session, &found.kernels)?;
-    json.objects("places", found.places.iter(), |json, (at, place)| {
-        write_place(json, session, *at, place)
+    json.objects("places", found.places.values(), |json, place| {
+        write_place(json, session, place)
     })
 }
 
@@ -113,8 +112,8 @@ fn write_value<W: Write>(
 fn write_changed<W: Write>(
     json: &mut JsonWriter<'_, W>,
     session: &Session,
-    topic: &Topic,
-    found: &Found,
+    topic: &FindingKey,
+    found: &Finding,
 ) -> io::Result<()> {
     write_topic(json, topic, topic.kind)?;
     if let Some(own) = found.own {
@@ -126,20 +125,20 @@ fn write_changed<W: Write>(
     })
 }
 
-/// Writes the findings of a rank.
-fn write_rank<W: Write>(
+/// Writes the findings of a severity.
+fn write_severity<W: Write>(
     json: &mut JsonWriter<'_, W>,
     session: &Session,
     key: &str,
-    rank: Rank,
+    severity: Severity,
 ) -> io::Result<()> {
     let findings = session
         .findings
-        .topics
+        .by_key
         .iter()
-        .filter(|(topic, _)| topic.rank == rank);
-    json.objects(key, findings, |json, (topic, found)| match rank {
-        Rank::Changed => write_changed(json, session, topic, found),
+        .filter(|(topic, _)| topic.severity == severity);
+    json.objects(key, findings, |json, (topic, found)| match severity {
+        Severity::Changed => write_changed(json, session, topic, found),
         _ => write_found(json, session, topic, found),
     })
 }
@@ -157,9 +156,9 @@ pub fn write_json<W: Write>(out: &mut W, session: &Session) -> io::Result<()> {
         json.objects("kernels", session.kernels.iter(), |json, kernel| {
             write_kernel(json, session, kernel)
         })?;
-        write_rank(json, session, "breaks", Rank::Breaks)?;
-        write_rank(json, session, "guarded", Rank::Guarded)?;
-        write_rank(json, session, "changed", Rank::Changed)?;
+        write_severity(json, session, "breaks", Severity::Breaks)?;
+        write_severity(json, session, "guarded", Severity::Guarded)?;
+        write_severity(json, session, "changed", Severity::Changed)?;
         json.values("kconfig", needs.settings.iter().map(|name| name.as_str()))
     })
 }

@@ -1,4 +1,4 @@
-//! The kernels that words name: files, and folders of files.
+//! The kernels of a command line: files, and folders of files.
 
 use ebpf_base::{Items, Text};
 use std::alloc::{AllocError, Global};
@@ -6,7 +6,16 @@ use std::cmp::Ordering;
 use std::fs;
 use std::io::{self, ErrorKind};
 
-/// How many bytes at the front are digits, or are none.
+/// A kernel of the command line.
+#[derive(Drop)]
+pub struct KernelFile {
+    /// The path of its file, or of a folder that gives none.
+    pub path: Text,
+    /// The reason why the folder gives none.
+    pub fault: Option<Text>,
+}
+
+/// The number of bytes at the front that are digits, or that are none.
 fn run_length(bytes: &[u8], digits: bool) -> usize {
     bytes
         .iter()
@@ -23,7 +32,7 @@ fn without_zeros(digits: &[u8]) -> &[u8] {
     digits.get(zeros..).unwrap_or(digits)
 }
 
-/// Two runs of digits as numbers of whatever size.
+/// The order of two runs of digits as numbers of any size.
 fn by_number(left: &[u8], right: &[u8]) -> Ordering {
     let left = without_zeros(left);
     let right = without_zeros(right);
@@ -41,7 +50,7 @@ fn has_digits(run: &[u8]) -> bool {
     }
 }
 
-/// The first run of bytes that are digits, or of bytes that are none, and what is behind it.
+/// The first run of bytes that are digits, or of bytes that are none, and the rest.
 fn first_run(bytes: &[u8]) -> (&[u8], &[u8]) {
     let length = run_length(bytes, has_digits(bytes));
     let run = bytes.get(..length).unwrap_or(bytes);
@@ -49,7 +58,7 @@ fn first_run(bytes: &[u8]) -> (&[u8], &[u8]) {
     (run, rest)
 }
 
-/// Two runs: as numbers where both are digits, else byte by byte.
+/// The order of two runs: as numbers where both are digits, else byte by byte.
 fn by_run(left: &[u8], right: &[u8]) -> Ordering {
     if has_digits(left) && has_digits(right) {
         return by_number(left, right);
@@ -57,7 +66,7 @@ fn by_run(left: &[u8], right: &[u8]) -> Ordering {
     left.cmp(right)
 }
 
-/// Two names run by run, where runs of digits are numbers. Names that differ in zeros before a number alone are equal
+/// The order of two names run by run, where runs of digits are numbers. Names that differ in zeros before a number alone are equal
 /// here, and then go by their bytes.
 fn compare_names(left: &str, right: &str) -> Ordering {
     let mut left_rest = left.as_bytes();
@@ -99,15 +108,6 @@ fn files_in(rt: &HostRuntime, folder: &str) -> io::Result<Vec<Text>> {
     Ok(paths)
 }
 
-/// A kernel that a word names.
-#[derive(Drop)]
-pub struct KernelFile {
-    /// The path of its file, or of a folder that gives none.
-    pub path: Text,
-    /// Why the folder gives none.
-    pub fault: Option<Text>,
-}
-
 /// Adds kernels by the paths of their files.
 fn add_files(all: &mut Items<KernelFile>, paths: Vec<Text>) -> Result<(), AllocError> {
     for path in paths {
@@ -144,7 +144,7 @@ fn add_folder(
     Ok(())
 }
 
-/// Adds what a word names: a file, or the files of the folder that it is.
+/// Adds the file of an argument, or the files of the folder that it is.
 fn add_word(rt: &HostRuntime, all: &mut Items<KernelFile>, word: &str) -> Result<(), AllocError> {
     if is_folder(rt, word) {
         return add_folder(rt, all, word);
@@ -157,7 +157,7 @@ fn add_word(rt: &HostRuntime, all: &mut Items<KernelFile>, word: &str) -> Result
 /// The running kernel's types.
 const RUNNING: &str = "/sys/kernel/btf/vmlinux";
 
-/// The kernels that words name: files, and the files of folders; without a word the running one.
+/// The kernels of the arguments: files, and the files of folders; without an argument the running one.
 pub fn kernel_files(rt: &HostRuntime, words: &[Text]) -> Result<Items<KernelFile>, AllocError> {
     let mut all = Items::new(rt.alloc());
     if words.is_empty() {

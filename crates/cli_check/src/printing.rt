@@ -1,13 +1,13 @@
-//! What `ebpf check` prints for people.
+//! The text output of `ebpf check`.
 
 use crate::session::{Judgement, KernelAnswer, Session};
-use crate::verdict::findings::{At, Found, Location, Rank, Topic};
+use crate::verdict::findings::{Finding, FindingKey, Severity, SourceLocation};
 use cli_common::kinds::Kind;
 use cli_common::names::{EscapedName, last_part, write_value};
 use std::collections::{BTreeMap, BTreeSet};
 use std::io::{self, Write};
 
-/// How many kernels a line names where not all are told.
+/// The number of kernels that a line names where not all are listed.
 const NAMED: usize = 3;
 
 /// Writes the line of a kernel that is done.
@@ -64,7 +64,7 @@ fn write_names<W: Write>(out: &mut W, session: &Session, kernels: &[usize]) -> i
     Ok(())
 }
 
-/// Writes on which kernels something is found.
+/// Writes the kernels of a finding.
 fn write_on<W: Write>(out: &mut W, session: &Session, kernels: &[usize]) -> io::Result<()> {
     let count = kernels.len();
     let judged = session.judged();
@@ -76,18 +76,13 @@ fn write_on<W: Write>(out: &mut W, session: &Session, kernels: &[usize]) -> io::
     write_names(out, session, kernels)
 }
 
-/// Writes the program of a place, its slot and the function that the slot was copied from.
-fn write_slot<W: Write>(
-    out: &mut W,
-    session: &Session,
-    at: At,
-    place: &Location,
-) -> io::Result<()> {
-    if let Some(program) = session.loaded.needs.programs.get(at.0) {
+/// Writes the program of a location, its slot and the function that the slot was copied from.
+fn write_slot<W: Write>(out: &mut W, session: &Session, place: &SourceLocation) -> io::Result<()> {
+    if let Some(program) = session.loaded.needs.programs.get(place.program) {
         let name = EscapedName(program.name.as_str());
         write!(out, "{name}")?;
     }
-    if let Some(slot) = at.1 {
+    if let Some(slot) = place.slot {
         write!(out, " slot {slot}")?;
     }
     if let Some((function, slot)) = &place.within {
@@ -97,16 +92,15 @@ fn write_slot<W: Write>(
     Ok(())
 }
 
-/// Writes the line of a place. Where the finding stands there on some of its kernels alone, these are named.
+/// Writes the line of a location. Where the finding is there on some of its kernels alone, these are named.
 fn write_place<W: Write>(
     out: &mut W,
     session: &Session,
-    at: At,
-    place: &Location,
+    place: &SourceLocation,
     kernels: &[usize],
 ) -> io::Result<()> {
     write!(out, "    ")?;
-    write_slot(out, session, at, place)?;
+    write_slot(out, session, place)?;
     if let Some((file, line)) = &place.line {
         let file = EscapedName(last_part(file.as_str()));
         write!(out, "  {file}:{line}")?;
@@ -119,20 +113,7 @@ fn write_place<W: Write>(
     writeln!(out, "")
 }
 
-/// Writes the lines of places.
-fn write_places<W: Write>(
-    out: &mut W,
-    session: &Session,
-    places: &BTreeMap<At, Location>,
-    kernels: &[usize],
-) -> io::Result<()> {
-    for (at, place) in places.iter() {
-        write_place(out, session, *at, place, kernels)?;
-    }
-    Ok(())
-}
-
-/// Writes what is asked, word by word.
+/// Writes the kinds of question.
 fn write_kinds<W: Write>(out: &mut W, kinds: &BTreeSet<Kind>) -> io::Result<()> {
     for kind in kinds.iter() {
         let kind = kind.word();
@@ -141,27 +122,30 @@ fn write_kinds<W: Write>(out: &mut W, kinds: &BTreeSet<Kind>) -> io::Result<()> 
     Ok(())
 }
 
-/// Writes the first line of what is absent or refused: what it is, what is asked of it, and why.
-fn write_reason<W: Write>(out: &mut W, topic: &Topic, kinds: &BTreeSet<Kind>) -> io::Result<()> {
-    let name = EscapedName(topic.name.as_str());
+/// Writes the first line of a finding that is absent or refused: its name, the kinds of question, and the reason.
+fn write_reason<W: Write>(out: &mut W, key: &FindingKey, kinds: &BTreeSet<Kind>) -> io::Result<()> {
+    let name = EscapedName(key.name.as_str());
     write!(out, "  {name}  ")?;
     write_kinds(out, kinds)?;
-    let reason = EscapedName(topic.reason.as_str());
+    let reason = EscapedName(key.reason.as_str());
     writeln!(out, " {reason}")
 }
 
-/// Writes what is absent or refused: what it is, on which kernels, and where.
+/// Writes a finding that is absent or refused: its first line, the kernels, and the locations.
 fn write_found<W: Write>(
     out: &mut W,
     session: &Session,
-    topic: &Topic,
-    found: &Found,
+    key: &FindingKey,
+    found: &Finding,
 ) -> io::Result<()> {
-    write_reason(out, topic, &found.kinds)?;
+    write_reason(out, key, &found.kinds)?;
     write!(out, "    ")?;
     write_on(out, session, &found.kernels)?;
     writeln!(out, "")?;
-    write_places(out, session, &found.places, &found.kernels)
+    for place in found.places.values() {
+        write_place(out, session, place, &found.kernels)?;
+    }
+    Ok(())
 }
 
 /// Writes the values that kernels give.
@@ -181,55 +165,55 @@ fn write_values<W: Write>(
     Ok(())
 }
 
-/// Writes what has other values: what it is with the object's own value, and those of kernels.
+/// Writes a finding with other values: its name, the object's own value, and those of kernels.
 fn write_changed<W: Write>(
     out: &mut W,
     session: &Session,
-    topic: &Topic,
-    found: &Found,
+    key: &FindingKey,
+    found: &Finding,
 ) -> io::Result<()> {
-    let name = EscapedName(topic.name.as_str());
+    let name = EscapedName(key.name.as_str());
     write!(out, "  {name}  ")?;
-    if topic.kind != Kind::EnumeratorValue {
-        let kind = topic.kind.word();
+    if key.kind != Kind::EnumeratorValue {
+        let kind = key.kind.word();
         write!(out, "<{kind}>  ")?;
     }
     if let Some(own) = found.own {
-        write_value(out, topic.is_signed, own)?;
+        write_value(out, key.is_signed, own)?;
     }
     writeln!(out, " in the object")?;
-    write_values(out, session, topic.is_signed, &found.values)
+    write_values(out, session, key.is_signed, &found.values)
 }
 
-/// The line over the findings of a rank.
-fn heading(rank: Rank) -> &'static str {
-    match rank {
-        Rank::Breaks => "BREAKS",
-        Rank::Guarded => "GUARDED (absent, not reached)",
-        Rank::Changed => "CHANGED (written; nothing to do)",
+/// The line over the findings of a severity.
+fn heading(severity: Severity) -> &'static str {
+    match severity {
+        Severity::Breaks => "BREAKS",
+        Severity::Guarded => "GUARDED (absent, not reached)",
+        Severity::Changed => "CHANGED (written; nothing to do)",
     }
 }
 
-/// Writes the findings of a rank under its heading, where there are some.
-fn write_rank<W: Write>(out: &mut W, session: &Session, rank: Rank) -> io::Result<()> {
-    if !session.has(rank) {
+/// Writes the findings of a severity under its heading, where there are some.
+fn write_severity<W: Write>(out: &mut W, session: &Session, severity: Severity) -> io::Result<()> {
+    if !session.has(severity) {
         return Ok(());
     }
-    let heading = heading(rank);
+    let heading = heading(severity);
     writeln!(out, "{heading}")?;
-    for (topic, found) in session.findings.topics.iter() {
-        if topic.rank != rank {
+    for (key, found) in session.findings.by_key.iter() {
+        if key.severity != severity {
             continue;
         }
-        match rank {
-            Rank::Changed => write_changed(out, session, topic, found)?,
-            _ => write_found(out, session, topic, found)?,
+        match severity {
+            Severity::Changed => write_changed(out, session, key, found)?,
+            _ => write_found(out, session, key, found)?,
         }
     }
     Ok(())
 }
 
-/// Writes the settings of the kernel that the object asks for.
+/// Writes the kconfig externs of the object.
 fn write_settings<W: Write>(out: &mut W, session: &Session) -> io::Result<()> {
     if session.loaded.needs.settings.is_empty() {
         return Ok(());
@@ -272,14 +256,14 @@ fn write_summary<W: Write>(out: &mut W, session: &Session) -> io::Result<()> {
     writeln!(out, "")
 }
 
-/// Writes what was found over all kernels, behind the lines of the kernels.
+/// Writes the findings over all kernels, behind the lines of the kernels.
 pub fn write_findings<W: Write>(out: &mut W, session: &Session) -> io::Result<()> {
     writeln!(out, "")?;
-    write_rank(out, session, Rank::Breaks)?;
-    write_rank(out, session, Rank::Guarded)?;
-    write_rank(out, session, Rank::Changed)?;
+    write_severity(out, session, Severity::Breaks)?;
+    write_severity(out, session, Severity::Guarded)?;
+    write_severity(out, session, Severity::Changed)?;
     write_settings(out, session)?;
-    if !session.findings.topics.is_empty() || !session.loaded.needs.settings.is_empty() {
+    if !session.findings.by_key.is_empty() || !session.loaded.needs.settings.is_empty() {
         writeln!(out, "")?;
     }
     write_summary(out, session)

@@ -1,4 +1,4 @@
-//! An object over the kernels that words name.
+//! The run of `ebpf check` over the kernels of a command line.
 
 use crate::json::write_json;
 use crate::kernel_files::{KernelFile, kernel_files};
@@ -8,14 +8,31 @@ use crate::verdict::loaded::{Loaded, Needs};
 use cli_common::kernel_types::read_kernel;
 use cli_common::object_file::{parsed_object, read_object};
 use cli_common::programs::ObjectProgram;
-use cli_common::refusal::{FileRefusal, READING};
+use cli_common::refusal::{READING, FileRefusal};
 use cli_common::refuse::{Stop, chosen_programs, tell};
 use ebpf_base::{Items, Text};
 use ebpf_object::Object;
 use std::alloc::{AllocError, Global};
 use std::io::{self, BufWriter, Stdout, Write};
 
-/// Programs without those that are loaded only where someone asks for them.
+/// The arguments of `ebpf check`.
+#[derive(Drop)]
+pub struct CheckWords {
+    /// The object's file.
+    pub file: Text,
+    /// The number of the object in the file, where it holds several.
+    pub object: Option<usize>,
+    /// The kernels: files and folders.
+    pub kernels: Items<Text>,
+    /// The programs that count, where they are named.
+    pub programs: Items<Text>,
+    /// Whether every kernel and each changed value is listed.
+    pub all: bool,
+    /// Whether the output is JSON.
+    pub json: bool,
+}
+
+/// Programs without the optional ones.
 fn without_optional(
     alloc: Global,
     programs: Vec<ObjectProgram>,
@@ -30,26 +47,9 @@ fn without_optional(
     Ok(counted)
 }
 
-/// What `ebpf check` is to do.
-#[derive(Drop)]
-pub struct CheckWords {
-    /// The object's file.
-    pub file: Text,
-    /// Which of the objects in the file, where it holds several.
-    pub object: Option<usize>,
-    /// The kernels: files and folders.
-    pub kernels: Items<Text>,
-    /// The programs that count, where they are named.
-    pub programs: Items<Text>,
-    /// Whether all is told: every kernel by name, and each value that moved.
-    pub all: bool,
-    /// Whether it is told as JSON.
-    pub json: bool,
-}
-
-/// The programs of an object that count: those of the names or, without a name, those that are loaded unasked; a name that
-/// no program has is told.
-fn counting(
+/// The programs of an object that count: those of the names or, without a name, those that aren't optional. A name that no
+/// program has is reported.
+fn programs_that_count(
     rt: &HostRuntime,
     words: &CheckWords,
     file: &[u8],
@@ -63,18 +63,18 @@ fn counting(
     Ok(programs)
 }
 
-/// What is asked of the object of a file's bytes, with the programs that count.
+/// The needs of the object of a file's bytes, with the programs that count.
 fn needs_of(
     rt: &HostRuntime,
     words: &CheckWords,
     file: &[u8],
     object: &Object,
 ) -> Result<Needs, Stop> {
-    let programs = counting(rt, words, file, object)?;
+    let programs = programs_that_count(rt, words, file, object)?;
     Ok(Needs::of(rt.alloc(), object, programs, words.all)?)
 }
 
-/// An object with what is asked of it.
+/// An object with its needs.
 fn with_needs(object: Object, needs: Result<Needs, Stop>) -> Result<Loaded, Stop> {
     match needs {
         Ok(needs) => Ok(Loaded { object, needs }),
@@ -103,7 +103,7 @@ fn judge_file(rt: &HostRuntime, session: &mut Session, name: Text) -> Result<(),
     }
 }
 
-/// That a folder gives no file.
+/// The refusal of a folder without files.
 fn folder_refusal(alloc: Global, fault: &Text) -> Result<FileRefusal, AllocError> {
     Ok(FileRefusal {
         stage: READING,
@@ -113,7 +113,7 @@ fn folder_refusal(alloc: Global, fault: &Text) -> Result<FileRefusal, AllocError
     })
 }
 
-/// Judges the programs over a kernel; notes a folder that gives no file.
+/// Judges the programs over a kernel; notes a folder without files.
 fn judge_kernel_file(
     rt: &HostRuntime,
     session: &mut Session,
@@ -126,8 +126,8 @@ fn judge_kernel_file(
     }
 }
 
-/// Tells a kernel's types that can't be read.
-fn tell_unread(rt: &HostRuntime, session: &Session) {
+/// Reports the last kernel where its types can't be read.
+fn report_unread(rt: &HostRuntime, session: &Session) {
     let Some(kernel) = session.kernels.last() else {
         return;
     };
@@ -136,8 +136,8 @@ fn tell_unread(rt: &HostRuntime, session: &Session) {
     }
 }
 
-/// Tells a kernel that is done.
-fn tell_kernel(out: &mut BufWriter<Stdout>, session: &Session) -> io::Result<()> {
+/// Writes the line of the last kernel.
+fn write_last_kernel(out: &mut BufWriter<Stdout>, session: &Session) -> io::Result<()> {
     let programs = session.loaded.needs.programs.len();
     match session.kernels.last() {
         Some(kernel) => {
@@ -148,7 +148,7 @@ fn tell_kernel(out: &mut BufWriter<Stdout>, session: &Session) -> io::Result<()>
     }
 }
 
-/// Judges the programs over each kernel, and tells it when it is done.
+/// Judges the programs over each kernel, and writes its line when it is done.
 fn judge_kernels(
     rt: &HostRuntime,
     words: &CheckWords,
@@ -158,16 +158,16 @@ fn judge_kernels(
 ) -> Result<(), Stop> {
     for kernel in kernels {
         judge_kernel_file(rt, session, kernel)?;
-        tell_unread(rt, session);
+        report_unread(rt, session);
         if !words.json {
-            tell_kernel(out, session)?;
+            write_last_kernel(out, session)?;
         }
     }
     Ok(())
 }
 
-/// Tells what was found on all kernels.
-fn tell_findings(
+/// Writes the findings over all kernels.
+fn write_output(
     words: &CheckWords,
     session: &Session,
     out: &mut BufWriter<Stdout>,
@@ -180,7 +180,7 @@ fn tell_findings(
     out.flush()
 }
 
-/// Judges the programs over these kernels, tells what was found, and gives the status.
+/// Judges the programs over these kernels, writes the findings, and gives the status.
 fn check_files(
     rt: &HostRuntime,
     words: &CheckWords,
@@ -189,18 +189,18 @@ fn check_files(
 ) -> Result<u8, Stop> {
     let mut out = BufWriter::new(rt.alloc(), rt.stdout())?;
     judge_kernels(rt, words, session, kernels, &mut out)?;
-    tell_findings(words, session, &mut out)?;
+    write_output(words, session, &mut out)?;
     Ok(session.status())
 }
 
-/// Judges the programs over the kernels that the words name, tells what was found, and gives the status.
+/// Judges the programs over the kernels of the command line, writes the findings, and gives the status.
 fn check_kernels(rt: &HostRuntime, words: &CheckWords, session: &mut Session) -> Result<u8, Stop> {
     let kernels = kernel_files(rt, words.kernels.as_slice())?;
     check_files(rt, words, session, kernels.as_slice())
 }
 
-/// Does what `ebpf check` is asked. It alone holds the object, and leaves early nowhere while it does: each way out of a
-/// function is proved to let go of what it holds.
+/// Runs `ebpf check`, and gives the status. It alone holds the object, and has no early return while it does: each way out of
+/// a function is proved to drop what it holds.
 pub fn check(rt: &HostRuntime, words: &CheckWords) -> Result<u8, Stop> {
     let name = words.file.clone()?;
     let loaded = load(rt, words)?;

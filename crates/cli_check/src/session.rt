@@ -3,7 +3,7 @@
 ghost use Rattle.std.specs.Prelude.{◌≡◌};
 ghost use Rattle.cli_check.specs.Statuses.{status_of};
 
-use crate::verdict::findings::{Findings, Rank};
+use crate::verdict::findings::{Findings, Severity};
 use crate::verdict::judge_kernel;
 use crate::verdict::loaded::Loaded;
 use cli_common::refusal::FileRefusal;
@@ -11,55 +11,22 @@ use ebpf_base::Text;
 use ebpf_btf::Btf;
 use std::alloc::{AllocError, Global};
 
-/// The status by how many kernels' types can't be read, and on how many kernels some program breaks.
-fn status_of(unread: usize, broken: usize) -> u8
-    ensures { result ≡ status_of unread broken }
-{
-    if unread > 0 {
-        return 2;
-    }
-    if broken > 0 { 1 } else { 0 }
-}
-
-/// What is known of a kernel.
+/// The verdict on a kernel.
 #[derive(Drop)]
 pub enum Judgement {
-    /// Whether each program that counts breaks on it.
+    /// Whether each program that counts breaks on the kernel.
     Judged(Vec<bool>),
-    /// Why its types can't be read.
+    /// The reason why the kernel's types can't be read.
     Unread(FileRefusal),
 }
 
-/// A kernel with what is known of it.
+/// A kernel with its verdict.
 #[derive(Drop)]
 pub struct KernelAnswer {
-    /// Its name.
+    /// The name.
     pub name: Text,
-    /// What is known.
+    /// The verdict.
     pub answer: Judgement,
-}
-
-impl KernelAnswer {
-    /// How many programs break; none where nothing is known.
-    pub fn breaking(&self) -> usize {
-        match &self.answer {
-            Judgement::Judged(programs) => programs.iter().filter(|breaks| **breaks).count(),
-            Judgement::Unread(_) => 0,
-        }
-    }
-
-    /// Whether its types were read.
-    pub fn is_judged(&self) -> bool {
-        matches!(self.answer, Judgement::Judged(_))
-    }
-
-    /// Whether the program of a number breaks on it.
-    pub fn breaks(&self, program: usize) -> bool {
-        match &self.answer {
-            Judgement::Judged(programs) => programs.get(program).copied().unwrap_or(false),
-            Judgement::Unread(_) => false,
-        }
-    }
 }
 
 /// An object over the kernels so far.
@@ -73,8 +40,41 @@ pub struct Session {
     pub loaded: Loaded,
     /// The kernels so far.
     pub kernels: Vec<KernelAnswer>,
-    /// What was found over them.
+    /// The findings over the kernels.
     pub findings: Findings,
+}
+
+/// The exit status by the number of kernels whose types can't be read, and of those on which some program breaks.
+fn status_of(unread: usize, broken: usize) -> u8
+    ensures { result ≡ status_of unread broken }
+{
+    if unread > 0 {
+        return 2;
+    }
+    if broken > 0 { 1 } else { 0 }
+}
+
+impl KernelAnswer {
+    /// The number of programs that break; 0 where the kernel's types can't be read.
+    pub fn breaking(&self) -> usize {
+        match &self.answer {
+            Judgement::Judged(programs) => programs.iter().filter(|breaks| **breaks).count(),
+            Judgement::Unread(_) => 0,
+        }
+    }
+
+    /// Whether the kernel's types were read.
+    pub fn is_judged(&self) -> bool {
+        matches!(self.answer, Judgement::Judged(_))
+    }
+
+    /// Whether the program of a number breaks on the kernel.
+    pub fn breaks(&self, program: usize) -> bool {
+        match &self.answer {
+            Judgement::Judged(programs) => programs.get(program).copied().unwrap_or(false),
+            Judgement::Unread(_) => false,
+        }
+    }
 }
 
 impl Session {
@@ -100,7 +100,7 @@ impl Session {
         Ok(())
     }
 
-    /// Notes a kernel whose types can't be read.
+    /// Adds a kernel whose types can't be read.
     pub fn note_unread(&mut self, name: Text, refusal: FileRefusal) -> Result<(), AllocError> {
         self.kernels.push(KernelAnswer {
             name,
@@ -109,7 +109,7 @@ impl Session {
         Ok(())
     }
 
-    /// How many kernels' types were read.
+    /// The number of kernels whose types were read.
     pub fn judged(&self) -> usize {
         self.kernels
             .iter()
@@ -117,12 +117,12 @@ impl Session {
             .count()
     }
 
-    /// How many kernels' types can't be read.
+    /// The number of kernels whose types can't be read.
     pub fn unread(&self) -> usize {
         self.kernels.len().saturating_sub(self.judged())
     }
 
-    /// On how many kernels some program breaks.
+    /// The number of kernels on which some program breaks.
     pub fn broken(&self) -> usize {
         self.kernels
             .iter()
@@ -135,7 +135,7 @@ impl Session {
         self.kernels.iter().any(|kernel| kernel.breaks(program))
     }
 
-    /// How many programs break on some kernel.
+    /// The number of programs that break on some kernel.
     pub fn breaking_programs(&self) -> usize {
         let count = self.loaded.needs.programs.len();
         (0..count)
@@ -143,14 +143,16 @@ impl Session {
             .count()
     }
 
-    /// The status that the programs and kernels give: 2 where the types of a kernel can't be read, else 1 where some
-    /// program breaks on some kernel, else 0.
+    /// The exit status: 2 where the types of a kernel can't be read, else 1 where some program breaks on some kernel, else 0.
     pub fn status(&self) -> u8 {
         status_of(self.unread(), self.broken())
     }
 
-    /// Whether something of a rank was found.
-    pub fn has(&self, rank: Rank) -> bool {
-        self.findings.topics.keys().any(|topic| topic.rank == rank)
+    /// Whether there is a finding of a severity.
+    pub fn has(&self, severity: Severity) -> bool {
+        self.findings
+            .by_key
+            .keys()
+            .any(|key| key.severity == severity)
     }
 }

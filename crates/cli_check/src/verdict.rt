@@ -3,11 +3,11 @@
 mod calls;
 mod externs;
 pub mod findings;
+mod judged_program;
 mod judging;
 mod kernel_symbols;
-mod linked;
 pub mod loaded;
 mod own_values;
-mod sites;
+mod slots;
 
 pub use judging::judge_kernel;

@@ -1,3 +1,5 @@
+pub mod Appending
+pub mod DefaultPasses
 pub mod FirstEntries
 pub mod LentNames
 pub mod Ranges

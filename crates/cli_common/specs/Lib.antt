@@ -5,3 +5,5 @@ pub mod FunctionMaps
 pub mod RecordKinds
 pub mod PrivateContracts
 pub mod EmbeddedObjects
+pub mod DefaultPasses
+pub mod SlotText

@@ -261,14 +261,3 @@ pub fn map_uses(alloc: Global, object: &Object) -> Result<ByKey<Items<MapUse>>, 
     let names = map_names(alloc, object)?;
     uses_by_function(alloc, object, &names)
 }
-
-/// Descriptors of an object's own maps: 1 and on, in byte order of their names.
-pub fn own_descriptors(alloc: Global, object: &Object) -> Result<Vec<(&str, i32)>, AllocError> {
-    let mut descriptors = Vec::with_capacity(alloc, object.maps.len())?;
-    let mut descriptor: i32 = 0;
-    for (name, _) in object.maps.iter() {
-        descriptor = descriptor.saturating_add(1);
-        descriptors.push((name.as_str(), descriptor))?;
-    }
-    Ok(descriptors)
-}

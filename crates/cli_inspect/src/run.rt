@@ -6,7 +6,7 @@ use crate::text::write_inspected;
 use crate::uses::FunctionUses;
 use cli_common::programs::ObjectProgram;
 use cli_common::refuse::Stop;
-use cli_prepare::{MapSlots, PrepareWords, Prepared, prepare_file};
+use cli_prepare::{PrepareWords, Prepared, prepare_file};
 use ebpf_base::Items;
 use ebpf_object::Object;
 use ebpf_object::relocation::LinkMap;
@@ -28,14 +28,12 @@ impl Told {
     /// passes.
     fn of(prepared: Prepared) -> Told {
         let Prepared {
-            file,
             parsed,
             object,
             programs,
             link_maps,
             types,
         } = prepared;
-        drop(file);
         drop(object);
         drop(types);
         Told {
@@ -84,7 +82,7 @@ fn tell(rt: &HostRuntime, words: &PrepareWords, told: &Told) -> Result<(), Stop>
 
 /// Runs `ebpf inspect`, and returns the status.
 pub fn inspect(rt: &HostRuntime, words: &PrepareWords) -> Result<u8, Stop> {
-    let told = Told::of(prepare_file(rt, words, MapSlots::Numbered)?);
+    let told = Told::of(prepare_file(rt, words)?);
     let done = tell(rt, words, &told);
     drop(told);
     done?;

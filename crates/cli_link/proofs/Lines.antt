@@ -5,7 +5,7 @@ use Rattle.std.specs.Io.KnownBytes.{Appends}
 use Rattle.std.specs.List.{flat_map}
 use Rattle.std.specs.Prelude.{slice_index_or}
 use Rattle.ebpf_base.proofs.Lists.{rest_more}
-use Rattle.cli_plain.proofs.Appending.{both}
+use Rattle.cli_common.proofs.Appending.{both}
 use Rattle.cli_link.specs.Written.{program_name}
 use Rattle.cli_common.specs.declared.programs.ObjectProgram.{ObjectProgram}
 

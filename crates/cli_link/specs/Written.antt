@@ -3,8 +3,9 @@ use Rattle.std.specs.Prelude.{ℕ, List, [], Option, Some, None}
 use Rattle.std.specs.Io.KnownBytes.{Appends}
 use Rattle.std.specs.List.{flat_map}
 use Rattle.ebpf_btf.specs.TypeInfo.{TypeInfo}
-use Rattle.cli_plain.specs.Linked.{default_passes}
-use Rattle.cli_plain.specs.Printed.{function_named, program_text}
+use Rattle.cli_common.specs.DefaultPasses.{default_passes}
+use Rattle.cli_common.specs.SlotText.{program_text}
+use Rattle.ebpf_object.specs.LinkedPrograms.{function_of_named_program}
 use Rattle.ebpf_ksyms.specs.Sources.{Source}
 use Rattle.ebpf_model.specs.declared.function.Function.{Function}
 use Rattle.ebpf_object.specs.Headline.{Headline}
@@ -25,7 +26,7 @@ shown_text_if name (Some f) = program_text (shown name) f.instructions
 
 -- the lines of the program of a name, none where there is none
 abbrev pub shown_lines : Object → List ℕ → List ℕ
-shown_lines o name = shown_text_if name (function_named o name)
+shown_lines o name = shown_text_if name (function_of_named_program o name)
 
 -- the lines of programs, one after the other
 abbrev pub shown_programs : Object → List (List ℕ) → List ℕ

@@ -3,17 +3,17 @@
 ghost use Rattle.std.specs.Prelude.{ℕ, List, map, OnOk};
 ghost use Rattle.std.specs.Io.KnownBytes.{Appends};
 ghost use Rattle.std.specs.List.{flat_map};
-ghost use Rattle.cli_plain.specs.Linked.{default_passes};
-ghost use Rattle.cli_plain.specs.Printed.{head_line, program_text};
+ghost use Rattle.cli_common.specs.DefaultPasses.{default_passes};
+ghost use Rattle.cli_common.specs.SlotText.{head_line, program_text};
 ghost use Rattle.ebpf_ksyms.specs.Sources.{Text};
 ghost use Rattle.cli_link.specs.Written.{shown_lines, program_name, WritesFinished, HasWritten};
 ghost use Rattle.ebpf_object.specs.Prepared.{IsParsed};
 ghost use Rattle.ebpf_parts.specs.declared.reading.Reading.TheVariants.{Broad};
-ghost use Rattle.cli_common.specs.Shown.{shown};
+ghost use Rattle.cli_common.specs.EscapedName.{shown};
 
 use cli_common::names::EscapedName;
 use cli_common::programs::ObjectProgram;
-use cli_plain::{function_named, write_slots};
+use cli_common::slot_text::write_slots;
 use cli_prepare::{Kernel, finished_object};
 use ebpf_object::Object;
 use ebpf_object::prepare::PrepareError;
@@ -21,7 +21,7 @@ use ebpf_parts::insn::bpf_insn;
 use std::alloc::Global;
 use std::io::{self, Write};
 
-/// Why programs aren't written as bytes, or not all.
+/// The reason why programs aren't written as bytes, or not all.
 #[derive(Drop)]
 pub enum BytesFailure {
     /// A pass refuses the object.
@@ -51,14 +51,14 @@ fn write_program<W: Write>(out: &mut W, name: &str, slots: &[bpf_insn]) -> io::R
 fn write_named<W: Write>(object: &Object, name: &str, out: &mut W) -> io::Result<()>
     ensures { OnOk result (Appends (W.contents out.old) (W.contents out.new) (shown_lines object.now name.now)) }
 {
-    match function_named(object, name) {
+    match object.program_function(name) {
         Some(function) => write_program(out, name, function.instructions.as_slice()),
         None => Ok(()),
     }
 }
 
 /// Writes these programs of an object.
-#[tactic(auto, using(crate::proofs::Lines::one_program, ebpf_base::proofs::Lists::rest_none, cli_plain::proofs::Appending::nothing_more))]
+#[tactic(auto, using(crate::proofs::Lines::one_program, ebpf_base::proofs::Lists::rest_none, cli_common::proofs::Appending::nothing_more))]
 fn write_named_programs<W: Write>(
     object: &Object,
     programs: &[ObjectProgram],

@@ -1,7 +1,7 @@
 //! Slots as instructions.
 
 use crate::disassembly::{Operation, decode};
-use crate::linked::{Linked, Spot};
+use crate::linked::{ShownProgram, ShownSlot};
 use crate::notes::Note;
 use crate::origins::Origins;
 use crate::record_words::RecordTeller;
@@ -12,24 +12,28 @@ use ebpf_btf::Btf;
 use ebpf_reloc::CodeCopy;
 use std::io::{self, Write};
 
-/// The slot of its function to which a jump leads, where it is one of the function's.
-fn target_of(spot: Spot<'_>, operation: &Operation) -> Option<usize> {
-    let next = i64::try_from(spot.slot).ok()?.checked_add(1)?;
+/// The target of a jump as a slot of its function, where it is one of the function's.
+fn target_of(shown: ShownSlot<'_>, operation: &Operation) -> Option<usize> {
+    let next = i64::try_from(shown.slot).ok()?.checked_add(1)?;
     let target = next.checked_add(i64::from(operation.distance()?))?;
     let target = usize::try_from(target).ok()?;
-    if target < spot.copy.slots {
+    if target < shown.copy.slots {
         Some(target)
     } else {
         None
     }
 }
 
-/// Writes where a jump leads.
-fn write_target<W: Write>(out: &mut W, spot: Spot<'_>, operation: &Operation) -> io::Result<()> {
-    let Some(target) = target_of(spot, operation) else {
+/// Writes the target of a jump.
+fn write_target<W: Write>(
+    out: &mut W,
+    shown: ShownSlot<'_>,
+    operation: &Operation,
+) -> io::Result<()> {
+    let Some(target) = target_of(shown, operation) else {
         return Ok(());
     };
-    let name = EscapedName(spot.copy.name.as_str());
+    let name = EscapedName(shown.copy.name.as_str());
     if target == 0 {
         return write!(out, " <{name}>");
     }
@@ -40,18 +44,18 @@ fn write_target<W: Write>(out: &mut W, spot: Spot<'_>, operation: &Operation) ->
 fn write_instruction<'a, W: Write>(
     out: &mut W,
     origins: &Origins<'a>,
-    linked: &Linked<'a>,
-    spot: Spot<'_>,
+    linked: &ShownProgram<'a>,
+    shown: ShownSlot<'_>,
     operation: &Operation,
 ) -> io::Result<()> {
-    if let Some(named) = origins.named(linked, spot) {
+    if let Some(named) = origins.named_operation(linked, shown) {
         return write!(out, "{named}");
     }
     write!(out, "{operation}")?;
-    write_target(out, spot, operation)
+    write_target(out, shown, operation)
 }
 
-/// Writes what CO-RE records wrote into a slot.
+/// Writes the notes on the CO-RE relocations of a slot.
 fn write_notes<W: Write>(
     out: &mut W,
     teller: &mut RecordTeller<'_>,
@@ -71,14 +75,14 @@ fn write_slot<'a, W: Write>(
     out: &mut W,
     teller: &mut RecordTeller<'_>,
     origins: &Origins<'a>,
-    linked: &Linked<'a>,
-    spot: Spot<'_>,
+    linked: &ShownProgram<'a>,
+    shown: ShownSlot<'_>,
     operation: &Operation,
 ) -> Result<(), Stop> {
-    let place = spot.place();
+    let place = shown.place();
     write!(out, "{place:>8}:  ")?;
-    write_instruction(out, origins, linked, spot, operation)?;
-    write_notes(out, teller, origins.notes(spot))?;
+    write_instruction(out, origins, linked, shown, operation)?;
+    write_notes(out, teller, origins.notes(shown))?;
     Ok(writeln!(out, "")?)
 }
 
@@ -120,8 +124,8 @@ fn is_another(origins: &Origins<'_>, last: Option<LineNumber>, line: LineNumber)
     !is_same(types, last, line)
 }
 
-/// The line that begins at a slot, where lines are wanted.
-fn beginning(linked: &Linked<'_>, place: usize) -> Option<LineNumber> {
+/// The line that begins at a slot, where lines are printed.
+fn line_at(linked: &ShownProgram<'_>, place: usize) -> Option<LineNumber> {
     let Some(lines) = &linked.lines else {
         return None;
     };
@@ -132,11 +136,11 @@ fn beginning(linked: &Linked<'_>, place: usize) -> Option<LineNumber> {
 fn write_line<W: Write>(
     out: &mut W,
     origins: &Origins<'_>,
-    linked: &Linked<'_>,
+    linked: &ShownProgram<'_>,
     place: usize,
     last: Option<LineNumber>,
 ) -> io::Result<Option<LineNumber>> {
-    let Some(line) = beginning(linked, place) else {
+    let Some(line) = line_at(linked, place) else {
         return Ok(last);
     };
     if is_another(origins, last, line) {
@@ -150,7 +154,7 @@ fn write_copy<'a, W: Write>(
     out: &mut W,
     teller: &mut RecordTeller<'_>,
     origins: &Origins<'a>,
-    linked: &Linked<'a>,
+    linked: &ShownProgram<'a>,
     copy: &'a CodeCopy,
 ) -> Result<(), Stop> {
     let name = EscapedName(copy.name.as_str());
@@ -162,12 +166,12 @@ fn write_copy<'a, W: Write>(
             is_second = false;
             continue;
         }
-        let Some(spot) = linked.spot(copy, slot) else {
+        let Some(shown) = linked.slot(copy, slot) else {
             break;
         };
-        let operation = decode(spot.instruction, spot.second);
-        last = write_line(out, origins, linked, spot.place(), last)?;
-        write_slot(out, teller, origins, linked, spot, &operation)?;
+        let operation = decode(shown.instruction, shown.second);
+        last = write_line(out, origins, linked, shown.place(), last)?;
+        write_slot(out, teller, origins, linked, shown, &operation)?;
         is_second = operation.takes_two();
     }
     Ok(())
@@ -178,7 +182,7 @@ pub fn write_instructions<'a, W: Write>(
     out: &mut W,
     teller: &mut RecordTeller<'_>,
     origins: &Origins<'a>,
-    linked: &Linked<'a>,
+    linked: &ShownProgram<'a>,
 ) -> Result<(), Stop> {
     for copy in linked.copies {
         write_copy(out, teller, origins, linked, copy)?;

@@ -1,4 +1,4 @@
-//! A linked program, with the copies that it is made of.
+//! Linked programs and their slots, as the output shows them.
 
 use cli_common::source_lines::Lines;
 use ebpf_model::Function;
@@ -9,12 +9,12 @@ use std::collections::BTreeMap;
 
 /// A linked program.
 #[derive(Drop)]
-pub struct Linked<'a> {
-    /// Its function with all slots.
+pub struct ShownProgram<'a> {
+    /// The function with all slots.
     pub function: &'a Function,
-    /// The copies that it is made of.
+    /// The copies of functions in it.
     pub copies: &'a [CodeCopy],
-    /// Where its source lines begin, where they are wanted.
+    /// The source lines, where they are printed.
     pub lines: Option<Lines<'a>>,
     /// The names of the copies, by the slots at which they begin.
     names: BTreeMap<usize, &'a str>,
@@ -24,18 +24,18 @@ pub struct Linked<'a> {
 
 /// A slot of a copy.
 #[derive(Clone, Copy)]
-pub struct Spot<'a> {
+pub struct ShownSlot<'a> {
     /// The copy.
     pub copy: &'a CodeCopy,
     /// The slot in the function that is copied.
     pub slot: usize,
-    /// What it holds.
+    /// The instruction.
     pub instruction: bpf_insn,
-    /// What the slot behind it in the copy holds, where there is one.
+    /// The instruction of the next slot in the copy, where there is one.
     pub second: Option<bpf_insn>,
 }
 
-impl Spot<'_> {
+impl ShownSlot<'_> {
     /// The slot in the program.
     pub fn place(&self) -> usize {
         self.copy.base.saturating_add(self.slot)
@@ -63,20 +63,20 @@ fn targets_of(
     Ok(targets)
 }
 
-impl<'a> Linked<'a> {
+impl<'a> ShownProgram<'a> {
     /// A program of these slots and copies, with source lines where they are wanted.
     pub fn new(
         alloc: Global,
         function: &'a Function,
         map: &'a LinkMap,
         with_lines: bool,
-    ) -> Result<Linked<'a>, AllocError> {
+    ) -> Result<ShownProgram<'a>, AllocError> {
         let lines = if with_lines {
             Some(Lines::new(alloc, function)?)
         } else {
             None
         };
-        Ok(Linked {
+        Ok(ShownProgram {
             function,
             copies: map.copies.as_slice(),
             lines,
@@ -86,7 +86,7 @@ impl<'a> Linked<'a> {
     }
 
     /// A slot of a copy; none past the copy's end.
-    pub fn spot(&self, copy: &'a CodeCopy, slot: usize) -> Option<Spot<'a>> {
+    pub fn slot(&self, copy: &'a CodeCopy, slot: usize) -> Option<ShownSlot<'a>> {
         let slots = self.function.instructions.as_slice();
         let place = copy.base.checked_add(slot)?;
         let after = slot.checked_add(1)?;
@@ -95,7 +95,7 @@ impl<'a> Linked<'a> {
         } else {
             None
         };
-        Some(Spot {
+        Some(ShownSlot {
             copy,
             slot,
             instruction: *slots.get(place)?,

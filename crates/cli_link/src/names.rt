@@ -1,9 +1,9 @@
-//! Calls and loads of what has a name.
+//! Calls and loads of functions, maps and kernel symbols by name.
 
 use cli_common::names::EscapedName;
 use std::fmt;
 
-/// What has a name.
+/// A function, map or kernel symbol with a name.
 #[derive(Clone, Copy)]
 pub enum Subject<'a> {
     /// A helper function: `bpf_loop#181`.
@@ -29,12 +29,12 @@ pub enum Subject<'a> {
     },
 }
 
-/// An instruction that names something.
+/// An instruction with its named subject.
 #[derive(Clone, Copy)]
-pub enum Named<'a> {
-    /// It calls that.
+pub enum NamedOperation<'a> {
+    /// A call.
     Call(Subject<'a>),
-    /// It loads that.
+    /// A load into a register.
     Load { register: u8, subject: Subject<'a> },
 }
 
@@ -58,11 +58,11 @@ impl fmt::Display for Subject<'_> {
     }
 }
 
-impl fmt::Display for Named<'_> {
+impl fmt::Display for NamedOperation<'_> {
     fn fmt<W: fmt::Write>(&self, f: &mut fmt::Formatter<W>) -> fmt::Result {
         match self {
-            Named::Call(subject) => write!(f, "call {subject}"),
-            Named::Load { register, subject } => write!(f, "r{register} = {subject}"),
+            NamedOperation::Call(subject) => write!(f, "call {subject}"),
+            NamedOperation::Load { register, subject } => write!(f, "r{register} = {subject}"),
         }
     }
 }

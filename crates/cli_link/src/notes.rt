@@ -1,4 +1,4 @@
-//! What CO-RE records wrote into slots.
+//! Notes on the values that CO-RE relocations wrote into slots.
 
 use ebpf_btf::Btf;
 use ebpf_core_relo::{Absence, RecordOutcome, RecordResult, RecordSlot};
@@ -9,28 +9,28 @@ use std::alloc::{AllocError, Global};
 /// A slot of a function: the section and the address of the function, and the slot's number in it.
 type SlotKey = (usize, u64, usize);
 
-/// What a record came to.
+/// The outcome of a CO-RE relocation.
 #[derive(Clone, Copy)]
 pub enum Written {
-    /// Its slot has that value.
+    /// The value of the slot.
     Value(u64),
-    /// What it asks has no value, and its slot fails.
+    /// No value; the slot is poisoned.
     NoValue,
-    /// The kernel's types lack that, and its slot fails.
+    /// The kernel's types lack the type, field or enumerator; the slot is poisoned.
     Absent(Absence),
 }
 
-/// That a record wrote a slot.
+/// A note on a slot that a CO-RE relocation wrote.
 #[derive(Clone, Copy)]
 pub struct Note {
     slot: SlotKey,
-    /// The record.
+    /// The relocation.
     pub relocation: Relocation,
-    /// What it came to.
+    /// The outcome.
     pub written: Written,
 }
 
-/// What an object's records wrote, by slots; of a slot in the order of the records.
+/// The notes on an object's CO-RE relocations, by slots; of one slot in the order of the relocations.
 #[derive(Drop)]
 pub struct RecordNotes {
     notes: Vec<Note>,
@@ -41,8 +41,8 @@ fn key_of(slot: RecordSlot) -> SlotKey {
     (slot.function.0, slot.function.1, slot.slot)
 }
 
-/// What a record wrote; nothing where it is refused.
-fn written_by(outcome: &RecordResult) -> Option<Written> {
+/// The outcome of a CO-RE relocation; none where it is refused.
+fn written_of(outcome: &RecordResult) -> Option<Written> {
     match outcome {
         RecordResult::Value(outcome) => match outcome.value {
             Some(value) => Some(Written::Value(value)),
@@ -53,16 +53,16 @@ fn written_by(outcome: &RecordResult) -> Option<Written> {
     }
 }
 
-/// What a record wrote, where it wrote a slot.
+/// The note on a CO-RE relocation, where it wrote a slot.
 fn note_of(relocation: &Relocation, outcome: &RecordOutcome) -> Option<Note> {
     Some(Note {
         slot: key_of(outcome.slot?),
         relocation: *relocation,
-        written: written_by(&outcome.result)?,
+        written: written_of(&outcome.result)?,
     })
 }
 
-/// Adds what the records of a section wrote, of which the first came to the first of these outcomes.
+/// Adds the notes on the CO-RE relocations of a section, whose outcomes begin at the first of these.
 fn add_section(
     notes: &mut Vec<Note>,
     relocations: &[Relocation],
@@ -77,7 +77,7 @@ fn add_section(
     Ok(())
 }
 
-/// What the records of an object wrote, which came to this, section by section and in order.
+/// The notes on an object's CO-RE relocations with these outcomes, section by section and in order.
 fn all_notes(
     alloc: Global,
     parsed: &Object,
@@ -96,14 +96,14 @@ fn all_notes(
     Ok(notes)
 }
 
-/// What the records of an object wrote, for a kernel's types.
+/// The notes on an object's CO-RE relocations over a kernel's types.
 fn notes_over(alloc: Global, parsed: &Object, types: &Btf) -> Result<Vec<Note>, AllocError> {
     let outcomes = parsed.record_outcomes(types)?;
     all_notes(alloc, parsed, outcomes.records.as_slice())
 }
 
 impl RecordNotes {
-    /// What the records of an object wrote, which was parsed, for a kernel whose types are known.
+    /// The notes on a parsed object's CO-RE relocations; none where the kernel's types aren't given.
     pub fn of(
         alloc: Global,
         parsed: &Object,
@@ -117,7 +117,7 @@ impl RecordNotes {
         Ok(RecordNotes { notes })
     }
 
-    /// What records wrote into the slot of a number in the function of a key.
+    /// The notes on the slot of a number in the function of a key.
     pub fn at(&self, function: (usize, u64), slot: usize) -> &[Note] {
         let key = (function.0, function.1, slot);
         let start = self.notes.partition_point(|note| note.slot < key);

@@ -1,7 +1,7 @@
-//! What the slots of an object's linked programs stand for.
+//! The origins of the slots of linked programs: their maps, kernel symbols, functions and CO-RE relocations.
 
-use crate::linked::{Linked, Spot};
-use crate::names::{Named, Subject};
+use crate::linked::{ShownProgram, ShownSlot};
+use crate::names::{NamedOperation, Subject};
 use crate::notes::{Note, RecordNotes};
 use cli_common::helper_calls::helper_name;
 use cli_common::names::EscapedName;
@@ -12,7 +12,7 @@ use ebpf_parts::insn::bpf_insn;
 use ebpf_parts::insn::opcodes::{BPF_PSEUDO_MAP_FD, BPF_PSEUDO_MAP_VALUE, CALL, LD_IMM64};
 use std::alloc::{AllocError, Global};
 
-/// What is known of the slots of an object's linked programs.
+/// The origins of the slots of an object's linked programs.
 #[derive(Drop)]
 pub struct Origins<'a> {
     /// The object after all passes.
@@ -21,12 +21,12 @@ pub struct Origins<'a> {
     parsed: &'a Object,
     /// The names of its maps, in byte order: the descriptor of each is its place among them, from 1 on.
     map_names: Vec<&'a str>,
-    /// What CO-RE records wrote into slots.
+    /// The values that CO-RE relocations wrote into slots.
     notes: &'a RecordNotes,
 }
 
 impl<'a> Origins<'a> {
-    /// What is known of an object after all passes, of what it was before them, and of what records wrote.
+    /// The origins of the slots of an object after all passes, by the object before them and the notes on CO-RE relocations.
     pub fn new(
         alloc: Global,
         object: &'a Object,
@@ -41,21 +41,21 @@ impl<'a> Origins<'a> {
         })
     }
 
-    /// What records wrote into a slot.
-    pub fn notes(&self, spot: Spot<'_>) -> &'a [Note] {
-        self.notes.at(spot.copy.key, spot.slot)
+    /// The notes on the CO-RE relocations of a slot.
+    pub fn notes(&self, shown: ShownSlot<'_>) -> &'a [Note] {
+        self.notes.at(shown.copy.key, shown.slot)
     }
 
     /// The relocation of a slot.
-    fn relocation(&self, spot: Spot<'_>) -> Option<&'a Relocation> {
-        let key = spot.copy.key;
+    fn relocation(&self, shown: ShownSlot<'_>) -> Option<&'a Relocation> {
+        let key = shown.copy.key;
         let function = self.parsed.functions.get(key)?;
         let start = function.section_offset as u64;
-        let offset = start.checked_add((spot.slot as u64).checked_mul(8)?)?;
+        let offset = start.checked_add((shown.slot as u64).checked_mul(8)?)?;
         self.parsed.relocations.get(key.0 as u64)?.get(offset)
     }
 
-    /// What a symbol of the kernel is, by its name.
+    /// The function or variable of the kernel that a symbol names.
     fn kernel_subject(&self, symbol: &'a Symbol) -> Option<Subject<'a>> {
         if !symbol.is_extern() {
             return None;
@@ -78,34 +78,34 @@ impl<'a> Origins<'a> {
     }
 
     /// The map to which a load refers.
-    fn map_subject(&self, spot: Spot<'_>) -> Option<Subject<'a>> {
-        if spot.instruction.code != LD_IMM64 {
+    fn map_subject(&self, shown: ShownSlot<'_>) -> Option<Subject<'a>> {
+        if shown.instruction.code != LD_IMM64 {
             return None;
         }
-        match spot.instruction.src_reg() {
-            BPF_PSEUDO_MAP_FD => Some(Subject::Map(self.map_name(spot.instruction)?)),
+        match shown.instruction.src_reg() {
+            BPF_PSEUDO_MAP_FD => Some(Subject::Map(self.map_name(shown.instruction)?)),
             BPF_PSEUDO_MAP_VALUE => Some(Subject::MapValue {
-                name: self.map_name(spot.instruction)?,
-                offset: spot.second?.imm,
+                name: self.map_name(shown.instruction)?,
+                offset: shown.second?.imm,
             }),
             _ => None,
         }
     }
 
-    /// What the relocation of a slot names.
-    fn related(&self, spot: Spot<'_>) -> Option<Subject<'a>> {
-        let relocation = self.relocation(spot)?;
+    /// The kernel symbol or map that the relocation of a slot names.
+    fn relocation_subject(&self, shown: ShownSlot<'_>) -> Option<Subject<'a>> {
+        let relocation = self.relocation(shown)?;
         let symbol = self.parsed.symbol_table.get(relocation.symbol_index)?;
         match self.kernel_subject(symbol) {
             Some(subject) => Some(subject),
-            None => self.map_subject(spot),
+            None => self.map_subject(shown),
         }
     }
 
     /// The function of the program to which a slot refers.
-    fn referred(linked: &Linked<'a>, spot: Spot<'_>) -> Option<Subject<'a>> {
-        let name = EscapedName(linked.referred(spot.place())?);
-        if spot.instruction.code == CALL {
+    fn function_subject(linked: &ShownProgram<'a>, shown: ShownSlot<'_>) -> Option<Subject<'a>> {
+        let name = EscapedName(linked.referred(shown.place())?);
+        if shown.instruction.code == CALL {
             Some(Subject::Called(name))
         } else {
             Some(Subject::Function(name))
@@ -122,25 +122,29 @@ impl<'a> Origins<'a> {
         Some(Subject::Helper { name, number })
     }
 
-    /// What a slot names: a function of the program, something of the kernel or a map, a helper function.
-    fn subject(&self, linked: &Linked<'a>, spot: Spot<'_>) -> Option<Subject<'a>> {
-        if let Some(subject) = Origins::referred(linked, spot) {
+    /// The subject of a slot: a function of the program, a kernel symbol or a map, a helper function.
+    fn subject(&self, linked: &ShownProgram<'a>, shown: ShownSlot<'_>) -> Option<Subject<'a>> {
+        if let Some(subject) = Origins::function_subject(linked, shown) {
             return Some(subject);
         }
-        if let Some(subject) = self.related(spot) {
+        if let Some(subject) = self.relocation_subject(shown) {
             return Some(subject);
         }
-        Origins::helper(spot.instruction)
+        Origins::helper(shown.instruction)
     }
 
     /// A call or a load of something that has a name.
-    pub fn named(&self, linked: &Linked<'a>, spot: Spot<'_>) -> Option<Named<'a>> {
-        let instruction = spot.instruction;
+    pub fn named_operation(
+        &self,
+        linked: &ShownProgram<'a>,
+        shown: ShownSlot<'_>,
+    ) -> Option<NamedOperation<'a>> {
+        let instruction = shown.instruction;
         match instruction.code {
-            CALL => Some(Named::Call(self.subject(linked, spot)?)),
-            LD_IMM64 => Some(Named::Load {
+            CALL => Some(NamedOperation::Call(self.subject(linked, shown)?)),
+            LD_IMM64 => Some(NamedOperation::Load {
                 register: instruction.dst_reg(),
-                subject: self.subject(linked, spot)?,
+                subject: self.subject(linked, shown)?,
             }),
             _ => None,
         }

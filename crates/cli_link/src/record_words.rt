@@ -1,4 +1,4 @@
-//! CO-RE records in words.
+//! CO-RE relocations in words.
 
 use crate::notes::{Note, Written};
 use cli_common::kinds::Kind;
@@ -10,27 +10,27 @@ use ebpf_ext::{Relocation, RelocationKind};
 use std::alloc::{AllocError, Global};
 use std::io::{self, Write};
 
-/// What a record asks: its type, its access string and its kind.
+/// The question of a CO-RE relocation: its type, its access string and its kind.
 #[derive(Clone, Copy, PartialEq, Eq)]
-struct Question {
+struct RecordQuestion {
     type_id: u32,
     access_str_off: u32,
     kind: RelocationKind,
 }
 
-/// What a record asks, in words.
+/// A CO-RE relocation in words.
 #[derive(Drop)]
 struct RecordWords {
-    question: Question,
-    /// What the record is about, as text shows it.
+    question: RecordQuestion,
+    /// The name of the type, field or enumerator, as text shows it.
     name: String,
-    /// The value that the object's own types give it. None where they give none.
+    /// The value by the object's own types, where they give one.
     own: Option<u64>,
-    /// Whether its values have a sign.
+    /// Whether the values have a sign.
     is_signed: bool,
 }
 
-/// The records of an object's types, in words: those of the last one stay for others that ask the same.
+/// The writer of CO-RE relocations in words, which keeps the last words for relocations with the same question.
 #[derive(Drop)]
 pub struct RecordTeller<'a> {
     alloc: Global,
@@ -38,9 +38,9 @@ pub struct RecordTeller<'a> {
     last: Option<RecordWords>,
 }
 
-impl Question {
-    fn of(relocation: &Relocation) -> Question {
-        Question {
+impl RecordQuestion {
+    fn of(relocation: &Relocation) -> RecordQuestion {
+        RecordQuestion {
             type_id: relocation.type_id,
             access_str_off: relocation.access_str_off,
             kind: relocation.kind,
@@ -49,12 +49,12 @@ impl Question {
 }
 
 impl RecordWords {
-    /// The words of a record.
+    /// The words of a CO-RE relocation.
     fn of(alloc: Global, local: &Btf, relocation: &Relocation) -> Result<RecordWords, AllocError> {
         let asked = RecordSubject::of(alloc, local, relocation)?;
         let name = EscapedName(asked.name.as_str());
         Ok(RecordWords {
-            question: Question::of(relocation),
+            question: RecordQuestion::of(relocation),
             name: format!(in alloc; "{name}")?,
             own: asked.own,
             is_signed: has_sign(local, relocation),
@@ -70,7 +70,7 @@ impl RecordWords {
         write_value(out, self.is_signed, value)
     }
 
-    /// Writes what a record came to.
+    /// Writes an outcome.
     fn write_written<W: Write>(&self, out: &mut W, written: Written) -> io::Result<()> {
         match written {
             Written::Value(value) => self.write_values(out, value),
@@ -79,7 +79,7 @@ impl RecordWords {
         }
     }
 
-    /// Writes what a record asked and what it came to.
+    /// Writes the question and an outcome.
     fn write<W: Write>(&self, out: &mut W, written: Written) -> io::Result<()> {
         let kind = Kind::of(self.question.kind).word();
         write!(out, "CO-RE <{kind}> ")?;
@@ -90,7 +90,7 @@ impl RecordWords {
 }
 
 impl<'a> RecordTeller<'a> {
-    /// Records of these types.
+    /// The writer for an object's own types.
     pub fn new(alloc: Global, local: Option<&'a Btf>) -> RecordTeller<'a> {
         RecordTeller {
             alloc,
@@ -99,9 +99,9 @@ impl<'a> RecordTeller<'a> {
         }
     }
 
-    /// Reads the words of a record, where they aren't those of the last one.
+    /// Reads the words of a CO-RE relocation, unless they are the last ones.
     fn read(&mut self, relocation: &Relocation) -> Result<(), AllocError> {
-        let (Some(local), question) = (self.local, Question::of(relocation)) else {
+        let (Some(local), question) = (self.local, RecordQuestion::of(relocation)) else {
             return Ok(());
         };
         if matches!(&self.last, Some(last) if last.question == question) {
@@ -111,7 +111,7 @@ impl<'a> RecordTeller<'a> {
         Ok(())
     }
 
-    /// Writes what a record asked and what it came to.
+    /// Writes the question of a CO-RE relocation and its outcome.
     pub fn write<W: Write>(&mut self, out: &mut W, note: &Note) -> Result<(), Stop> {
         self.read(&note.relocation)?;
         match &self.last {

@@ -2,55 +2,38 @@
 
 use crate::bytes::{BytesFailure, write_finished};
 use crate::instructions::write_instructions;
-use crate::linked::Linked;
+use crate::linked::ShownProgram;
 use crate::notes::RecordNotes;
 use crate::origins::Origins;
 use crate::record_words::RecordTeller;
 use cli_common::names::EscapedName;
 use cli_common::programs::ObjectProgram;
 use cli_common::refuse::Stop;
-use cli_prepare::{
-    MapSlots, Opened, PrepareWords, Prepared, open_file, prepare_file, refuse_preparing,
-};
+use cli_prepare::{Opened, PrepareWords, Prepared, open_file, prepare_file, refuse_preparing};
 use ebpf_model::Function;
 use ebpf_object::Object;
-use ebpf_reloc::LinkMap;
 use std::alloc::Global;
 use std::io::{self, BufWriter, Write};
 
-/// What `ebpf link` is to do.
+/// The arguments of `ebpf link`.
 #[derive(Drop)]
 pub struct LinkWords {
-    /// What is linked, and for which kernel.
+    /// The object, its programs and the kernel.
     pub prepare: PrepareWords,
     /// Whether slots are written as bytes.
     pub bytes: bool,
-    /// Whether instructions stand under their source lines.
+    /// Whether instructions are printed under their source lines.
     pub lines: bool,
 }
 
-/// Writes a program as instructions.
-fn write_linked<'a, W: Write>(
-    alloc: Global,
-    out: &mut W,
-    teller: &mut RecordTeller<'_>,
-    origins: &Origins<'a>,
-    function: &'a Function,
-    map: &'a LinkMap,
-    lines: bool,
-) -> Result<(), Stop> {
-    let linked = Linked::new(alloc, function, map, lines)?;
-    write_instructions(out, teller, origins, &linked)
-}
-
-/// Writes the line of a program: behind an empty one where instructions of another one stand before it.
+/// Writes the line of a program: behind an empty one unless it is the first.
 fn write_name<W: Write>(
     out: &mut W,
     program: &ObjectProgram,
     function: &Function,
-    stands_alone: bool,
+    is_first: bool,
 ) -> io::Result<()> {
-    if !stands_alone {
+    if !is_first {
         writeln!(out, "")?;
     }
     let name = EscapedName(program.name.as_str());
@@ -68,20 +51,21 @@ fn write_programs<'a, W: Write>(
 ) -> Result<(), Stop> {
     let maps = prepared.link_maps.iter();
     let mut teller = RecordTeller::new(alloc, prepared.parsed.btf.as_ref());
-    let mut stands_alone = true;
+    let mut is_first = true;
     for (program, map) in prepared.programs.iter().zip(maps) {
         let Some(function) = prepared.object.functions.get(program.key) else {
             continue;
         };
-        write_name(out, program, function, stands_alone)?;
-        write_linked(alloc, out, &mut teller, origins, function, map, lines)?;
-        stands_alone = false;
+        write_name(out, program, function, is_first)?;
+        let linked = ShownProgram::new(alloc, function, map, lines)?;
+        write_instructions(out, &mut teller, origins, &linked)?;
+        is_first = false;
     }
     Ok(())
 }
 
-/// Writes the programs of an object, of whose slots is known where they come from.
-fn write_all<'a>(
+/// Writes the programs of an object, with the origins of their slots, to the standard output.
+fn write_output<'a>(
     rt: &HostRuntime,
     prepared: &'a Prepared,
     origins: &Origins<'a>,
@@ -94,32 +78,23 @@ fn write_all<'a>(
     Ok(())
 }
 
-/// Writes the programs of an object; `notes` has what records wrote into slots.
-fn write_noted<'a>(
-    rt: &HostRuntime,
-    prepared: &'a Prepared,
-    notes: &'a RecordNotes,
-    lines: bool,
-) -> Result<(), Stop> {
-    let origins = Origins::new(rt.alloc(), &prepared.object, &prepared.parsed, notes)?;
-    write_all(rt, prepared, &origins, lines)
-}
-
 /// Writes the programs of an object.
 fn write_prepared(rt: &HostRuntime, prepared: &Prepared, lines: bool) -> Result<(), Stop> {
-    let notes = RecordNotes::of(rt.alloc(), &prepared.parsed, prepared.types.as_ref())?;
-    write_noted(rt, prepared, &notes, lines)
+    let (alloc, parsed) = (rt.alloc(), &prepared.parsed);
+    let notes = RecordNotes::of(alloc, parsed, prepared.types.as_ref())?;
+    let origins = Origins::new(alloc, &prepared.object, parsed, &notes)?;
+    write_output(rt, prepared, &origins, lines)
 }
 
 /// Writes the programs of the object of a file as instructions, behind their source lines where these are wanted.
 fn link_as_instructions(rt: &HostRuntime, words: &PrepareWords, lines: bool) -> Result<(), Stop> {
-    let prepared = prepare_file(rt, words, MapSlots::Numbered)?;
+    let prepared = prepare_file(rt, words)?;
     let written = write_prepared(rt, &prepared, lines);
     drop(prepared);
     written
 }
 
-/// Why the work ends where programs aren't written as bytes: what a pass refuses is told.
+/// The reason to stop where programs aren't written as bytes; the refusal of a pass is reported.
 fn stop_of(rt: &HostRuntime, words: &PrepareWords, parsed: &Object, failure: BytesFailure) -> Stop {
     match failure {
         BytesFailure::Preparing(error) => {
@@ -131,7 +106,7 @@ fn stop_of(rt: &HostRuntime, words: &PrepareWords, parsed: &Object, failure: Byt
     }
 }
 
-/// Writes the programs of an object that was opened as bytes.
+/// Writes the programs of an opened object as bytes.
 fn write_opened(rt: &HostRuntime, words: &PrepareWords, opened: &Opened) -> Result<(), Stop> {
     let alloc = rt.alloc();
     let mut out = BufWriter::new(alloc, rt.stdout())?;
@@ -157,7 +132,7 @@ fn link_as_bytes(rt: &HostRuntime, words: &PrepareWords) -> Result<(), Stop> {
     written
 }
 
-/// Does what `ebpf link` is asked, and gives the status.
+/// Runs `ebpf link`, and gives the status.
 pub fn link(rt: &HostRuntime, words: &LinkWords) -> Result<u8, Stop> {
     if words.bytes {
         link_as_bytes(rt, &words.prepare)?;

@@ -1,16 +1,17 @@
 -- What a refusal says of the files.
 use Rattle.std.proofs.Common.{◌≡◌, ℕ, Bool, true, false, List, Option, Some, None, refl, sym, ap, ◌∙◌, subst}
 use Rattle.std.proofs.lemmas.Option.{none-some}
-use Rattle.std.specs.Prelude.{⊤, MatchBool, MatchOption, IsSome}
+use Rattle.std.specs.Prelude.{⊤, MatchBool, MatchOption, IsSome, option_and_then}
 use Rattle.std.specs.FinMap.{get}
 use Rattle.cli_plain.specs.Done.{LacksNamed, is_outside, IsFailureOf}
 use Rattle.cli_plain.specs.Linked.{IsFileLinked}
-use Rattle.cli_plain.specs.Printed.{program_function_of, function_named}
 use Rattle.cli_plain.specs.declared.failure.Failure.{Failure}
 use Rattle.cli_plain.specs.declared.failure.Failure.TheVariants.{CannotRead, Btf, Preparing, NoProgram, CannotWrite, Memory}
 use Rattle.ebpf_ksyms.specs.Sources.{Source}
 use Rattle.ebpf_object.specs.Headline.{ProgramsAreWhole}
+use Rattle.ebpf_object.specs.LinkedPrograms.{function_of_named_program}
 use Rattle.ebpf_object.specs.declared.object.Object.{Object}
+use Rattle.ebpf_model.specs.declared.function.Function.{Function}
 use Rattle.ebpf_model.specs.declared.function.Program.{Program}
 use Rattle.ebpf_reloc.specs.SlotTargets.{LinkableValue}
 
@@ -24,20 +25,23 @@ pub untouched : (b : Bool) (F : Type 0) → F → MatchBool b ⊤ F
 untouched true F h = tt
 untouched false F h = h
 
+abbrev function_of : Object → Option Program → Option Function
+function_of o program = option_and_then (λ p. get o.functions (p.section_index, p.address)) program
+
 -- a program has a function
 module _ (parts : LinkableValue) (o : Object) (whole : ProgramsAreWhole parts o) (name : List ℕ) where
-  without : (p : Option Program) → get o.programs name ≡ p → program_function_of o p ≡ None → p ≡ None
+  without : (p : Option Program) → get o.programs name ≡ p → function_of o p ≡ None → p ≡ None
   without None is lacks = refl
   without (Some program) is lacks = let g = whole name program is in absurd (none-some g.0 (sym lacks ∙ g.1))
 
-  pub no_program : function_named o name ≡ None → get o.programs name ≡ None
+  pub no_program : function_of_named_program o name ≡ None → get o.programs name ≡ None
   no_program lacks = without (get o.programs name) refl lacks
 
-some_of : (o : Object) (p : Option Program) → IsSome (program_function_of o p) → IsSome p
+some_of : (o : Object) (p : Option Program) → IsSome (function_of o p) → IsSome p
 some_of o None h = h
 some_of o (Some program) h = refl
 
-pub there : (o : Object) (default_passes : Option (List ℕ)) → MatchOption default_passes ⊤ (λ name. IsSome (function_named o name)) → MatchOption default_passes ⊤ (λ name. IsSome (get o.programs name))
+pub there : (o : Object) (default_passes : Option (List ℕ)) → MatchOption default_passes ⊤ (λ name. IsSome (function_of_named_program o name)) → MatchOption default_passes ⊤ (λ name. IsSome (get o.programs name))
 there o None h = h
 there o (Some name) h = some_of o (get o.programs name) h
 

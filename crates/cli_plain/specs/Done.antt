@@ -12,8 +12,10 @@ use Rattle.ebpf_object.specs.Stages.{Chosen}
 use Rattle.ebpf_parts.specs.declared.reading.Reading.TheVariants.{Stated}
 use Rattle.ebpf_btf.specs.Memory as types
 use Rattle.ebpf_object.specs.Prepared as preparing
-use Rattle.cli_plain.specs.Linked.{IsFileLinked, kernel_types, default_passes}
-use Rattle.cli_plain.specs.Printed.{report_named, printed, function_named}
+use Rattle.cli_common.specs.DefaultPasses.{default_passes}
+use Rattle.cli_plain.specs.Linked.{IsFileLinked, kernel_types}
+use Rattle.cli_plain.specs.Printed.{report_named, printed}
+use Rattle.ebpf_object.specs.LinkedPrograms.{function_of_named_program}
 use Rattle.cli_plain.specs.declared.failure.Failure.{Failure}
 use Rattle.cli_plain.specs.declared.failure.Failure.TheVariants.{NoProgram, CannotRead, Btf, Preparing, CannotWrite, Memory}
 
@@ -31,7 +33,7 @@ pub record HasPrinted (file : List ℕ) (btf : Option (List ℕ)) (lines : Sourc
 
 -- an object has no program of the name that it refuses
 abbrev pub Lacks : Object → List ℕ → Failure → Type 0
-Lacks o name (NoProgram absent) = (absent.now ≡ name) × (function_named o name ≡ None)
+Lacks o name (NoProgram absent) = (absent.now ≡ name) × (function_of_named_program o name ≡ None)
 Lacks o name _ = ⊥
 
 abbrev pub LacksNamed : Object → Option (List ℕ) → Failure → Type 0

@@ -1,4 +1,4 @@
-//! The words of the command line.
+//! The arguments of the command line.
 
 ghost use Rattle.std.specs.Prelude.{◌≡◌, IfOk, IfErr, Some, None, true, map, string_bytes};
 ghost use Rattle.std.specs.Option.{option_copied};
@@ -10,7 +10,7 @@ use std::alloc::{AllocError, Global};
 use std::marker::Model;
 use thiserror::Error;
 
-/// What the words of a command line ask for.
+/// The arguments of a command line.
 #[derive(Debug, Drop)]
 pub struct Words {
     /// The object's file.
@@ -35,13 +35,13 @@ impl Words {
     }
 }
 
-/// Why words can't be read.
+/// The reason why arguments can't be read.
 #[derive(Clone, Copy, Debug, Error, PartialEq, Eq)]
 pub enum WordsError {
-    /// They are not as the usage line says.
+    /// The arguments are not as the usage line says.
     #[error("usage: FILE [--btf FILE] [--kallsyms FILE] [--program NAME]")]
     Usage,
-    /// Memory was refused.
+    /// An allocation failed.
     #[error("memory")]
     OutOfMemory,
 }
@@ -56,7 +56,7 @@ impl From<AllocError> for WordsError {
     }
 }
 
-/// What an argument is for.
+/// The kinds of argument.
 #[derive(Clone, Copy)]
 enum ArgumentKind {
     File,
@@ -83,26 +83,26 @@ fn has_dashes(word: &str) -> bool
     word.as_bytes().starts_with(b"--")
 }
 
-/// The texts that words give, lent.
+/// The texts of the arguments, lent.
 #[derive(Drop)]
-struct Found<'a> {
+struct FoundWords<'a> {
     file: Option<&'a str>,
     btf: Option<&'a str>,
     kallsyms: Option<&'a str>,
     program: Option<&'a str>,
 }
 
-impl<'a> Model for Found<'a> {
+impl<'a> Model for FoundWords<'a> {
     ghost Value = { FoundValue };
 
     ghost view = { λ f. record { file = option_copied f.file; btf = option_copied f.btf; kallsyms = option_copied f.kallsyms; program = option_copied f.program } };
 }
 
-impl<'a> Found<'a> {
-    fn nothing() -> Found<'a>
+impl<'a> FoundWords<'a> {
+    fn nothing() -> FoundWords<'a>
         ensures { result ≡ nothing }
     {
-        Found {
+        FoundWords {
             file: None,
             btf: None,
             kallsyms: None,
@@ -112,18 +112,18 @@ impl<'a> Found<'a> {
 
     /// Puts a text of a kind that has none yet.
     #[tactic(auto, unfolding(crate::specs::Arguments::put))]
-    fn put(self, kind: ArgumentKind, text: &'a str) -> Option<Found<'a>>
+    fn put(self, kind: ArgumentKind, text: &'a str) -> Option<FoundWords<'a>>
         ensures { result ≡ put self.entry (kind, text.entry.now) }
     {
         let text = Some(text);
         match kind {
-            ArgumentKind::File if self.file.is_none() => Some(Found { file: text, ..self }),
-            ArgumentKind::Btf if self.btf.is_none() => Some(Found { btf: text, ..self }),
-            ArgumentKind::Kallsyms if self.kallsyms.is_none() => Some(Found {
+            ArgumentKind::File if self.file.is_none() => Some(FoundWords { file: text, ..self }),
+            ArgumentKind::Btf if self.btf.is_none() => Some(FoundWords { btf: text, ..self }),
+            ArgumentKind::Kallsyms if self.kallsyms.is_none() => Some(FoundWords {
                 kallsyms: text,
                 ..self
             }),
-            ArgumentKind::Program if self.program.is_none() => Some(Found {
+            ArgumentKind::Program if self.program.is_none() => Some(FoundWords {
                 program: text,
                 ..self
             }),
@@ -132,11 +132,11 @@ impl<'a> Found<'a> {
     }
 }
 
-/// The texts that words give.
-fn find_texts(words: &[String]) -> Option<Found<'_>>
+/// The texts of the arguments.
+fn find_texts(words: &[String]) -> Option<FoundWords<'_>>
     ensures { result ≡ texts_in (map string_bytes words.now) }
 {
-    let mut found = Found::nothing();
+    let mut found = FoundWords::nothing();
     let mut waits = None;
     for word in words {
         let text = word.as_str();
@@ -171,12 +171,12 @@ fn copied(alloc: Global, text: Option<&str>) -> Result<Option<Text>, WordsError>
     }
 }
 
-/// What the words of a command line ask for: one file, and each option at most once, in any order.
+/// Reads the arguments of a command line: one file, and each option at most once, in any order.
 ///
 /// # Errors
 ///
-/// `Usage` where there is no file or a second one, an option twice or without the word behind it, or
-/// another word that begins with `--`. `OutOfMemory` only where memory was refused.
+/// - `Usage`: there is no file or a second one, an option twice or without its value, or another word that begins with `--`.
+/// - `OutOfMemory`: an allocation failed.
 pub fn read_words(alloc: Global, words: &[String]) -> Result<Words, WordsError>
     ensures words { IfOk result (λ default_passes. parsed_words (map string_bytes words.now) ≡ Some default_passes) }
     ensures fault { Refuses is_words_memory result (words_fault (map string_bytes words.now)) }

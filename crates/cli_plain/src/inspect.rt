@@ -1,10 +1,10 @@
-//! What `ebpf-inspect` does once its files are open.
+//! `ebpf-inspect` over open files.
 
 ghost use Rattle.std.specs.Prelude.{◌≡◌, ◌≤◌, ⊤, ℕ, List, true, Some, None, IfOk, IfErr, OnOk, IsSome, MatchBool, MatchOption, option_map};
 ghost use Rattle.std.specs.Io.KnownBytes.{Appends};
 ghost use Rattle.std.specs.Option.{option_copied};
 ghost use Rattle.cli_plain.specs.Done.{is_outside, is_writers, IsFailureOf, IsPreparingFailure, LacksReport, LacksNamedReport};
-ghost use Rattle.cli_plain.specs.Linked.{default_passes};
+ghost use Rattle.cli_common.specs.DefaultPasses.{default_passes};
 ghost use Rattle.cli_plain.specs.Printed.{report_named, reports_text, HasInspected, HasListed};
 ghost use Rattle.ebpf_inspect.specs.Inspected.{IsInspected};
 ghost use Rattle.ebpf_object.specs.Prepared.{IsParsed};
@@ -13,13 +13,13 @@ ghost use Rattle.ebpf_parts.specs.declared.reading.Reading.TheVariants.{Stated};
 use crate::arguments::Words;
 use crate::failure::{Failure, report};
 use crate::link::finish;
-use crate::preparation::{map_names, numbered_descriptors, read_types};
+use crate::preparation::read_types;
 use crate::printed_text::write_report;
 use ebpf_base::Items;
 use ebpf_btf::Btf;
 use ebpf_inspect::{ProgramReport, inspect_object};
 use ebpf_object::Object;
-use ebpf_object::prepare::{PrepareError, Steps, SymbolSource};
+use ebpf_object::prepare::{PrepareError, Steps, SymbolSource, numbered_descriptors};
 use std::alloc::Global;
 use std::io::Write;
 
@@ -65,7 +65,7 @@ fn write_all<W: Write>(reports: &[ProgramReport], out: &mut W) -> Result<(), Fai
     Ok(())
 }
 
-/// Writes what is wanted: the report of the program of a name, or all.
+/// Writes the report of the program of a name, or all.
 fn write_reports<'a, W: Write>(
     reports: &[ProgramReport],
     program: Option<&'a str>,
@@ -82,8 +82,8 @@ fn write_reports<'a, W: Write>(
     }
 }
 
-/// Writes what is wanted, and hands all on.
-#[tactic(auto, using(crate::proofs::Appending::kept))]
+/// Writes the report of the program of a name, or all, and flushes the writer.
+#[tactic(auto, using(cli_common::proofs::Appending::kept))]
 fn print_listed<'a, W: Write>(
     reports: &[ProgramReport],
     program: Option<&'a str>,
@@ -104,7 +104,7 @@ fn print_listed<'a, W: Write>(
     }
 }
 
-/// What the programs of an object are made of after all passes: types where the kernel's are known, descriptors of its
+/// The reports on an object's programs after all passes: types where the kernel's are known, descriptors of its
 /// own maps, externs, calls.
 fn inspect_all<K: SymbolSource>(
     alloc: Global,
@@ -115,7 +115,7 @@ fn inspect_all<K: SymbolSource>(
     ensures inspected { (file : List ℕ) → IsParsed Stated file object → IfOk result (IsInspected (default_passes (option_copied types.entry) object.maps) (K.source kallsyms) Stated file) }
     ensures refused { (file : List ℕ) → IsParsed Stated file object → IfErr result (λ f. MatchBool (is_outside f) ⊤ (IsPreparingFailure (default_passes (option_copied types.entry) object.maps) (K.source kallsyms) file f)) }
 {
-    let Ok(names) = map_names(alloc, &object) else {
+    let Ok(names) = object.map_names(alloc) else {
         drop(object);
         return Err(Failure::Memory);
     };
@@ -134,7 +134,7 @@ fn inspect_all<K: SymbolSource>(
     }
 }
 
-/// What the programs of a file are made of after all passes.
+/// The reports on a file's programs after all passes.
 fn inspected<K: SymbolSource>(
     alloc: Global,
     file: &[u8],
@@ -155,13 +155,17 @@ fn inspected<K: SymbolSource>(
     inspect_all(alloc, object, types.as_ref(), kallsyms)
 }
 
-/// Inspects a file after all passes, and writes what the programs that are wanted are made of.
+/// Inspects a file after all passes, and writes the report of the program of a name, or all.
 ///
 /// # Errors
 ///
-/// `Btf` where the kernel's types can't be read; else `Preparing` with the first fault of preparing the file; else
-/// `NoProgram` where no program has the name. `CannotWrite` where the writer fails, `Memory` where memory was refused
-/// between the stages. But for `CannotWrite` nothing was written.
+/// - `Btf`: the kernel's types can't be read.
+/// - `Preparing`: the first fault of preparing the file.
+/// - `NoProgram`: no program has the name.
+/// - `CannotWrite`: the writer fails.
+/// - `Memory`: an allocation failed between the passes.
+///
+/// Except on `CannotWrite` nothing was written.
 #[tactic(auto, using(crate::proofs::Refusing::untouched))]
 pub fn print_reports<'a, K: SymbolSource, W: Write>(
     alloc: Global,
@@ -185,8 +189,8 @@ pub fn print_reports<'a, K: SymbolSource, W: Write>(
     }
 }
 
-/// Inspects a file and prints what its programs are made of, all in byte order of their names or the one that `words`
-/// names. What it is given, the passes and the status are those of `run_link`.
+/// Inspects a file and prints the reports on its programs, all in byte order of their names or the one that `words` names.
+/// The parameters, the passes and the status are those of `run_link`.
 pub fn run_inspect<K: SymbolSource, O: Write, E: Write>(
     alloc: Global,
     words: &Words,

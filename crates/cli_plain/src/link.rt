@@ -1,4 +1,4 @@
-//! What `ebpf-link` does once its files are open.
+//! `ebpf-link` over open files.
 
 ghost use Rattle.std.specs.Prelude.{◌≡◌, ◌≤◌, ⊤, ℕ, List, true, None, IfOk, IfErr, OnOk, IsSome, MatchBool, MatchOption, option_map};
 ghost use Rattle.std.specs.Io.KnownBytes.{Appends, Keeps};
@@ -8,37 +8,32 @@ ghost use Rattle.ebpf_base.specs.Maps.{lent_bytes};
 ghost use Rattle.ebpf_object.specs.Headline.{Headline};
 ghost use Rattle.ebpf_object.specs.Prepared.{IsParsed};
 ghost use Rattle.cli_plain.specs.Done.{HasPrinted, Lacks, LacksNamed, is_outside, is_writers, IsFailureOf, IsPreparingFailure};
-ghost use Rattle.cli_plain.specs.Linked.{default_passes, IsFileLinked};
-ghost use Rattle.cli_plain.specs.Printed.{function_named, program_lines, printed};
+ghost use Rattle.cli_common.specs.DefaultPasses.{default_passes};
+ghost use Rattle.cli_plain.specs.Linked.{IsFileLinked};
+ghost use Rattle.cli_plain.specs.Printed.{program_lines, printed};
+ghost use Rattle.ebpf_object.specs.LinkedPrograms.{function_of_named_program};
 ghost use Rattle.ebpf_parts.specs.declared.reading.Reading.TheVariants.{Stated};
 
 use crate::arguments::Words;
 use crate::failure::{Failure, report};
-use crate::preparation::{map_names, numbered_descriptors, read_types};
+use crate::preparation::read_types;
 use crate::printed_text::write_program;
 use ebpf_btf::Btf;
-use ebpf_model::Function;
 use ebpf_object::Object;
-use ebpf_object::prepare::{PrepareError, Steps, SymbolSource, prepare_object};
+use ebpf_object::prepare::{
+    PrepareError, Steps, SymbolSource, numbered_descriptors, prepare_object,
+};
 use std::alloc::Global;
 use std::io::Write;
-
-/// The function of the program of a name; None where no program has the name, or it has no function.
-pub fn function_named<'a>(object: &'a Object, name: &str) -> Option<&'a Function>
-    ensures { option_copied result ≡ function_named object.now name.now }
-{
-    let program = object.programs.get(name)?;
-    object.functions.get(program.function_key())
-}
 
 /// Writes the program of a name.
 fn write_named<'a, W: Write>(object: &Object, name: &'a str, out: &mut W) -> Result<(), Failure<'a>>
     ensures text { OnOk result (Appends (W.contents out.old) (W.contents out.new) (program_lines object.now name.now)) }
-    ensures there { OnOk result (IsSome (function_named object.now name.now)) }
+    ensures there { OnOk result (IsSome (function_of_named_program object.now name.now)) }
     ensures refused { IfErr result (λ f. MatchBool (is_outside f) ⊤ (Lacks object.now name.now f)) }
     ensures untouched { IfErr result (λ f. MatchBool (is_writers f) ⊤ (out.new ≡ out.old)) }
 {
-    let Some(function) = function_named(object, name) else {
+    let Some(function) = object.program_function(name) else {
         return Err(Failure::NoProgram(name));
     };
     match write_program(out, name, function.instructions.as_slice()) {
@@ -81,7 +76,7 @@ fn write_all<W: Write>(alloc: Global, object: &Object, out: &mut W) -> Result<()
     write_each(object, &names, out)
 }
 
-/// Writes what is wanted: the program of a name, or all.
+/// Writes the program of a name, or all.
 fn write_programs<'a, W: Write>(
     alloc: Global,
     object: &Object,
@@ -89,7 +84,7 @@ fn write_programs<'a, W: Write>(
     out: &mut W,
 ) -> Result<(), Failure<'a>>
     ensures text { OnOk result (Appends (W.contents out.old) (W.contents out.new) (printed object.now (option_copied program.entry))) }
-    ensures there { OnOk result (MatchOption (option_copied program.entry) ⊤ (λ name. IsSome (function_named object.now name))) }
+    ensures there { OnOk result (MatchOption (option_copied program.entry) ⊤ (λ name. IsSome (function_of_named_program object.now name))) }
     ensures refused { IfErr result (λ f. MatchBool (is_outside f) ⊤ (LacksNamed object.now (option_copied program.entry) f)) }
     ensures untouched { IfErr result (λ f. MatchBool (is_writers f) ⊤ (out.new ≡ out.old)) }
 {
@@ -99,7 +94,7 @@ fn write_programs<'a, W: Write>(
     }
 }
 
-/// Hands on all that was written.
+/// Flushes the writer.
 pub fn finish<W: Write>(out: &mut W) -> Result<(), Failure<'static>>
     ensures text { OnOk result (Keeps (W.contents out.old) (W.contents out.new)) }
     ensures refused { IfErr result (λ f. is_outside f ≡ true) }
@@ -111,8 +106,8 @@ pub fn finish<W: Write>(out: &mut W) -> Result<(), Failure<'static>>
     }
 }
 
-/// Writes what is wanted, and hands all on.
-#[tactic(auto, using(crate::proofs::Appending::kept))]
+/// Writes the program of a name, or all, and flushes the writer.
+#[tactic(auto, using(cli_common::proofs::Appending::kept))]
 fn print_object<'a, W: Write>(
     alloc: Global,
     object: &Object,
@@ -120,7 +115,7 @@ fn print_object<'a, W: Write>(
     out: &mut W,
 ) -> Result<(), Failure<'a>>
     ensures text { OnOk result (Appends (W.contents out.old) (W.contents out.new) (printed object.now (option_copied program.entry))) }
-    ensures there { OnOk result (MatchOption (option_copied program.entry) ⊤ (λ name. IsSome (function_named object.now name))) }
+    ensures there { OnOk result (MatchOption (option_copied program.entry) ⊤ (λ name. IsSome (function_of_named_program object.now name))) }
     ensures refused { IfErr result (λ f. MatchBool (is_outside f) ⊤ (LacksNamed object.now (option_copied program.entry) f)) }
     ensures untouched { IfErr result (λ f. MatchBool (is_writers f) ⊤ (out.new ≡ out.old)) }
 {
@@ -144,7 +139,7 @@ pub fn prepare_all<K: SymbolSource>(
     ensures headline { (file : List ℕ) → IsParsed Stated file object → IfOk result (Headline (default_passes (option_copied types.entry) object.maps) (K.source kallsyms) Stated file) }
     ensures refused { (file : List ℕ) → IsParsed Stated file object → IfErr result (λ f. MatchBool (is_outside f) ⊤ (IsPreparingFailure (default_passes (option_copied types.entry) object.maps) (K.source kallsyms) file f)) }
 {
-    let Ok(names) = map_names(alloc, &object) else {
+    let Ok(names) = object.map_names(alloc) else {
         drop(object);
         return Err(Failure::Memory);
     };
@@ -184,13 +179,17 @@ fn prepared<K: SymbolSource>(
     prepare_all(alloc, object, types.as_ref(), kallsyms)
 }
 
-/// Prepares the object of a file with all passes, and writes the programs that are wanted.
+/// Prepares the object of a file with all passes, and writes the program of a name, or all.
 ///
 /// # Errors
 ///
-/// `Btf` where the kernel's types can't be read; else `Preparing` with the first fault of preparing the file; else
-/// `NoProgram` where no program has the name. `CannotWrite` where the writer fails, `Memory` where memory was refused
-/// between the stages. But for `CannotWrite` nothing was written.
+/// - `Btf`: the kernel's types can't be read.
+/// - `Preparing`: the first fault of preparing the file.
+/// - `NoProgram`: no program has the name.
+/// - `CannotWrite`: the writer fails.
+/// - `Memory`: an allocation failed between the passes.
+///
+/// Except on `CannotWrite` nothing was written.
 #[tactic(auto, using(crate::proofs::Refusing::untouched))]
 pub fn print_programs<'a, K: SymbolSource, W: Write>(
     alloc: Global,
@@ -221,10 +220,10 @@ pub fn print_programs<'a, K: SymbolSource, W: Write>(
 }
 
 /// Prepares an object and prints its programs, all in byte order of their names or the one that `words` names.
-/// `btf` has the kernel's types, little endian, where they are known, and `kallsyms` the lines of the kernel's
-/// symbols. Functions are relocated to the types where they are known, the object's own maps have the descriptors 1 and
-/// on in byte order of their names, externs are resolved and written, and programs are linked with the functions that
-/// they reach. It gives the status: 0, or 1 with one line on `err`, the failure that `print_programs` gives.
+/// `btf` has the kernel's types, little endian, where they are known, and `kallsyms` the lines of the kernel's symbols.
+/// Functions are relocated to the types where they are known, the object's own maps have the descriptors 1, 2, .. in byte
+/// order of their names, externs are resolved and written, and programs are linked with the functions that they reach.
+/// Gives the status: 0, or 1 with one line on `err`, the failure that `print_programs` gives.
 pub fn run_link<K: SymbolSource, O: Write, E: Write>(
     alloc: Global,
     words: &Words,

@@ -1,4 +1,4 @@
-//! From the words of a command line to open files.
+//! The arguments of a command line, with their files opened.
 
 use crate::arguments::{Words, WordsError, read_words};
 use crate::failure::cannot_read;
@@ -8,32 +8,42 @@ use std::io::{self, BufRead, BufReader, BufWriter, ErrorKind, Read, Write};
 use std::process::ExitCode;
 use std::{env, fs};
 
+/// The arguments of a program, with their files opened.
+#[derive(Drop)]
+pub struct OpenFiles<'a, K> {
+    /// The arguments.
+    pub words: &'a Words,
+    /// The bytes of the object's file.
+    pub file: &'a [u8],
+    /// The bytes of the kernel's types, where they are given.
+    pub btf: Option<Vec<u8>>,
+    /// The kernel's symbols.
+    pub kallsyms: K,
+}
+
 /// A program of the command line `NAME FILE [--btf FILE] [--kallsyms FILE] [--program NAME]`.
-pub trait Command {
-    /// Its name.
+pub trait PlainCommand {
+    /// The name.
     const NAME: &'static str;
 
-    /// What it does with open files; it gives the status.
+    /// Runs the program on open files, and gives the status.
     fn run<K: BufRead + Drop, O: Write, E: Write>(
         alloc: Global,
-        words: &Words,
-        file: &[u8],
-        btf: Option<Vec<u8>>,
-        kallsyms: K,
+        files: OpenFiles<'_, K>,
         out: &mut O,
         err: &mut E,
     ) -> u8;
 }
 
 /// Prints the usage line, as a refusal of the words.
-fn usage<C: Command>(rt: &HostRuntime) -> u8 {
+fn usage<C: PlainCommand>(rt: &HostRuntime) -> u8 {
     let name = C::NAME;
     let _ = eprintln!(rt; "usage: {name} FILE [--btf FILE] [--kallsyms FILE] [--program NAME]");
     2
 }
 
-/// Says that memory was refused.
-fn no_memory<C: Command>(rt: &HostRuntime) -> u8 {
+/// Reports that an allocation failed.
+fn no_memory<C: PlainCommand>(rt: &HostRuntime) -> u8 {
     let name = C::NAME;
     let _ = eprintln!(rt; "{name}: memory");
     1
@@ -57,8 +67,8 @@ fn read_bytes(rt: &HostRuntime, path: &str) -> io::Result<Vec<u8>> {
     Ok(bytes)
 }
 
-/// The bytes of a file, or the status with which its failure was told.
-fn read_file<C: Command>(rt: &HostRuntime, path: &str) -> Result<Vec<u8>, u8> {
+/// The bytes of a file, or the status of its failure, which is reported.
+fn read_file<C: PlainCommand>(rt: &HostRuntime, path: &str) -> Result<Vec<u8>, u8> {
     match read_bytes(rt, path) {
         Ok(bytes) => Ok(bytes),
         Err(error) if matches!(error.kind(), ErrorKind::OutOfMemory) => Err(no_memory::<C>(rt)),
@@ -67,65 +77,67 @@ fn read_file<C: Command>(rt: &HostRuntime, path: &str) -> Result<Vec<u8>, u8> {
 }
 
 /// The bytes of a file that may be named.
-fn read_option<C: Command>(rt: &HostRuntime, path: &Option<Text>) -> Result<Option<Vec<u8>>, u8> {
+fn read_option<C: PlainCommand>(
+    rt: &HostRuntime,
+    path: &Option<Text>,
+) -> Result<Option<Vec<u8>>, u8> {
     match path {
         Some(path) => Ok(Some(read_file::<C>(rt, path.as_str())?)),
         None => Ok(None),
     }
 }
 
-/// Hands the open files on.
-fn run_with<C: Command, K: BufRead + Drop>(
-    rt: &HostRuntime,
-    words: &Words,
-    file: &[u8],
-    btf: Option<Vec<u8>>,
-    kallsyms: K,
-) -> u8 {
+/// Runs a program on open files.
+fn run_with<C: PlainCommand, K: BufRead + Drop>(rt: &HostRuntime, files: OpenFiles<'_, K>) -> u8 {
     let Ok(mut out) = BufWriter::new(rt.alloc(), rt.stdout()) else {
         return no_memory::<C>(rt);
     };
-    C::run(
-        rt.alloc(),
-        words,
-        file,
-        btf,
-        kallsyms,
-        &mut out,
-        &mut rt.stderr(),
-    )
+    C::run(rt.alloc(), files, &mut out, &mut rt.stderr())
 }
 
-/// Opens the file of the kernel's symbols and hands all on. Without one there are no lines.
-fn run_symbols<C: Command>(
+/// Opens the file of the kernel's symbols and runs a program. Without such a file there are no lines.
+fn run_symbols<C: PlainCommand>(
     rt: &HostRuntime,
     words: &Words,
     file: &[u8],
     btf: Option<Vec<u8>>,
 ) -> u8 {
     let Some(path) = &words.kallsyms else {
-        let none: &[u8] = &[];
-        return run_with::<C, &[u8]>(rt, words, file, btf, none);
+        let kallsyms: &[u8] = &[];
+        let files = OpenFiles {
+            words,
+            file,
+            btf,
+            kallsyms,
+        };
+        return run_with::<C, &[u8]>(rt, files);
     };
     let Ok(opened) = fs::open(rt, path.as_str()) else {
         return cannot_read(C::NAME, path.as_str(), &mut rt.stderr());
     };
     match BufReader::new(rt.alloc(), opened) {
-        Ok(kallsyms) => run_with::<C, _>(rt, words, file, btf, kallsyms),
+        Ok(kallsyms) => {
+            let files = OpenFiles {
+                words,
+                file,
+                btf,
+                kallsyms,
+            };
+            run_with::<C, _>(rt, files)
+        }
         Err(_) => no_memory::<C>(rt),
     }
 }
 
-/// Opens the object's file, then that of the kernel's types, and hands them on.
-fn run_files<C: Command>(rt: &HostRuntime, words: &Words) -> Result<u8, u8> {
+/// Opens the object's file, then that of the kernel's types, and runs a program.
+fn run_files<C: PlainCommand>(rt: &HostRuntime, words: &Words) -> Result<u8, u8> {
     let file = read_file::<C>(rt, words.file.as_str())?;
     let btf = read_option::<C>(rt, &words.btf)?;
     Ok(run_symbols::<C>(rt, words, file.as_slice(), btf))
 }
 
-/// Runs a program of the command line: gathers its words, opens the files that they name in the order FILE, types,
-/// symbols, and hands them on.
-pub fn start<C: Command>(rt: &HostRuntime) -> ExitCode {
+/// Runs a program of the command line: gathers its arguments, and opens their files in the order FILE, types, symbols.
+pub fn start<C: PlainCommand>(rt: &HostRuntime) -> ExitCode {
     let words = match gather(rt) {
         Ok(words) => words,
         Err(error) if matches!(error.kind(), ErrorKind::OutOfMemory) => {

@@ -1,69 +1,16 @@
-//! The texts of a program's slots, and of what a program is made of.
+//! The lines of programs and of their parts.
 
-ghost use Rattle.std.specs.Prelude.{◌≡◌, ◌<◌, OnOk};
+ghost use Rattle.std.specs.Prelude.{OnOk};
 ghost use Rattle.std.specs.Io.KnownBytes.{Appends};
 ghost use Rattle.std.specs.List.{flat_map};
-ghost use Rattle.cli_plain.specs.Printed.{hex_digit, slot_line, head_line, program_text, address_text, copy_line, reference_line, report_text};
+ghost use Rattle.cli_common.specs.SlotText.{head_line, program_text};
+ghost use Rattle.cli_plain.specs.Printed.{address_text, copy_line, reference_line, report_text};
 
+use cli_common::slot_text::write_slots;
 use ebpf_inspect::ProgramReport;
 use ebpf_object::insn::bpf_insn;
 use ebpf_object::relocation::{CodeCopy, Reference};
 use std::io::{self, Write};
-
-/// The digit of a number below 16.
-fn digit(value: u8) -> u8
-    requires { value < 16 }
-    ensures { result ≡ hex_digit value }
-{
-    if value < 10 {
-        b'0' + value
-    } else {
-        b'a' + (value - 10)
-    }
-}
-
-/// The line of a slot: its eight bytes as numbers of base 16 with two digits.
-fn slot_line(slot: &bpf_insn) -> [u8; 24]
-    ensures { result ≡ slot_line slot.now }
-{
-    let [a, b, c, d, e, f, g, h] = slot.to_bytes();
-    [
-        digit(a / 16),
-        digit(a % 16),
-        b' ',
-        digit(b / 16),
-        digit(b % 16),
-        b' ',
-        digit(c / 16),
-        digit(c % 16),
-        b' ',
-        digit(d / 16),
-        digit(d % 16),
-        b' ',
-        digit(e / 16),
-        digit(e % 16),
-        b' ',
-        digit(f / 16),
-        digit(f % 16),
-        b' ',
-        digit(g / 16),
-        digit(g % 16),
-        b' ',
-        digit(h / 16),
-        digit(h % 16),
-        b'\n',
-    ]
-}
-
-/// Writes the lines of slots.
-pub fn write_slots<W: Write>(out: &mut W, slots: &[bpf_insn]) -> io::Result<()>
-    ensures { OnOk result (Appends (W.contents out.old) (W.contents out.new) (flat_map slot_line slots.now)) }
-{
-    for slot in slots {
-        out.write_all(&slot_line(slot))?;
-    }
-    Ok(())
-}
 
 /// Writes the line of a program: its name and the number of its slots.
 pub fn write_head<W: Write>(out: &mut W, name: &str, slots: &[bpf_insn]) -> io::Result<()>
@@ -89,7 +36,7 @@ fn write_address<W: Write>(out: &mut W, address: u64) -> io::Result<()>
 }
 
 /// Writes the line of a copy.
-#[tactic(auto, using(crate::proofs::Appending::both))]
+#[tactic(auto, using(cli_common::proofs::Appending::both))]
 fn write_copy<W: Write>(out: &mut W, copy: &CodeCopy) -> io::Result<()>
     ensures { OnOk result (Appends (W.contents out.old) (W.contents out.new) (copy_line copy.now)) }
 {
@@ -132,7 +79,7 @@ fn write_references<W: Write>(out: &mut W, references: &[Reference]) -> io::Resu
     Ok(())
 }
 
-/// Writes what a program is made of: its name and the number of its slots, then each copy and each reference.
+/// Writes the parts of a program: its name and the number of its slots, then each copy and each reference.
 pub fn write_report<W: Write>(out: &mut W, report: &ProgramReport) -> io::Result<()>
     ensures { OnOk result (Appends (W.contents out.old) (W.contents out.new) (report_text report.now)) }
 {

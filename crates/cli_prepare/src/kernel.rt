@@ -1,9 +1,23 @@
-//! What words give of a kernel.
+//! The kernel of a command line: its types, symbols, configuration and version.
 
 use crate::prepared::PrepareWords;
 use cli_common::kernel_types::read_kernel;
 use cli_common::refuse::{Stop, read_given, refused};
+use ebpf_base::Text;
 use ebpf_btf::{Btf, Endianness};
+
+/// A kernel, as far as it is given.
+#[derive(Drop)]
+pub struct Kernel {
+    /// The types.
+    pub types: Option<Btf>,
+    /// The text of the symbols; empty where none is given.
+    pub symbols: Vec<u8>,
+    /// The text of the configuration; empty where none is given.
+    pub config: Vec<u8>,
+    /// The number of the version.
+    pub version: Option<u32>,
+}
 
 /// A number without a sign, up to 255.
 fn byte_of(text: &str) -> Option<u8> {
@@ -13,7 +27,7 @@ fn byte_of(text: &str) -> Option<u8> {
     text.parse::<u8>().ok()
 }
 
-/// The last number of a version: what is above 255 counts as 255.
+/// The last number of a version: a greater one than 255 counts as 255.
 fn patch_of(text: &str) -> Option<u32> {
     if text.starts_with('+') {
         return None;
@@ -22,7 +36,7 @@ fn patch_of(text: &str) -> Option<u32> {
     Some(patch.min(255))
 }
 
-/// What stands before and behind the first dot; `0` where nothing does.
+/// The texts before and behind the first dot; `0` behind where there is no dot.
 fn minor_and_patch(text: &str) -> (&str, &str) {
     match text.split_once('.') {
         Some(parts) => parts,
@@ -40,20 +54,7 @@ pub fn version_number(text: &str) -> Option<u32> {
     Some(major << 16 | minor << 8 | patch_of(patch)?)
 }
 
-/// What is known of a kernel.
-#[derive(Drop)]
-pub struct Kernel {
-    /// Its types.
-    pub types: Option<Btf>,
-    /// The text of its symbols; empty where none is given.
-    pub symbols: Vec<u8>,
-    /// The text of its configuration; empty where none is given.
-    pub config: Vec<u8>,
-    /// The number of its version.
-    pub version: Option<u32>,
-}
-
-/// The kernel's types, where words give a file of them; it is told where they can't be read.
+/// The kernel's types, where a file of them is given; types that can't be read are reported.
 fn given_types(
     rt: &HostRuntime,
     words: &PrepareWords,
@@ -69,31 +70,23 @@ fn given_types(
     }
 }
 
-/// The text of the kernel's symbols, where words give a file of them, else an empty one.
-fn given_symbols(rt: &HostRuntime, words: &PrepareWords) -> Result<Vec<u8>, Stop> {
-    match &words.kallsyms {
-        Some(path) => read_given(rt, words.json, path.as_str()),
+/// The bytes of a file of the kernel; empty where none is given.
+fn given_text(rt: &HostRuntime, is_json: bool, path: &Option<Text>) -> Result<Vec<u8>, Stop> {
+    match path {
+        Some(path) => read_given(rt, is_json, path.as_str()),
         None => Ok(Vec::new(rt.alloc())),
     }
 }
 
-/// The text of the kernel's configuration, where words give a file of it, else an empty one.
-fn given_config(rt: &HostRuntime, words: &PrepareWords) -> Result<Vec<u8>, Stop> {
-    match &words.kconfig {
-        Some(path) => read_given(rt, words.json, path.as_str()),
-        None => Ok(Vec::new(rt.alloc())),
-    }
-}
-
-/// What words give of a kernel: its types, in this byte order, its symbols, its configuration and its version.
+/// The kernel of the arguments: its types, in this byte order, its symbols, its configuration and its version.
 pub fn given_kernel(
     rt: &HostRuntime,
     words: &PrepareWords,
     order: Endianness,
 ) -> Result<Kernel, Stop> {
     let types = given_types(rt, words, order)?;
-    let symbols = given_symbols(rt, words)?;
-    let config = given_config(rt, words)?;
+    let symbols = given_text(rt, words.json, &words.kallsyms)?;
+    let config = given_text(rt, words.json, &words.kconfig)?;
     Ok(Kernel {
         types,
         symbols,

@@ -1,4 +1,4 @@
-//! An object, prepared as words say: what the commands of `ebpf` share that make finished programs of a file.
+//! An object, opened and prepared as the arguments of `ebpf link` and `ebpf inspect` ask.
 #![tactic(auto)]
 
 mod kernel;
@@ -13,6 +13,5 @@ mod settings_help;
 
 pub use kernel::{Kernel, version_number};
 pub use opened::{Opened, open_file};
-pub use passes::MapSlots;
 pub use prepared::{PrepareWords, Prepared, finished_object, prepare_file};
 pub use refusals::refuse_preparing;

@@ -1,4 +1,4 @@
-//! An object's file, read, with what words give of a kernel.
+//! An object's file, read, with the kernel of a command line.
 
 ghost use Rattle.std.specs.Prelude.{◌≡◌, [], IfOk, OnOk};
 ghost use Rattle.ebpf_kconfig.specs.KconfigExterns.{kconfig_externs};
@@ -13,7 +13,7 @@ use cli_common::programs::ObjectProgram;
 use cli_common::refuse::{Stop, chosen_programs};
 use ebpf_object::Object;
 
-/// An object that was parsed, with what words choose of it and give of a kernel. No pass was made over it.
+/// A parsed object, with the chosen programs and the kernel. No pass was made over the object.
 #[derive(Drop)]
 pub struct Opened {
     /// The bytes of its file.
@@ -22,18 +22,18 @@ pub struct Opened {
     pub parsed: Object,
     /// The programs that are chosen, or all, in byte order of their names.
     pub programs: Vec<ObjectProgram>,
-    /// What is known of a kernel.
+    /// The kernel.
     pub kernel: Kernel,
 }
 
-/// What words choose and give.
+/// The programs and the kernel of the arguments.
 #[derive(Drop)]
 struct Chosen {
     programs: Vec<ObjectProgram>,
     kernel: Kernel,
 }
 
-/// Defines the externs of an object that the kernel's configuration gives; where they can't be, it is told.
+/// Defines the kconfig externs of an object; a refusal is reported.
 fn define(
     rt: &HostRuntime,
     words: &PrepareWords,
@@ -52,7 +52,7 @@ fn define(
     }
 }
 
-/// What words choose of an object that was parsed and give of a kernel; the externs are defined that its configuration gives.
+/// The programs and the kernel that the arguments choose for a parsed object, whose kconfig externs are defined.
 fn chosen_of(
     rt: &HostRuntime,
     words: &PrepareWords,
@@ -68,7 +68,7 @@ fn chosen_of(
     Ok(Chosen { programs, kernel })
 }
 
-/// An object with what was chosen of it.
+/// A parsed object with the programs and the kernel of the arguments.
 fn with_chosen(file: Vec<u8>, parsed: Object, chosen: Chosen) -> Opened
     ensures file { result.file ≡ file }
     ensures parsed { result.parsed ≡ parsed }
@@ -82,9 +82,9 @@ fn with_chosen(file: Vec<u8>, parsed: Object, chosen: Chosen) -> Opened
     }
 }
 
-/// Reads the object's file, broadly, then the kernel's types, symbols and configuration that words give, and defines the
-/// externs that the configuration gives. What is refused is told: with status 2 where a file can't be read or a name is no
-/// program's, with status 1 where the object is refused.
+/// Reads the object's file, leniently, then the kernel's types, symbols and configuration that are given, and defines the
+/// kconfig externs. Refusals are reported: with status 2 where a file can't be read or a name is no program's, with status 1
+/// where the object is refused.
 #[tactic(auto, using(crate::proofs::OpenedObjects::still_parsed))]
 pub fn open_file(rt: &HostRuntime, words: &PrepareWords) -> Result<Opened, Stop>
     ensures { IfOk result IsOpened }

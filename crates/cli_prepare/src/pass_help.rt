@@ -1,4 +1,4 @@
-//! What one can do about an object that a pass refuses.
+//! Help on the refusals of passes.
 
 use ebpf_core_relo::RelocationError as CoreError;
 use ebpf_ksyms::KsymsError;
@@ -6,7 +6,16 @@ use ebpf_model::RelocationError;
 use ebpf_object::Object;
 use ebpf_object::prepare::PrepareError;
 
-/// What one can do about a CO-RE record.
+/// Which files of a kernel are given.
+#[derive(Clone, Copy)]
+pub struct GivenFiles {
+    /// Whether the types are given.
+    pub types: bool,
+    /// Whether the symbols are given.
+    pub symbols: bool,
+}
+
+/// The help on a refused CO-RE relocation.
 fn types_help(error: &CoreError) -> Option<&'static str> {
     Some(match error {
         CoreError::SectionNotFound
@@ -27,17 +36,8 @@ fn types_help(error: &CoreError) -> Option<&'static str> {
     })
 }
 
-/// What words give of a kernel.
-#[derive(Clone, Copy)]
-pub struct Given {
-    /// Its types.
-    pub types: bool,
-    /// Its symbols.
-    pub symbols: bool,
-}
-
-/// What one can do about a function that isn't found.
-fn function_help(given: Given) -> &'static str {
+/// The help on a function that isn't found.
+fn function_help(given: GivenFiles) -> &'static str {
     if given.types {
         "this kernel's types lack it (a module's aren't searched): declare it `__weak`, and ask `bpf_ksym_exists`"
     } else {
@@ -45,8 +45,8 @@ fn function_help(given: Given) -> &'static str {
     }
 }
 
-/// What one can do about a variable that isn't found.
-fn variable_help(object: &Object, name: &str, given: Given) -> &'static str {
+/// The help on a variable that isn't found.
+fn variable_help(object: &Object, name: &str, given: GivenFiles) -> &'static str {
     let is_typed = object.externs.get(name).is_some_and(|known| known.is_typed);
     if is_typed {
         return "this kernel's types lack it (a module's aren't searched): declare it `__weak`";
@@ -58,8 +58,8 @@ fn variable_help(object: &Object, name: &str, given: Given) -> &'static str {
     }
 }
 
-/// What one can do about an extern that can't be resolved.
-fn resolving_help(object: &Object, error: &KsymsError, given: Given) -> Option<&'static str> {
+/// The help on an extern that can't be resolved.
+fn resolving_help(object: &Object, error: &KsymsError, given: GivenFiles) -> Option<&'static str> {
     Some(match error {
         KsymsError::TypedKsymRequiresKernelBtf =>
             "give the kernel's types: `--btf /sys/kernel/btf/vmlinux`",
@@ -78,7 +78,7 @@ fn resolving_help(object: &Object, error: &KsymsError, given: Given) -> Option<&
     })
 }
 
-/// What one can do about slots that can't be written or linked.
+/// The help on slots that can't be written or linked.
 fn slots_help(error: &RelocationError) -> Option<&'static str> {
     Some(match error {
         RelocationError::UnknownSymbol { .. }
@@ -104,8 +104,8 @@ fn slots_help(error: &RelocationError) -> Option<&'static str> {
     })
 }
 
-/// What one can do about an object that a pass refuses.
-pub fn pass_help(object: &Object, error: &PrepareError, given: Given) -> Option<&'static str> {
+/// The help on the refusal of a pass.
+pub fn pass_help(object: &Object, error: &PrepareError, given: GivenFiles) -> Option<&'static str> {
     match error {
         PrepareError::Types(refusal) => types_help(&refusal.error),
         PrepareError::Ksyms(error) => resolving_help(object, error, given),

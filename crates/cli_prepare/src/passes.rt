@@ -1,91 +1,44 @@
 //! The passes over an object.
 
 use crate::kernel::Kernel;
-use cli_common::map_uses::own_descriptors;
 use cli_common::programs::ObjectProgram;
 use ebpf_base::{ByKey, Items};
-use ebpf_btf::Btf;
 use ebpf_model::Function;
 use ebpf_object::Object;
-use ebpf_object::prepare::{PrepareError, Steps, SymbolText, prepare_copy};
-use ebpf_object::relocation::{LinkMap, LinkedFunction, ProgramKey, programs_in_order};
+use ebpf_object::prepare::{PrepareError, Steps, SymbolText, numbered_descriptors, prepare_copy};
+use ebpf_object::relocation::{
+    LinkMap, LinkedFunction, ProgramKey, programs_in_order, take_places,
+};
 use std::alloc::{AllocError, Global};
 
-/// What becomes of the slots that refer to maps.
-#[derive(Clone, Copy, PartialEq, Eq)]
-pub enum MapSlots {
-    /// They hold descriptors: 1 and on, in byte order of the maps' names.
-    Numbered,
-    /// They stay as they are in the file. Whether each refers to a map is looked at all the same.
-    Left,
-}
-
-/// Whether the passes up to that of the maps can be made, with descriptors of all maps.
-fn check_maps<'a>(
-    alloc: Global,
-    object: &Object,
-    types: Option<&'a Btf>,
-    descriptors: &'a [(&'a str, i32)],
-) -> Result<(), PrepareError> {
-    let steps = Steps {
-        target_btf: types,
-        map_fds: Some(descriptors),
-        externs: None,
-        calls: false,
-    };
-    match prepare_copy(alloc, object, &steps, SymbolText(&[])) {
-        Ok(written) => {
-            drop(written);
-            Ok(())
-        }
-        Err(error) => Err(error),
-    }
-}
-
-/// An object after all passes but the last: types where the kernel's are known, descriptors of maps where these are given,
-/// externs.
-fn written<'a>(
-    alloc: Global,
-    object: &Object,
-    types: Option<&'a Btf>,
-    map_fds: Option<&'a [(&'a str, i32)]>,
-    symbols: &[u8],
-) -> Result<Object, PrepareError> {
-    let steps = Steps {
-        target_btf: types,
-        map_fds,
-        externs: Some(types),
-        calls: false,
-    };
-    prepare_copy(alloc, object, &steps, SymbolText(symbols))
-}
-
-/// An object after all passes but the last; with descriptors of its maps where these are numbered.
-fn write_all(
-    alloc: Global,
-    object: &Object,
-    map_slots: MapSlots,
-    kernel: &Kernel,
-) -> Result<Object, PrepareError> {
-    let types = kernel.types.as_ref();
-    let descriptors = own_descriptors(alloc, object)?;
-    match map_slots {
-        MapSlots::Numbered => written(alloc, object, types, Some(&descriptors), &kernel.symbols),
-        MapSlots::Left => {
-            check_maps(alloc, object, types, &descriptors)?;
-            written(alloc, object, types, None, &kernel.symbols)
-        }
-    }
-}
-
-/// Linked functions by their keys, and what programs are made of.
+/// Linked functions by their keys, and link maps.
 #[derive(Drop)]
 struct LinkedPrograms {
     functions: ByKey<Function>,
     maps: Items<LinkMap>,
 }
 
-/// Adds a linked program, and what it is made of where it is the next of the chosen ones.
+/// An object after all passes, with the link maps of programs.
+#[derive(Drop)]
+pub struct Passed {
+    /// The object.
+    pub object: Object,
+    /// The link map of each of the programs.
+    pub link_maps: Items<LinkMap>,
+}
+
+/// An object after all passes but the last: types where the kernel's are known, descriptors of its maps, externs.
+fn with_externs(alloc: Global, object: &Object, kernel: &Kernel) -> Result<Object, PrepareError> {
+    let names = object.map_names(alloc)?;
+    let descriptors = numbered_descriptors(alloc, names.as_slice())?;
+    let steps = Steps {
+        calls: false,
+        ..Steps::all_with(kernel.types.as_ref(), &descriptors)
+    };
+    prepare_copy(alloc, object, &steps, SymbolText(&kernel.symbols))
+}
+
+/// Adds a linked program, and its link map where it is the next of the chosen ones.
 fn add_linked(
     linked: &mut LinkedPrograms,
     program: &ProgramKey<'_>,
@@ -103,8 +56,8 @@ fn add_linked(
     Ok(())
 }
 
-/// All programs of an object, linked from its functions as they are, with what each of the chosen ones is made of. These
-/// are in byte order of their names.
+/// All programs of an object, linked from its functions as they are, with the link maps of the chosen ones, which are in byte
+/// order of their names.
 fn linked_programs(
     alloc: Global,
     object: &Object,
@@ -128,14 +81,7 @@ fn linked_programs(
     Ok(linked)
 }
 
-/// Puts functions in the places of those at their keys.
-fn take_places(functions: &mut ByKey<Function>, linked: ByKey<Function>) {
-    for (key, function) in linked.into_map() {
-        drop(functions.replace(key, function));
-    }
-}
-
-/// Links the programs of an object; what each of the chosen ones is made of.
+/// Links the programs of an object; gives the link maps of the chosen ones.
 fn link_all(
     alloc: Global,
     object: &mut Object,
@@ -146,29 +92,19 @@ fn link_all(
     Ok(linked.maps)
 }
 
-/// An object after all passes, with what its programs are made of.
-#[derive(Drop)]
-pub struct Passed {
-    /// The object.
-    pub object: Object,
-    /// What each of the programs is made of.
-    pub link_maps: Items<LinkMap>,
-}
-
-/// An object after all passes: types where the kernel's are known, descriptors of its maps where these are numbered,
-/// externs, calls; and what each of these programs is made of.
+/// An object after all passes: types where the kernel's are known, descriptors of its maps, externs, calls; with the link maps
+/// of these programs.
 ///
 /// # Errors
 ///
-/// Those of `prepare_copy` with descriptors of all maps, also where they are left out.
+/// Those of `prepare_copy`.
 pub fn pass_all(
     alloc: Global,
     parsed: &Object,
     programs: &[ObjectProgram],
-    map_slots: MapSlots,
     kernel: &Kernel,
 ) -> Result<Passed, PrepareError> {
-    let mut object = write_all(alloc, parsed, map_slots, kernel)?;
+    let mut object = with_externs(alloc, parsed, kernel)?;
     match link_all(alloc, &mut object, programs) {
         Ok(link_maps) => Ok(Passed { object, link_maps }),
         Err(error) => {

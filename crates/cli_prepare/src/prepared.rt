@@ -1,7 +1,7 @@
 //! An object's file, read and prepared.
 
 ghost use Rattle.std.specs.Prelude.{ℕ, List, IfOk, IfErr};
-ghost use Rattle.cli_plain.specs.Linked.{default_passes};
+ghost use Rattle.cli_common.specs.DefaultPasses.{default_passes};
 ghost use Rattle.ebpf_ksyms.specs.Sources.{Text as TextLines};
 ghost use Rattle.ebpf_object.specs.Headline.{Headline};
 ghost use Rattle.ebpf_object.specs.Prepared.{IsParsed, IsFirstPrepareFault, RefusesPreparing, Stages};
@@ -9,24 +9,23 @@ ghost use Rattle.ebpf_parts.specs.declared.reading.Reading.{Reading};
 
 use crate::kernel::Kernel;
 use crate::opened::{Opened, open_file};
-use crate::passes::{MapSlots, Passed, pass_all};
+use crate::passes::{Passed, pass_all};
 use crate::refusals::refuse_preparing;
 use cli_common::programs::ObjectProgram;
 use cli_common::refuse::Stop;
-use cli_plain::{map_names, numbered_descriptors};
 use ebpf_base::{Items, Text};
 use ebpf_btf::Btf;
 use ebpf_object::Object;
-use ebpf_object::prepare::{PrepareError, Steps, SymbolText, prepare_copy};
+use ebpf_object::prepare::{PrepareError, Steps, SymbolText, numbered_descriptors, prepare_copy};
 use ebpf_object::relocation::LinkMap;
 use std::alloc::Global;
 
-/// What is prepared: what a command line says of it.
+/// The arguments of a command that prepares an object.
 #[derive(Drop)]
 pub struct PrepareWords {
     /// The object's file.
     pub file: Text,
-    /// Which of the objects in the file, where it holds several.
+    /// The number of the object in the file, where it holds several.
     pub object: Option<usize>,
     /// The file with the kernel's types: raw ones, or an ELF file with a section `.BTF`.
     pub btf: Option<Text>,
@@ -38,8 +37,23 @@ pub struct PrepareWords {
     pub kernel: Option<u32>,
     /// The programs that are chosen, where they are named.
     pub programs: Items<Text>,
-    /// Whether a refusal is told as JSON too.
+    /// Whether a refusal is printed as JSON too.
     pub json: bool,
+}
+
+/// A prepared object, with its parts before and after the passes.
+#[derive(Drop)]
+pub struct Prepared {
+    /// The object as it was parsed, with the externs defined that the kernel's configuration gives: no pass was made over it.
+    pub parsed: Object,
+    /// The object after all passes.
+    pub object: Object,
+    /// The programs that are chosen, or all, in byte order of their names.
+    pub programs: Vec<ObjectProgram>,
+    /// The link map of each of them, in the same order: copies of functions, and the references between these.
+    pub link_maps: Items<LinkMap>,
+    /// The kernel's types, where they are given.
+    pub types: Option<Btf>,
 }
 
 /// A copy of an object after all passes: types where the kernel's are known, descriptors of its maps, 1 and on in byte order
@@ -57,7 +71,7 @@ pub fn finished_object(
     ensures headline { (reading : Reading) (file : List ℕ) → IsParsed reading file object.now → IfOk result (Headline (default_passes kernel.now.types object.now.maps) (TextLines kernel.now.symbols.items) reading file) }
     ensures refused { (reading : Reading) (file : List ℕ) → IsParsed reading file object.now → IfErr result (RefusesPreparing (IsFirstPrepareFault (default_passes kernel.now.types object.now.maps) (TextLines kernel.now.symbols.items) reading file)) }
 {
-    let Ok(names) = map_names(alloc, object) else {
+    let Ok(names) = object.map_names(alloc) else {
         return Err(PrepareError::OutOfMemory);
     };
     let Ok(descriptors) = numbered_descriptors(alloc, names.as_slice()) else {
@@ -72,38 +86,10 @@ pub fn finished_object(
     )
 }
 
-/// An object, prepared, with what it was made of.
-#[derive(Drop)]
-pub struct Prepared {
-    /// The bytes of its file.
-    pub file: Vec<u8>,
-    /// The object as it was parsed, with the externs defined that the kernel's configuration gives: no pass was made over it.
-    pub parsed: Object,
-    /// The object after all passes.
-    pub object: Object,
-    /// The programs that are chosen, or all, in byte order of their names.
-    pub programs: Vec<ObjectProgram>,
-    /// What each of them is made of, in the same order: copies of functions, and the references between these.
-    pub link_maps: Items<LinkMap>,
-    /// The kernel's types, where words give them.
-    pub types: Option<Btf>,
-}
-
-/// An object after all passes; one that a pass refuses is told.
-fn passed(
-    rt: &HostRuntime,
-    words: &PrepareWords,
-    opened: &Opened,
-    map_slots: MapSlots,
-) -> Result<Passed, Stop> {
+/// An object after all passes; the refusal of a pass is reported.
+fn pass_opened(rt: &HostRuntime, words: &PrepareWords, opened: &Opened) -> Result<Passed, Stop> {
     let parsed = &opened.parsed;
-    match pass_all(
-        rt.alloc(),
-        parsed,
-        &opened.programs,
-        map_slots,
-        &opened.kernel,
-    ) {
+    match pass_all(rt.alloc(), parsed, &opened.programs, &opened.kernel) {
         Ok(passed) => Ok(passed),
         Err(error) => {
             let stop = refuse_preparing(rt, words, parsed, &error);
@@ -113,7 +99,7 @@ fn passed(
     }
 }
 
-/// An object with what the passes made of it.
+/// An object before and after the passes.
 fn with_passed(opened: Opened, passed: Passed) -> Prepared {
     let Opened {
         file,
@@ -127,11 +113,11 @@ fn with_passed(opened: Opened, passed: Passed) -> Prepared {
         config,
         version: _,
     } = kernel;
+    drop(file);
     drop(symbols);
     drop(config);
     let Passed { object, link_maps } = passed;
     Prepared {
-        file,
         parsed,
         object,
         programs,
@@ -141,14 +127,10 @@ fn with_passed(opened: Opened, passed: Passed) -> Prepared {
 }
 
 /// Opens the object's file as `open_file` does, and makes all passes over the object: types where they are given, maps,
-/// externs, calls. An object that a pass refuses is told, with status 1.
-pub fn prepare_file(
-    rt: &HostRuntime,
-    words: &PrepareWords,
-    map_slots: MapSlots,
-) -> Result<Prepared, Stop> {
+/// externs, calls. The refusal of a pass is reported, with status 1.
+pub fn prepare_file(rt: &HostRuntime, words: &PrepareWords) -> Result<Prepared, Stop> {
     let opened = open_file(rt, words)?;
-    match passed(rt, words, &opened, map_slots) {
+    match pass_opened(rt, words, &opened) {
         Ok(passed) => Ok(with_passed(opened, passed)),
         Err(stop) => {
             drop(opened);

@@ -1,13 +1,11 @@
-//! Why an object can't be prepared, in words.
+//! The refusals of passes, in words.
 
-use crate::pass_help::{Given, pass_help};
+use crate::pass_help::{GivenFiles, pass_help};
 use crate::prepared::PrepareWords;
 use crate::refused_slots::refused_slot;
+use cli_common::pass_names::pass_and_variant;
 use cli_common::refusal::{FileRefusal, help_of};
 use cli_common::refuse::{Stop, refused};
-use cli_common::variants::{
-    variant_of_parsing, variant_of_relocation, variant_of_resolving, variant_of_type_relocation,
-};
 use ebpf_core_relo::RelocationError as CoreError;
 use ebpf_ksyms::KsymsError;
 use ebpf_model::RelocationError;
@@ -18,7 +16,7 @@ use ebpf_object::prepare::PrepareError::{
 use ebpf_parts::ParseError;
 use std::alloc::{AllocError, Global};
 
-/// Whether memory was refused.
+/// Whether an allocation failed.
 fn is_memory(error: &PrepareError) -> bool {
     match error {
         Parse(error) => matches!(error, ParseError::OutOfMemory),
@@ -31,28 +29,7 @@ fn is_memory(error: &PrepareError) -> bool {
     }
 }
 
-/// The stage that refused, as sentences of errors begin with it and as it is told, and the name of its error.
-fn stage_of(error: &PrepareError) -> (&'static str, &'static str, &'static str) {
-    match error {
-        Parse(error) => ("parse: ", "parse", variant_of_parsing(error)),
-        Types(refusal) => (
-            "types: ",
-            "types",
-            variant_of_type_relocation(&refusal.error),
-        ),
-        Maps(refusal) => ("maps: ", "maps", variant_of_relocation(&refusal.error)),
-        Ksyms(error) => ("ksyms: ", "externs", variant_of_resolving(error)),
-        Externs(refusal) => (
-            "externs: ",
-            "externs",
-            variant_of_relocation(&refusal.error),
-        ),
-        Calls(refusal) => ("calls: ", "calls", variant_of_relocation(&refusal.error)),
-        OutOfMemory => ("", "memory", "OutOfMemory"),
-    }
-}
-
-/// The function that an error is about, and the slot of it, where they can be told.
+/// The function and the slot of an error, where they are known.
 fn place_of<'a>(object: &Object, error: &'a PrepareError) -> Option<(&'a str, usize)> {
     match error {
         Maps(refusal) | Externs(refusal) | Calls(refusal) => {
@@ -63,7 +40,7 @@ fn place_of<'a>(object: &Object, error: &'a PrepareError) -> Option<(&'a str, us
     }
 }
 
-/// A sentence on a function, with the slot of it that the error is about.
+/// A sentence on a function, with the slot of the error.
 fn with_slot(
     alloc: Global,
     sentence: &str,
@@ -79,37 +56,48 @@ fn with_slot(
     }
 }
 
-/// The sentence of an error, without the name of its stage.
+/// A sentence without the name of the pass at its front.
+fn without_pass<'a>(sentence: &'a str, pass: &str) -> &'a str {
+    let Some(rest) = sentence.strip_prefix(pass) else {
+        return sentence;
+    };
+    rest.strip_prefix(": ").unwrap_or(sentence)
+}
+
+/// The sentence of an error, without the name of its pass.
 fn sentence_of(
     alloc: Global,
     object: &Object,
     error: &PrepareError,
-    front: &str,
+    pass: &str,
 ) -> Result<String, AllocError> {
     let explained = object.explain(error);
     let sentence = format!(in alloc; "{explained}")?;
-    let sentence = sentence.as_str();
-    let bare = sentence.strip_prefix(front).unwrap_or(sentence);
+    let bare = without_pass(sentence.as_str(), pass);
     with_slot(alloc, bare, place_of(object, error))
 }
 
-/// Why a pass refuses an object.
+/// The refusal of a pass.
 fn refusal_of(
     alloc: Global,
     object: &Object,
     error: &PrepareError,
-    given: Given,
+    given: GivenFiles,
 ) -> Result<FileRefusal, AllocError> {
-    let (front, stage, variant) = stage_of(error);
+    let (pass, variant) = pass_and_variant(error);
     Ok(FileRefusal {
-        stage,
+        stage: if matches!(error, Ksyms(_)) {
+            "externs"
+        } else {
+            pass
+        },
         variant,
-        text: sentence_of(alloc, object, error, front)?,
+        text: sentence_of(alloc, object, error, pass)?,
         help: help_of(alloc, pass_help(object, error, given))?,
     })
 }
 
-/// Says why a pass refuses an object, which is as it was before the pass; why the work ends.
+/// Reports the refusal of a pass, with the object as it was before the pass; gives the reason to stop.
 pub fn refuse_preparing(
     rt: &HostRuntime,
     words: &PrepareWords,
@@ -119,7 +107,7 @@ pub fn refuse_preparing(
     if is_memory(error) {
         return Stop::Memory;
     }
-    let given = Given {
+    let given = GivenFiles {
         types: words.btf.is_some(),
         symbols: words.kallsyms.is_some(),
     };

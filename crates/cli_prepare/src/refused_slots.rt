@@ -4,6 +4,15 @@ use ebpf_model::{EbpfRelocationError, Function, RelocationError, Symbol};
 use ebpf_object::Object;
 use ebpf_parts::insn::bpf_insn;
 
+/// The target of a refused relocation.
+#[derive(Clone, Copy)]
+enum RefusedTarget<'a> {
+    /// The symbol of an index.
+    Symbol(usize),
+    /// An extern of a name.
+    Extern(&'a str),
+}
+
 /// The function of a name, where one alone has it.
 fn function_named<'a>(object: &'a Object, name: &str) -> Option<&'a Function> {
     let mut found = None;
@@ -19,7 +28,7 @@ fn function_named<'a>(object: &'a Object, name: &str) -> Option<&'a Function> {
     found
 }
 
-/// The slot that an offset into a function's section is; none where the function hasn't got it.
+/// The slot at an offset into a function's section; none outside the function.
 fn slot_at(function: &Function, offset: u64) -> Option<usize> {
     let within = offset.checked_sub(function.section_offset as u64)?;
     let slot = (within / bpf_insn::SIZE as u64) as usize;
@@ -30,21 +39,12 @@ fn slot_at(function: &Function, offset: u64) -> Option<usize> {
     }
 }
 
-/// What a relocation refers to.
-#[derive(Clone, Copy)]
-enum Target<'a> {
-    /// The symbol of an index.
-    Symbol(usize),
-    /// An extern of a name.
-    Extern(&'a str),
-}
-
-impl Target<'_> {
-    /// Whether it is a symbol.
+impl RefusedTarget<'_> {
+    /// Whether the target is a symbol.
     fn is(self, symbol: &Symbol) -> bool {
         match self {
-            Target::Symbol(index) => symbol.index == index,
-            Target::Extern(wanted) => match &symbol.name {
+            RefusedTarget::Symbol(index) => symbol.index == index,
+            RefusedTarget::Extern(wanted) => match &symbol.name {
                 Some(name) => symbol.is_extern() && name.is(wanted),
                 None => false,
             },
@@ -52,8 +52,8 @@ impl Target<'_> {
     }
 }
 
-/// The first slot of a function that refers to something.
-fn first_slot(object: &Object, function: &Function, target: Target<'_>) -> Option<usize> {
+/// The first slot of a function that refers to a target.
+fn first_slot(object: &Object, function: &Function, target: RefusedTarget<'_>) -> Option<usize> {
     let relocations = object.relocations.get(function.section_index.0 as u64)?;
     for (offset, relocation) in relocations.from_number(function.section_offset as u64) {
         let slot = slot_at(function, *offset)?;
@@ -67,15 +67,15 @@ fn first_slot(object: &Object, function: &Function, target: Target<'_>) -> Optio
     None
 }
 
-/// The slot of its function at which a pass refuses an object, where it can be told.
+/// The slot of its function at which a pass refuses an object, where it is known.
 pub fn refused_slot(object: &Object, refusal: &EbpfRelocationError) -> Option<usize> {
     let function = function_named(object, refusal.function.as_str())?;
     match &refusal.error {
         RelocationError::SectionNotFound { symbol_index, .. } => {
-            first_slot(object, function, Target::Symbol(*symbol_index))
+            first_slot(object, function, RefusedTarget::Symbol(*symbol_index))
         }
         RelocationError::ExternNotFound { name } | RelocationError::UnresolvableSymbol { name } => {
-            first_slot(object, function, Target::Extern(name.as_str()))
+            first_slot(object, function, RefusedTarget::Extern(name.as_str()))
         }
         RelocationError::InvalidRelocationOffset { offset, .. }
         | RelocationError::MapAddressOverflow { offset } => slot_at(function, *offset),

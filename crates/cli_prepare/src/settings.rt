@@ -1,4 +1,4 @@
-//! The externs that the kernel's configuration gives, defined by what is known of a kernel.
+//! Kconfig externs, defined by the configuration and the version of a kernel.
 
 ghost use Rattle.std.specs.Prelude.{◌≡◌, [], OnOk};
 ghost use Rattle.ebpf_kconfig.specs.KconfigExterns.{kconfig_externs};
@@ -43,10 +43,7 @@ fn value_of(
     let Some(number) = number_of(kernel, wanted.name.as_str()) else {
         return kconfig_value(alloc, &kernel.config, wanted, order);
     };
-    match kconfig_number(alloc, u64::from(number), wanted, order) {
-        Ok(value) => Ok(Some(value)),
-        Err(error) => Err(error),
-    }
+    Ok(Some(kconfig_number(alloc, u64::from(number), wanted, order)?))
 }
 
 /// Adds the value of an extern, where it has one.
@@ -89,7 +86,7 @@ fn define_externs(
     define_kconfig(object, &values)
 }
 
-/// Whether an object may have such externs: so far as can be said without memory it has the DATASEC of them.
+/// Whether an object may have kconfig externs: it has their DATASEC, as far as is known without memory.
 fn may_have_settings(object: &Object) -> bool {
     let Some(types) = &object.btf else {
         return false;
@@ -100,7 +97,7 @@ fn may_have_settings(object: &Object) -> bool {
     }
 }
 
-/// Defines the externs of an object that the kernel's configuration gives, where it has such.
+/// Defines the kconfig externs of an object, where it has such.
 ///
 /// # Errors
 ///

@@ -1,4 +1,4 @@
-//! Why externs of the kernel's configuration can't be defined, in words.
+//! Refusals of kconfig externs, in words.
 
 use crate::prepared::PrepareWords;
 use crate::settings::number_by_version;
@@ -7,7 +7,7 @@ use cli_common::refuse::{Stop, refused};
 use ebpf_kconfig::KconfigError;
 use std::alloc::{AllocError, Global};
 
-/// What one can do about an extern of a name that has no value; `has_config` where a configuration is given.
+/// The help on an extern of a name that has no value; `has_config` where a configuration is given.
 fn value_help(name: &str, has_config: bool) -> &'static str {
     if number_by_version(0, name).is_some() {
         return "--kernel 6.12";
@@ -21,7 +21,7 @@ fn value_help(name: &str, has_config: bool) -> &'static str {
     "--kconfig /boot/config-6.12"
 }
 
-/// What one can do about an extern whose value doesn't suit its type.
+/// The help on an extern whose value doesn't suit its type.
 fn suiting_help(name: &str) -> &'static str {
     if name.starts_with("CONFIG_") {
         "declare it with the type that the configuration's value has: what may be `m` is an `enum libbpf_tristate`"
@@ -30,7 +30,7 @@ fn suiting_help(name: &str) -> &'static str {
     }
 }
 
-/// What one can do about externs that can't be defined.
+/// The help on externs that can't be defined.
 fn kconfig_help(error: &KconfigError, has_config: bool) -> Option<&'static str> {
     Some(match error {
         KconfigError::NotAVariable { .. } =>
@@ -58,7 +58,7 @@ fn sentence_of(alloc: Global, error: &KconfigError) -> Result<String, AllocError
     format!(in alloc; "no value for the strong extern {name}")
 }
 
-/// Why the externs of an object can't be defined.
+/// The refusal of an object's kconfig externs.
 fn refusal_of(
     alloc: Global,
     error: &KconfigError,
@@ -72,7 +72,7 @@ fn refusal_of(
     })
 }
 
-/// Says why the externs of an object that the kernel's configuration gives can't be defined; why the work ends.
+/// Reports that the kconfig externs of an object can't be defined; gives the reason to stop.
 pub fn refuse_settings(rt: &HostRuntime, words: &PrepareWords, error: &KconfigError) -> Stop {
     if matches!(error, KconfigError::OutOfMemory) {
         return Stop::Memory;

@@ -1,17 +1,16 @@
 //! The calls that a kernel can't do.
 
-use crate::verdict::findings::{Findings, Topic};
-use crate::verdict::judging::{Answers, topic_of};
-use crate::verdict::sites::{Site, Spot};
+use crate::verdict::findings::FindingKey;
+use crate::verdict::judged_program::SlotRef;
+use crate::verdict::judging::{Answers, Judge};
 use cli_common::kinds::Kind;
 use ebpf_loading::KernelNumbers;
 use ebpf_object::Object;
 use ebpf_parts::insn::bpf_insn;
 use ebpf_parts::insn::opcodes::{ABSENT_KFUNC, CALL, POISON_CALL};
-use ebpf_reloc::CodeCopy;
 use std::alloc::{AllocError, Global};
 
-/// What a slot calls by a number.
+/// The callee of a slot that calls by a number.
 #[derive(Clone, Copy)]
 enum Called {
     /// The helper function of a number.
@@ -20,8 +19,8 @@ enum Called {
     Absent(usize),
 }
 
-/// What an instruction calls by a number. A poisoned one calls nothing.
-fn called_by(instruction: bpf_insn) -> Option<Called> {
+/// The callee of an instruction that calls by a number; none of a poisoned one.
+fn callee_of(instruction: bpf_insn) -> Option<Called> {
     if instruction.code != CALL || instruction.src_reg() != 0 {
         return None;
     }
@@ -35,10 +34,10 @@ fn called_by(instruction: bpf_insn) -> Option<Called> {
     }
 }
 
-/// What a slot calls that the kernel lacks, where it is reached.
-fn lacking_at(answers: &Answers<'_>, site: &Site<'_>, spot: Spot<'_>) -> Option<Called> {
-    let called = called_by(site.instruction(spot)?)?;
-    if !site.is_reached(spot) {
+/// The call of a reached slot that the kernel can't do.
+fn lacking_call_at(answers: &Answers<'_>, slot: SlotRef<'_>) -> Option<Called> {
+    let called = callee_of(slot.instruction()?)?;
+    if !slot.is_reached() {
         return None;
     }
     match called {
@@ -72,48 +71,34 @@ fn symbol_words(alloc: Global, object: &Object, number: usize) -> Result<String,
     }
 }
 
-/// What is told of a call that the kernel can't do.
-fn call_topic(alloc: Global, object: &Object, called: Called) -> Result<Topic, AllocError> {
-    match called {
+/// The key of a call that the kernel can't do.
+fn call_key(alloc: Global, object: &Object, called: Called) -> Result<FindingKey, AllocError> {
+    let (name, kind, reason) = match called {
         Called::Helper(number) => {
             let name = helper_words(alloc, object, number)?;
-            let reason = String::from_str(alloc, "no such helper function")?;
-            Ok(topic_of(alloc, name, Kind::Helper, reason))
+            (name, Kind::Helper, "no such helper function")
         }
         Called::Absent(symbol) => {
             let name = symbol_words(alloc, object, symbol)?;
-            let reason = String::from_str(
-                alloc,
-                "no such function (a module's?), and it is called",
-            )?;
-            Ok(topic_of(alloc, name, Kind::Ksym, reason))
+            let reason = "no such function (a module's?), and it is called";
+            (name, Kind::Ksym, reason)
         }
-    }
+    };
+    let reason = String::from_str(alloc, reason)?;
+    Ok(FindingKey::breaking(alloc, name, kind, reason))
 }
 
-/// Judges the calls by numbers of a copy; whether the program breaks by them.
-pub fn judge_calls(
-    findings: &mut Findings,
-    answers: &Answers<'_>,
-    site: &Site<'_>,
-    copy: &CodeCopy,
-) -> Result<bool, AllocError> {
-    let alloc = answers.alloc;
-    let mut breaks = false;
-    let object = &answers.loaded.object;
-    for slot in 0..copy.slots {
-        let spot = Spot {
-            copy,
-            slot,
-            leads: false,
+impl Judge<'_> {
+    /// Judges the call of a slot by a number; whether the program breaks by it.
+    pub fn judge_call(&mut self, slot: SlotRef<'_>) -> Result<bool, AllocError> {
+        let (alloc, answers) = (self.alloc, self.answers);
+        let Some(called) = lacking_call_at(answers, slot) else {
+            return Ok(false);
         };
-        let Some(called) = lacking_at(answers, site, spot) else {
-            continue;
-        };
-        breaks = true;
-        let topic = call_topic(alloc, object, called)?;
-        let place = site.place(alloc, object.btf.as_ref(), spot)?;
-        findings.add(topic, answers.kernel, Some(place))?;
+        let object = &answers.loaded.object;
+        let key = call_key(alloc, object, called)?;
+        let place = slot.location(alloc, object.btf.as_ref())?;
+        self.note(key, Some(place))?;
+        Ok(true)
     }
-    Ok(breaks)
 }

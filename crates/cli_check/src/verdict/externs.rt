@@ -1,6 +1,6 @@
 //! An object's externs over a kernel's types.
 
-use crate::verdict::kernel_symbols::{KernelSymbols, Sort};
+use crate::verdict::kernel_symbols::{KernelSymbolKind, KernelSymbols};
 use crate::verdict::loaded::Loaded;
 use cli_common::unknown_externs::{add_settings, add_unknown, unknown};
 use ebpf_base::{ByName, Text};
@@ -12,37 +12,37 @@ use std::alloc::{AllocError, Global};
 /// An extern that has to be there, and that a kernel lacks.
 #[derive(Drop)]
 pub struct Lacking {
-    /// Its name.
+    /// The name.
     pub name: Text,
-    /// Why.
+    /// The reason.
     pub reason: String,
 }
 
-/// What is known of externs over a kernel.
+/// The externs of an object over a kernel.
 #[derive(Drop)]
 pub struct KernelExterns {
     /// All externs, as they are written. One that the kernel lacks or whose address isn't known stands for a type's id,
     /// so that nothing is said of its value.
     pub written: ByName<ExternDesc>,
-    /// Those that the kernel lacks.
+    /// The strong externs that the kernel lacks.
     pub lacking: Vec<Lacking>,
 }
 
-/// What a kernel has for an extern with a type.
+/// The outcome of an extern with a type.
 #[derive(Drop)]
 enum ExternAnswer {
     /// A function or variable with a type that fits, by its id.
     Found(u32),
-    /// None of the name.
-    Missing(Sort),
-    /// One of the name with another type.
-    OtherType(Sort),
+    /// No function or variable of the name.
+    Missing(KernelSymbolKind),
+    /// A function or variable of the name with another type.
+    OtherType(KernelSymbolKind),
     /// Types that can't be read, or an extern that is neither a function nor a variable.
     Unreadable(BtfError),
 }
 
 /// An extern that a kernel has, by its id.
-fn resolved(known: ExternDesc, id: u32) -> ExternDesc {
+fn extern_with_id(known: ExternDesc, id: u32) -> ExternDesc {
     ExternDesc {
         kernel_btf_id: Some(id),
         is_resolved: true,
@@ -51,20 +51,20 @@ fn resolved(known: ExternDesc, id: u32) -> ExternDesc {
 }
 
 /// An extern that a kernel lacks and may lack.
-fn left_out(known: ExternDesc) -> ExternDesc {
+fn absent_extern(known: ExternDesc) -> ExternDesc {
     ExternDesc {
         ksym_addr: Some(0),
         ..known
     }
 }
 
-/// Why a kernel has no extern.
+/// The reason why a kernel has no extern.
 fn reason_of(alloc: Global, answer: &ExternAnswer) -> Result<String, AllocError> {
     let words = match answer {
-        ExternAnswer::Missing(Sort::Function) => "no such function (a module's?)",
-        ExternAnswer::Missing(Sort::Variable) => "no such variable (a module's?)",
-        ExternAnswer::OtherType(Sort::Function) => "another signature",
-        ExternAnswer::OtherType(Sort::Variable) => "another type",
+        ExternAnswer::Missing(KernelSymbolKind::Function) => "no such function (a module's?)",
+        ExternAnswer::Missing(KernelSymbolKind::Variable) => "no such variable (a module's?)",
+        ExternAnswer::OtherType(KernelSymbolKind::Function) => "another signature",
+        ExternAnswer::OtherType(KernelSymbolKind::Variable) => "another type",
         ExternAnswer::Unreadable(error) => return format!(in alloc; "{error}"),
         ExternAnswer::Found(_) => "",
     };
@@ -79,37 +79,37 @@ fn holds_alike(local: &Btf, held: u32, kernel: &Btf, id: u32) -> Result<bool, Bt
     types_are_compatible(local, one, kernel, other)
 }
 
-/// What a kernel has for a function or variable that holds a type.
+/// The outcome of an extern of a kind that holds a type.
 fn answer_for(
     local: &Btf,
     kernel: &Btf,
     symbols: &KernelSymbols,
     name: &str,
-    sort: Sort,
+    kind: KernelSymbolKind,
     held: u32,
 ) -> ExternAnswer {
-    let Some(id) = symbols.id(sort, name) else {
-        return ExternAnswer::Missing(sort);
+    let Some(id) = symbols.id(kind, name) else {
+        return ExternAnswer::Missing(kind);
     };
     match holds_alike(local, held, kernel, id) {
         Ok(true) => ExternAnswer::Found(id),
-        Ok(false) => ExternAnswer::OtherType(sort),
+        Ok(false) => ExternAnswer::OtherType(kind),
         Err(error) => ExternAnswer::Unreadable(error),
     }
 }
 
 /// Whether the type of an extern's id is a function or a variable, and the type that it holds. None where it is neither.
-fn held_by(local: &Btf, id: u32) -> Result<Option<(Sort, u32)>, BtfError> {
+fn held_by(local: &Btf, id: u32) -> Result<Option<(KernelSymbolKind, u32)>, BtfError> {
     let ty = local.type_by_id(id)?;
-    let sort = match ty.kind() {
-        BtfKind::Func => Sort::Function,
-        BtfKind::Var => Sort::Variable,
+    let kind = match ty.kind() {
+        BtfKind::Func => KernelSymbolKind::Function,
+        BtfKind::Var => KernelSymbolKind::Variable,
         _ => return Ok(None),
     };
-    Ok(Some((sort, ty.btf_type().unwrap_or(0))))
+    Ok(Some((kind, ty.btf_type().unwrap_or(0))))
 }
 
-/// What a kernel has for an extern of a name and an id.
+/// The outcome of an extern of a name.
 fn answer_of(
     local: &Btf,
     kernel: &Btf,
@@ -118,14 +118,14 @@ fn answer_of(
     known: &ExternDesc,
 ) -> ExternAnswer {
     match held_by(local, known.btf_id) {
-        Ok(Some((sort, held))) => answer_for(local, kernel, symbols, name, sort, held),
+        Ok(Some((kind, held))) => answer_for(local, kernel, symbols, name, kind, held),
         Ok(None) => ExternAnswer::Unreadable(BtfError::InvalidDatasec),
         Err(error) => ExternAnswer::Unreadable(error),
     }
 }
 
-/// Notes an extern that a kernel lacks; how it is written. A weak one may be lacking, but types that can't be read refuse
-/// the object all the same.
+/// The value of an extern that a kernel lacks; a strong one is noted. A weak one may be lacking, but types that can't be read
+/// refuse the object all the same.
 fn lack(
     alloc: Global,
     lacking: &mut Vec<Lacking>,
@@ -134,7 +134,7 @@ fn lack(
     answer: &ExternAnswer,
 ) -> Result<ExternDesc, AllocError> {
     if known.is_weak && !matches!(answer, ExternAnswer::Unreadable(_)) {
-        return Ok(left_out(known));
+        return Ok(absent_extern(known));
     }
     lacking.push(Lacking {
         name: Text::from_str(alloc, name)?,
@@ -143,7 +143,7 @@ fn lack(
     Ok(unknown(known))
 }
 
-/// How an extern is written over a kernel that has this for it; one that it lacks is noted.
+/// The value of an extern with an outcome; one that the kernel lacks is noted.
 fn written_as(
     alloc: Global,
     lacking: &mut Vec<Lacking>,
@@ -152,13 +152,13 @@ fn written_as(
     answer: &ExternAnswer,
 ) -> Result<ExternDesc, AllocError> {
     match answer {
-        ExternAnswer::Found(id) => Ok(resolved(known, *id)),
+        ExternAnswer::Found(id) => Ok(extern_with_id(known, *id)),
         ExternAnswer::Unreadable(BtfError::OutOfMemory) => Err(AllocError),
         _ => lack(alloc, lacking, name, known, answer),
     }
 }
 
-/// Notes how an extern is written.
+/// Adds the value of an extern.
 fn add_written(
     alloc: Global,
     externs: &mut KernelExterns,
@@ -172,7 +172,7 @@ fn add_written(
     Ok(())
 }
 
-/// Notes what a kernel has for each extern with a type.
+/// Adds the value of each extern with a type.
 fn add_typed(
     alloc: Global,
     local: &Btf,
@@ -189,7 +189,7 @@ fn add_typed(
     Ok(())
 }
 
-/// What is known of an object's externs over a kernel: those with a type are looked up in its types.
+/// The externs of an object over a kernel: those with a type are looked up in the kernel's types.
 pub fn kernel_externs(
     alloc: Global,
     loaded: &Loaded,

@@ -1,53 +1,49 @@
-//! What a kernel means for each program.
+//! The verdict of a kernel on each program.
 
 use crate::verdict::externs::{KernelExterns, Lacking, kernel_externs};
-use crate::verdict::findings::{Findings, Rank, Topic};
-use crate::verdict::linked::{Linked, Linker, RefusalText, written_object};
+use crate::verdict::findings::{FindingKey, Findings, SourceLocation};
+use crate::verdict::judged_program::{JudgedProgram, Linker, RefusalText, written_object};
 use crate::verdict::loaded::Loaded;
-use crate::verdict::sites::{Site, judge_copy};
 use cli_common::kinds::Kind;
-use ebpf_base::{ByKey, ByName, Items};
+use cli_common::programs::ObjectProgram;
+use ebpf_base::{ByKey, Items};
 use ebpf_btf::Btf;
 use ebpf_core_relo::{RecordOutcome, RecordOutcomes};
 use ebpf_loading::{AttachTarget, KernelNumbers, attach_target};
-use ebpf_model::ExternDesc;
 use ebpf_object::Object;
+use ebpf_object::relocation::LinkedFunction;
 use std::alloc::{AllocError, Global};
 
 /// A kernel's answers to an object.
 #[derive(Drop)]
 pub struct Answers<'a> {
-    pub alloc: Global,
     /// The object.
     pub loaded: &'a Loaded,
     /// The kernel's types.
     types: &'a Btf,
     /// The kernel's number.
-    pub kernel: usize,
-    /// Whether it lacks an extern, so that no program is loaded.
+    kernel: usize,
+    /// Whether the kernel lacks an extern, so that no program is loaded.
     lacks: bool,
-    /// What each record comes to.
+    /// The outcome of each CO-RE relocation.
     pub outcomes: &'a [RecordOutcome],
-    /// The numbers of the records of functions, by the functions' keys.
+    /// The numbers of the CO-RE relocations of functions, by the functions' keys.
     pub by_function: &'a ByKey<Items<usize>>,
-    /// The numbers that the kernel knows.
+    /// The numbers of helpers and map types that the kernel knows.
     pub numbers: KernelNumbers<'a>,
 }
 
-/// A topic that no source line stands for.
-pub fn topic_of(alloc: Global, name: String, kind: Kind, reason: String) -> Topic {
-    Topic {
-        rank: Rank::Breaks,
-        name,
-        kind,
-        file: String::new(alloc),
-        line: 0,
-        reason,
-        is_signed: false,
-    }
+/// The judge of an object's programs on one kernel.
+#[derive(Drop)]
+pub struct Judge<'a> {
+    pub alloc: Global,
+    /// The findings over all kernels.
+    findings: &'a mut Findings,
+    /// The kernel's answers.
+    pub answers: &'a Answers<'a>,
 }
 
-/// Adds the number of a record to those of its function.
+/// Adds the number of a CO-RE relocation to those of its function.
 fn add_number(
     alloc: Global,
     by_function: &mut ByKey<Items<usize>>,
@@ -64,8 +60,8 @@ fn add_number(
     Ok(())
 }
 
-/// The numbers of the records of functions.
-fn by_function(
+/// The numbers of the CO-RE relocations of each function.
+fn numbers_by_function(
     alloc: Global,
     records: &[RecordOutcome],
 ) -> Result<ByKey<Items<usize>>, AllocError> {
@@ -79,21 +75,6 @@ fn by_function(
     Ok(numbers)
 }
 
-/// Notes the externs that a kernel lacks; then no program is loaded.
-fn note_lacking(
-    alloc: Global,
-    findings: &mut Findings,
-    kernel: usize,
-    lacking: Vec<Lacking>,
-) -> Result<(), AllocError> {
-    for extern_ in lacking {
-        let name = extern_.name.into_string();
-        let topic = topic_of(alloc, name, Kind::Ksym, extern_.reason);
-        findings.add(topic, kernel, None)?;
-    }
-    Ok(())
-}
-
 /// Whether programs of a section replace those of another object, whose types are asked.
 fn replaces(section: &str) -> bool {
     section
@@ -102,189 +83,151 @@ fn replaces(section: &str) -> bool {
         .starts_with("freplace")
 }
 
-/// Notes that a kernel has no type for what a program is attached to; whether it has none.
-fn note_attach(
-    findings: &mut Findings,
-    answers: &Answers<'_>,
-    number: usize,
-    section: &str,
-) -> Result<bool, AllocError> {
-    let alloc = answers.alloc;
-    if replaces(section) {
-        return Ok(false);
+impl Judge<'_> {
+    /// Adds a finding on the kernel, at a location where it has one.
+    pub fn note(
+        &mut self,
+        key: FindingKey,
+        place: Option<SourceLocation>,
+    ) -> Result<(), AllocError> {
+        self.findings.add(key, self.answers.kernel, place)
     }
-    let AttachTarget::NotFound { name } = attach_target(alloc, section, answers.types)? else {
-        return Ok(false);
-    };
-    let section = String::from_str(alloc, section)?;
-    let reason = format!(in alloc; "no such type {} (a module's?)", name.as_str())?;
-    let topic = topic_of(alloc, section, Kind::Attach, reason);
-    let place = Site::whole(alloc, number);
-    findings.add(topic, answers.kernel, Some(place))?;
-    Ok(true)
-}
 
-/// Notes that a program can't be linked.
-fn note_refused(
-    findings: &mut Findings,
-    answers: &Answers<'_>,
-    number: usize,
-    name: &str,
-    sentence: String,
-) -> Result<(), AllocError> {
-    let alloc = answers.alloc;
-    let name = format!(in alloc; "program {name}")?;
-    let topic = topic_of(alloc, name, Kind::Linking, sentence);
-    let place = Site::whole(alloc, number);
-    findings.add(topic, answers.kernel, Some(place))
-}
-
-/// Judges the copies that a program is made of; whether it breaks.
-fn judge_linked(
-    findings: &mut Findings,
-    answers: &Answers<'_>,
-    number: usize,
-    linked: &Linked,
-) -> Result<bool, AllocError> {
-    let site = Site::new(answers.alloc, number, linked)?;
-    let mut breaks = false;
-    for copy in linked.copies.iter() {
-        breaks = judge_copy(findings, answers, &site, copy)? || breaks;
+    /// Adds a value that differs from the object's own.
+    pub fn note_changed(
+        &mut self,
+        key: FindingKey,
+        own: u64,
+        value: u64,
+    ) -> Result<(), AllocError> {
+        let kernel = self.answers.kernel;
+        self.findings.add_changed(key, kernel, own, value)
     }
-    Ok(breaks)
-}
 
-/// Judges a program; whether it breaks.
-fn judge_program(
-    findings: &mut Findings,
-    answers: &Answers<'_>,
-    linker: &Linker<'_>,
-    number: usize,
-) -> Result<bool, AllocError> {
-    let Some(program) = answers.loaded.needs.programs.get(number) else {
-        return Ok(false);
-    };
-    let section = program.section.as_str();
-    let unattached = note_attach(findings, answers, number, section)?;
-    match linker.linked(answers.alloc, program)? {
-        Ok(linked) => {
-            let breaks = judge_linked(findings, answers, number, &linked)?;
-            Ok(breaks || unattached)
+    /// Adds the externs that the kernel lacks; then no program is loaded.
+    fn note_lacking(&mut self, lacking: Vec<Lacking>) -> Result<(), AllocError> {
+        for extern_ in lacking {
+            let name = extern_.name.into_string();
+            let key = FindingKey::breaking(self.alloc, name, Kind::Ksym, extern_.reason);
+            self.note(key, None)?;
         }
-        Err(sentence) => {
-            let name = program.name.as_str();
-            note_refused(findings, answers, number, name, sentence)?;
-            Ok(true)
+        Ok(())
+    }
+
+    /// Judges the attach target of a program: whether the kernel has no type for it, which is noted.
+    fn judge_attach(&mut self, number: usize, section: &str) -> Result<bool, AllocError> {
+        let alloc = self.alloc;
+        if replaces(section) {
+            return Ok(false);
+        }
+        let target = attach_target(alloc, section, self.answers.types)?;
+        let AttachTarget::NotFound { name } = target else {
+            return Ok(false);
+        };
+        let section = String::from_str(alloc, section)?;
+        let reason = format!(in alloc; "no such type {} (a module's?)", name.as_str())?;
+        let key = FindingKey::breaking(alloc, section, Kind::Attach, reason);
+        self.note(key, Some(SourceLocation::of_program(alloc, number)))?;
+        Ok(true)
+    }
+
+    /// Notes that a program can't be linked.
+    fn note_refused(
+        &mut self,
+        number: usize,
+        name: &str,
+        sentence: RefusalText,
+    ) -> Result<(), AllocError> {
+        let alloc = self.alloc;
+        let name = format!(in alloc; "program {name}")?;
+        let key = FindingKey::breaking(alloc, name, Kind::Linking, sentence);
+        self.note(key, Some(SourceLocation::of_program(alloc, number)))
+    }
+
+    /// Judges the copies of functions in a linked program; whether the program breaks.
+    fn judge_linked(&mut self, number: usize, linked: &LinkedFunction) -> Result<bool, AllocError> {
+        let program = JudgedProgram::new(self.alloc, number, linked)?;
+        let mut breaks = false;
+        for copy in program.copies {
+            breaks = self.judge_copy(&program, copy)? || breaks;
+        }
+        Ok(breaks)
+    }
+
+    /// Judges the program of a number; whether it breaks.
+    fn judge_program(
+        &mut self,
+        linker: &Linker<'_>,
+        number: usize,
+        program: &ObjectProgram,
+    ) -> Result<bool, AllocError> {
+        let unattached = self.judge_attach(number, program.section.as_str())?;
+        match linker.linked(self.alloc, program)? {
+            Ok(linked) => {
+                let breaks = self.judge_linked(number, &linked)?;
+                Ok(breaks || unattached)
+            }
+            Err(sentence) => {
+                self.note_refused(number, program.name.as_str(), sentence)?;
+                Ok(true)
+            }
+        }
+    }
+
+    /// Judges each program; whether each breaks.
+    fn judge_programs(&mut self, linker: &Linker<'_>) -> Result<Vec<bool>, AllocError> {
+        let answers = self.answers;
+        let programs = &answers.loaded.needs.programs;
+        let mut all = Vec::with_capacity(self.alloc, programs.len())?;
+        for (number, program) in programs.iter().enumerate() {
+            let breaks = self.judge_program(linker, number, program)?;
+            all.push(breaks || answers.lacks)?;
+        }
+        Ok(all)
+    }
+
+    /// Judges each program of an object that is written for the kernel; whether each breaks.
+    fn judge_object(&mut self, object: &Object) -> Result<Vec<bool>, AllocError> {
+        let sections = object.text_sections(self.alloc)?;
+        let linker = Linker::new(object, &sections)?;
+        self.judge_programs(&linker)
+    }
+
+    /// Notes that no program can be linked; each breaks.
+    fn note_unwritten(&mut self, sentence: RefusalText) -> Result<Vec<bool>, AllocError> {
+        let alloc = self.alloc;
+        let name = String::from_str(alloc, "all programs")?;
+        self.note(
+            FindingKey::breaking(alloc, name, Kind::Linking, sentence),
+            None,
+        )?;
+        let count = self.answers.loaded.needs.programs.len();
+        Ok(vec![in alloc; true; count]?)
+    }
+
+    /// Judges each program of an object that is written for the kernel, or notes why it isn't; whether each breaks.
+    fn judge_written(
+        &mut self,
+        written: Result<Object, RefusalText>,
+    ) -> Result<Vec<bool>, AllocError> {
+        match written {
+            Ok(object) => {
+                let judged = self.judge_object(&object);
+                drop(object);
+                judged
+            }
+            Err(sentence) => self.note_unwritten(sentence),
         }
     }
 }
 
-/// Judges each program; whether each breaks.
-fn judge_programs(
-    findings: &mut Findings,
-    answers: &Answers<'_>,
-    linker: &Linker<'_>,
-) -> Result<Vec<bool>, AllocError> {
-    let count = answers.loaded.needs.programs.len();
-    let mut all = Vec::with_capacity(answers.alloc, count)?;
-    for number in 0..count {
-        let breaks = judge_program(findings, answers, linker, number)?;
-        all.push(breaks || answers.lacks)?;
-    }
-    Ok(all)
-}
-
-/// Judges each program of an object that is written for a kernel; whether each breaks.
-fn judge_object(
-    findings: &mut Findings,
-    answers: &Answers<'_>,
-    object: &Object,
-) -> Result<Vec<bool>, AllocError> {
-    let alloc = answers.alloc;
-    let sections = object.text_sections(alloc)?;
-    let linker = Linker::new(object, &sections)?;
-    judge_programs(findings, answers, &linker)
-}
-
-/// Notes that no program can be linked.
-fn note_unwritten(
-    findings: &mut Findings,
-    answers: &Answers<'_>,
-    sentence: RefusalText,
-) -> Result<Vec<bool>, AllocError> {
-    let alloc = answers.alloc;
-    let name = String::from_str(alloc, "all programs")?;
-    let topic = topic_of(alloc, name, Kind::Linking, sentence);
-    findings.add(topic, answers.kernel, None)?;
-    Ok(vec![in alloc; true; answers.loaded.needs.programs.len()]?)
-}
-
-/// Judges each program of an object that is written for a kernel, or notes why it isn't; whether each breaks.
-fn judge_written(
-    findings: &mut Findings,
-    answers: &Answers<'_>,
-    written: Result<Object, RefusalText>,
-) -> Result<Vec<bool>, AllocError> {
-    match written {
-        Ok(object) => {
-            let judged = judge_object(findings, answers, &object);
-            drop(object);
-            judged
-        }
-        Err(sentence) => note_unwritten(findings, answers, sentence),
-    }
-}
-
-/// Judges each program over what records come to; whether each breaks.
-fn judge_outcomes(
-    alloc: Global,
-    findings: &mut Findings,
-    loaded: &Loaded,
-    kernel: &Btf,
-    number: usize,
-    outcomes: &[RecordOutcome],
-    written: Result<Object, RefusalText>,
-    lacks: bool,
-) -> Result<Vec<bool>, AllocError> {
-    let by_function = by_function(alloc, outcomes)?;
-    let answers = Answers {
-        alloc,
-        loaded,
-        types: kernel,
-        kernel: number,
-        lacks,
-        outcomes,
-        by_function: &by_function,
-        numbers: KernelNumbers::of(kernel),
-    };
-    judge_written(findings, &answers, written)
-}
-
-/// What the records of an object come to over a kernel's types. Nothing is stated of it, so that what calls this isn't
+/// The outcomes of an object's CO-RE relocations over a kernel's types. Nothing is stated of it, so that what calls this isn't
 /// proved over all that is stated of records.
 fn outcomes_over(object: &Object, kernel: &Btf) -> Result<RecordOutcomes, AllocError> {
     object.record_outcomes(kernel)
 }
 
-/// Judges each program over a kernel whose externs are known; whether each breaks.
-fn judge_over(
-    alloc: Global,
-    findings: &mut Findings,
-    loaded: &Loaded,
-    kernel: &Btf,
-    number: usize,
-    externs: ByName<ExternDesc>,
-    lacks: bool,
-) -> Result<Vec<bool>, AllocError> {
-    let RecordOutcomes { records, written } = outcomes_over(&loaded.object, kernel)?;
-    let written = written_object(alloc, loaded, written, externs)?;
-    let outcomes = records.as_slice();
-    judge_outcomes(
-        alloc, findings, loaded, kernel, number, outcomes, written, lacks,
-    )
-}
-
-/// Notes what a kernel of a number means for the programs that count; whether each breaks.
+/// Adds the findings on a kernel of a number for the programs that count; whether each breaks.
 pub fn judge_kernel(
     alloc: Global,
     findings: &mut Findings,
@@ -292,8 +235,30 @@ pub fn judge_kernel(
     kernel: &Btf,
     number: usize,
 ) -> Result<Vec<bool>, AllocError> {
-    let KernelExterns { written, lacking } = kernel_externs(alloc, loaded, kernel)?;
-    let lacks = !lacking.is_empty();
-    note_lacking(alloc, findings, number, lacking)?;
-    judge_over(alloc, findings, loaded, kernel, number, written, lacks)
+    let KernelExterns {
+        written: externs,
+        lacking,
+    } = kernel_externs(alloc, loaded, kernel)?;
+    let RecordOutcomes {
+        records,
+        written: slots,
+    } = outcomes_over(&loaded.object, kernel)?;
+    let by_function = numbers_by_function(alloc, records.as_slice())?;
+    let answers = Answers {
+        loaded,
+        types: kernel,
+        kernel: number,
+        lacks: !lacking.is_empty(),
+        outcomes: records.as_slice(),
+        by_function: &by_function,
+        numbers: KernelNumbers::of(kernel),
+    };
+    let mut judge = Judge {
+        alloc,
+        findings,
+        answers: &answers,
+    };
+    judge.note_lacking(lacking)?;
+    let written = written_object(alloc, loaded, slots, externs)?;
+    judge.judge_written(written)
 }

@@ -5,9 +5,9 @@ use ebpf_btf::{Btf, BtfKind};
 use ebpf_model::ExternDesc;
 use std::alloc::{AllocError, Global};
 
-/// Whether a function or a variable is looked up.
+/// The kind of a kernel symbol that externs name.
 #[derive(Clone, Copy)]
-pub enum Sort {
+pub enum KernelSymbolKind {
     /// A function.
     Function,
     /// A variable.
@@ -16,7 +16,7 @@ pub enum Sort {
 
 /// The lowest ids of the FUNC and the VAR of a name.
 #[derive(Clone, Copy)]
-struct Ids {
+struct KernelSymbolIds {
     function: Option<u32>,
     variable: Option<u32>,
 }
@@ -24,10 +24,10 @@ struct Ids {
 /// The functions and variables of a kernel that have the names of externs.
 #[derive(Drop)]
 pub struct KernelSymbols {
-    by_name: ByName<Ids>,
+    by_name: ByName<KernelSymbolIds>,
 }
 
-/// What stands before the first three underscores in a row, or the whole name.
+/// The part of a name before the first three underscores in a row, or the whole name.
 fn without_flavor(name: &str) -> &str {
     match name.split_once("___") {
         Some((front, _)) => front,
@@ -35,10 +35,13 @@ fn without_flavor(name: &str) -> &str {
     }
 }
 
-/// The names that externs are looked up by: of a variable its own, of a function what stands before three underscores.
-fn looked_up_names(alloc: Global, externs: &ByName<ExternDesc>) -> Result<ByName<Ids>, AllocError> {
+/// The names that externs are looked up by: a variable's own, a function's without its flavor.
+fn looked_up_names(
+    alloc: Global,
+    externs: &ByName<ExternDesc>,
+) -> Result<ByName<KernelSymbolIds>, AllocError> {
     let mut names = ByName::new(alloc);
-    let nothing = Ids {
+    let nothing = KernelSymbolIds {
         function: None,
         variable: None,
     };
@@ -50,8 +53,8 @@ fn looked_up_names(alloc: Global, externs: &ByName<ExternDesc>) -> Result<ByName
     Ok(names)
 }
 
-/// Notes the id of a type, where it is a function or a variable and the first of its name.
-fn note_type(names: &mut ByName<Ids>, kernel: &Btf, id: u32) {
+/// Adds the id of a type that is a function or a variable and the first of its name.
+fn note_type(names: &mut ByName<KernelSymbolIds>, kernel: &Btf, id: u32) {
     let Some(head) = kernel.head(id as usize) else {
         return;
     };
@@ -94,13 +97,13 @@ impl KernelSymbols {
     }
 
     /// The lowest id of the function or variable that an extern of a name stands for.
-    pub fn id(&self, sort: Sort, name: &str) -> Option<u32> {
-        match sort {
-            Sort::Function => {
+    pub fn id(&self, kind: KernelSymbolKind, name: &str) -> Option<u32> {
+        match kind {
+            KernelSymbolKind::Function => {
                 let front = without_flavor(name);
                 self.by_name.get(front)?.function
             }
-            Sort::Variable => self.by_name.get(name)?.variable,
+            KernelSymbolKind::Variable => self.by_name.get(name)?.variable,
         }
     }
 }

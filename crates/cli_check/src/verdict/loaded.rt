@@ -14,13 +14,37 @@ use std::alloc::{AllocError, Global};
 /// A CO-RE relocation.
 #[derive(Clone, Copy)]
 pub struct Record {
-    /// What is asked.
+    /// The relocation.
     pub relocation: Relocation,
-    /// What the object's own types answer, where it is told that a kernel answers otherwise.
+    /// The value by the object's own types, where a kernel's different value is reported.
     pub own: Option<u64>,
 }
 
-/// Adds the records of a section.
+/// The needs of an object.
+#[derive(Drop)]
+pub struct Needs {
+    /// The programs that count, in byte order of their names.
+    pub programs: Vec<ObjectProgram>,
+    /// The CO-RE relocations, section by section and in order.
+    pub records: Vec<Record>,
+    /// The maps that functions use, by the functions' keys.
+    pub map_uses: ByKey<Items<MapUse>>,
+    /// The externs with a type.
+    pub typed: ByName<ExternDesc>,
+    /// The names of the externs that the kernel's configuration gives.
+    pub settings: Items<Text>,
+}
+
+/// An object with its needs.
+#[derive(Drop)]
+pub struct Loaded {
+    /// The object, parsed leniently.
+    pub object: Object,
+    /// The needs of the object.
+    pub needs: Needs,
+}
+
+/// Adds the CO-RE relocations of a section.
 fn add_records(
     alloc: Global,
     records: &mut Vec<Record>,
@@ -38,7 +62,7 @@ fn add_records(
     Ok(())
 }
 
-/// The records of an object; none of one without types.
+/// The CO-RE relocations of an object; none of one without types.
 fn records_of(alloc: Global, object: &Object, all: bool) -> Result<Vec<Record>, AllocError> {
     let mut records = Vec::new(alloc);
     let (Some(local), Some(said)) = (&object.btf, &object.btf_ext) else {
@@ -62,24 +86,9 @@ fn typed_externs(alloc: Global, object: &Object) -> Result<ByName<ExternDesc>, A
     Ok(typed)
 }
 
-/// What is asked of an object.
-#[derive(Drop)]
-pub struct Needs {
-    /// The programs that count, in byte order of their names.
-    pub programs: Vec<ObjectProgram>,
-    /// Its records, section by section and in order.
-    pub records: Vec<Record>,
-    /// The maps that functions use, by the functions' keys.
-    pub map_uses: ByKey<Items<MapUse>>,
-    /// The externs with a type.
-    pub typed: ByName<ExternDesc>,
-    /// The names of the externs that the kernel's configuration gives.
-    pub settings: Items<Text>,
-}
-
 impl Needs {
-    /// What is asked of an object, of which these programs count; `all` says whether each value that a kernel may change
-    /// is told. It borrows the object: each way out of a function is proved to let go of what it holds.
+    /// The needs of an object, of which these programs count; `all` says whether each value that a kernel may change is
+    /// reported. It borrows the object: each way out of a function is proved to drop what it holds.
     pub fn of(
         alloc: Global,
         object: &Object,
@@ -98,13 +107,4 @@ impl Needs {
             settings,
         })
     }
-}
-
-/// An object, with what is asked of it.
-#[derive(Drop)]
-pub struct Loaded {
-    /// The object, read broadly.
-    pub object: Object,
-    /// What is asked of it.
-    pub needs: Needs,
 }

@@ -1,4 +1,4 @@
-//! What records ask, answered by the object's own types.
+//! The values of CO-RE relocations by the object's own types.
 
 use cli_common::record_names::{no_answer, own_value_of};
 use ebpf_btf::{Btf, BtfKind};
@@ -47,9 +47,9 @@ fn asks_scalar_size(local: &Btf, relocation: &Relocation, path: &NamedPath) -> b
     )
 }
 
-/// Whether a record's value is told where a kernel has another one: of an enumerator, and of the size of an integer, an
-/// enumeration or a pointer; where all is told each that a kernel may change.
-fn is_told(local: &Btf, relocation: &Relocation, path: &NamedPath, all: bool) -> bool {
+/// Whether a CO-RE relocation's value is reported where a kernel's differs: of an enumerator, and of the size of an integer, an
+/// enumeration or a pointer; with `all` each that a kernel may change.
+fn is_reported(local: &Btf, relocation: &Relocation, path: &NamedPath, all: bool) -> bool {
     match relocation.kind {
         RelocationKind::EnumVariantValue => true,
         RelocationKind::TypeIdLocal
@@ -61,7 +61,7 @@ fn is_told(local: &Btf, relocation: &Relocation, path: &NamedPath, all: bool) ->
     }
 }
 
-/// The value that the object's own types give a record, where another one is told. None where they give none.
+/// The value of a CO-RE relocation by the object's own types, where a different one is reported. None where they give none.
 pub fn own_value(
     alloc: Global,
     local: &Btf,
@@ -69,7 +69,7 @@ pub fn own_value(
     all: bool,
 ) -> Result<Option<u64>, AllocError> {
     match local_path(alloc, local, relocation) {
-        Ok(path) if is_told(local, relocation, &path.path, all) => {
+        Ok(path) if is_reported(local, relocation, &path.path, all) => {
             own_value_of(alloc, local, relocation, &path)
         }
         Ok(_) => Ok(None),

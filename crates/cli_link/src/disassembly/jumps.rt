@@ -9,7 +9,7 @@ use ebpf_parts::insn::bpf_insn;
 use ebpf_parts::insn::opcodes::{CALL, EXIT, JA, JA32, JMP32};
 use std::fmt;
 
-/// What goes on at another place than behind itself.
+/// An instruction that continues elsewhere than at the next slot.
 #[derive(Clone, Copy)]
 pub enum Jump {
     /// `goto +0x3`, `gotol +0x3`, `may_goto +0x3`

@@ -4,17 +4,17 @@ use crate::disassembly::opcodes::{
     ATOMIC_ADD, ATOMIC_AND, ATOMIC_OR, ATOMIC_XOR, BPF_ABS, BPF_ATOMIC, BPF_CMPXCHG, BPF_IND,
     BPF_MEM, BPF_MEMSX, BPF_XCHG, FETCH_ADD, FETCH_AND, FETCH_OR, FETCH_XOR, MODE, SIZE,
 };
-use crate::disassembly::operands::{Number, Operand, Place, Register};
+use crate::disassembly::operands::{MemoryPlace, Number, Operand, Register};
 use ebpf_parts::insn::bpf_insn;
 use ebpf_parts::insn::opcodes::{BPF_B, BPF_DW, BPF_H, BPF_W, LD_IMM64};
 use std::fmt;
 
 /// A load of the first class.
 #[derive(Clone, Copy)]
-pub enum Load {
+pub enum MemoryLoad {
     /// A number of 64 bits: `r1 = 0x7 ll`.
     Wide(Register, Number),
-    /// What a number stands for: `ld_pseudo r1, 0x1, 0x7`, with a tab.
+    /// A pseudo number: `ld_pseudo r1, 0x1, 0x7`, with a tab.
     Pseudo(Register, u8, u32),
     /// Bytes of a packet: `r0 = *(u32 *)skb[0x7]`.
     Packet(&'static str, Operand),
@@ -24,19 +24,19 @@ pub enum Load {
 #[derive(Clone, Copy)]
 pub enum Memory {
     /// `r1 = *(u32 *)(r2 + 0x8)`
-    Load(Register, &'static str, Place),
+    Load(Register, &'static str, MemoryPlace),
     /// `*(u32 *)(r1 + 0x8) = r2`
-    Store(&'static str, Place, Operand),
+    Store(&'static str, MemoryPlace, Operand),
     /// An atomic operation.
     Atomic(Atomic),
 }
 
-/// What an atomic operation does.
+/// The kinds of atomic operation.
 #[derive(Clone, Copy)]
 enum Action {
     /// It changes memory: `lock *(u64 *)(r1 + 0x8) |= r2`.
     Change(&'static str),
-    /// It changes memory and gives what was there: `r2 = atomic_fetch_or((u64 *)(r1 + 0x8), r2)`.
+    /// A change of memory that gives the old value: `r2 = atomic_fetch_or((u64 *)(r1 + 0x8), r2)`.
     Fetch(&'static str),
     /// It exchanges memory and a register: `r2 = xchg_64(r1 + 0x8, r2)`.
     Exchange(&'static str),
@@ -49,7 +49,7 @@ enum Action {
 pub struct Atomic {
     action: Action,
     word: &'static str,
-    place: Place,
+    place: MemoryPlace,
     register: Register,
 }
 
@@ -78,7 +78,7 @@ fn loaded_word(code: u8) -> Option<&'static str> {
 pub fn decode_load(instruction: bpf_insn) -> Option<Memory> {
     let register = Register::full(instruction.dst_reg())?;
     let word = loaded_word(instruction.code)?;
-    let place = Place {
+    let place = MemoryPlace {
         base: Register::full(instruction.src_reg())?,
         offset: instruction.off,
     };
@@ -86,8 +86,8 @@ pub fn decode_load(instruction: bpf_insn) -> Option<Memory> {
 }
 
 /// The place that an instruction writes.
-fn written_place(instruction: bpf_insn) -> Option<Place> {
-    Some(Place {
+fn written_place(instruction: bpf_insn) -> Option<MemoryPlace> {
+    Some(MemoryPlace {
         base: Register::full(instruction.dst_reg())?,
         offset: instruction.off,
     })
@@ -119,7 +119,7 @@ pub fn decode_store(instruction: bpf_insn) -> Option<Memory> {
     }
 }
 
-/// What an atomic operation of 32 bits, where it is half a register's, or of 64 does.
+/// The kind of an atomic operation of 32 bits, where it is half a register's, or of 64.
 fn action_of(operation: i32, is_half: bool) -> Option<Action> {
     let result = Register::of(Register::RESULT, is_half)?;
     match (operation, is_half) {
@@ -166,15 +166,15 @@ fn wide_number(first: bpf_insn, second: bpf_insn) -> Number {
 }
 
 /// A wide load.
-fn decode_wide(first: bpf_insn, second: Option<bpf_insn>) -> Option<Load> {
+fn decode_wide(first: bpf_insn, second: Option<bpf_insn>) -> Option<MemoryLoad> {
     let second = second?;
     if first.off != 0 {
         return None;
     }
     let register = Register::full(first.dst_reg())?;
     match first.src_reg() {
-        0 => Some(Load::Wide(register, wide_number(first, second))),
-        source => Some(Load::Pseudo(register, source, first.imm.cast_unsigned())),
+        0 => Some(MemoryLoad::Wide(register, wide_number(first, second))),
+        source => Some(MemoryLoad::Pseudo(register, source, first.imm.cast_unsigned())),
     }
 }
 
@@ -188,16 +188,16 @@ fn packet_place(instruction: bpf_insn) -> Option<Operand> {
 }
 
 /// A load of a packet's bytes.
-fn decode_packet(instruction: bpf_insn) -> Option<Load> {
+fn decode_packet(instruction: bpf_insn) -> Option<MemoryLoad> {
     let size = instruction.code & SIZE;
     if size == BPF_DW {
         return None;
     }
-    Some(Load::Packet(number_word(size), packet_place(instruction)?))
+    Some(MemoryLoad::Packet(number_word(size), packet_place(instruction)?))
 }
 
 /// A load of the first class, decoded, before the slot `second`.
-pub fn decode_first_class(instruction: bpf_insn, second: Option<bpf_insn>) -> Option<Load> {
+pub fn decode_first_class(instruction: bpf_insn, second: Option<bpf_insn>) -> Option<MemoryLoad> {
     if instruction.code == LD_IMM64 {
         decode_wide(instruction, second)
     } else {
@@ -205,14 +205,14 @@ pub fn decode_first_class(instruction: bpf_insn, second: Option<bpf_insn>) -> Op
     }
 }
 
-impl fmt::Display for Load {
+impl fmt::Display for MemoryLoad {
     fn fmt<W: fmt::Write>(&self, f: &mut fmt::Formatter<W>) -> fmt::Result {
         match self {
-            Load::Wide(register, number) => write!(f, "{register} = {number} ll"),
-            Load::Pseudo(register, source, number) => {
+            MemoryLoad::Wide(register, number) => write!(f, "{register} = {number} ll"),
+            MemoryLoad::Pseudo(register, source, number) => {
                 write!(f, "ld_pseudo\t{register}, {source:#x}, {number:#x}")
             }
-            Load::Packet(word, at) => write!(f, "r0 = *({word} *)skb[{at}]"),
+            MemoryLoad::Packet(word, at) => write!(f, "r0 = *({word} *)skb[{at}]"),
         }
     }
 }

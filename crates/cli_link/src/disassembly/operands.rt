@@ -100,14 +100,14 @@ impl fmt::Display for Operand {
 
 /// A place in memory: the address in a register, and a distance from it in bytes.
 #[derive(Clone, Copy)]
-pub struct Place {
+pub struct MemoryPlace {
     /// The register.
     pub base: Register,
     /// The distance.
     pub offset: i16,
 }
 
-impl fmt::Display for Place {
+impl fmt::Display for MemoryPlace {
     fn fmt<W: fmt::Write>(&self, f: &mut fmt::Formatter<W>) -> fmt::Result {
         let base = self.base;
         let amount = self.offset.unsigned_abs();

@@ -3,17 +3,17 @@
 use crate::disassembly::arithmetic::{Arithmetic, decode_arithmetic};
 use crate::disassembly::jumps::{Jump, decode_jump};
 use crate::disassembly::memory::{
-    Load, Memory, decode_first_class, decode_load, decode_number_store, decode_store,
+    Memory, MemoryLoad, decode_first_class, decode_load, decode_number_store, decode_store,
 };
 use ebpf_parts::insn::bpf_insn;
 use ebpf_parts::insn::opcodes::{ALU, ALU64, LD, LDX, ST, STX};
 use std::fmt;
 
-/// What an instruction does; its text is that of `llvm-objdump` 19, but for where a jump leads.
+/// The operation of an instruction; its text is that of `llvm-objdump` 19, but for the target of a jump.
 #[derive(Clone, Copy)]
 pub enum Operation {
     /// A wide number or a packet's bytes are loaded.
-    Load(Load),
+    Load(MemoryLoad),
     /// Memory is read or written.
     Memory(Memory),
     /// Registers are computed.
@@ -35,11 +35,14 @@ impl Operation {
 
     /// Whether it takes two slots: a wide load does.
     pub fn takes_two(&self) -> bool {
-        matches!(self, Operation::Load(Load::Wide(..) | Load::Pseudo(..)))
+        matches!(
+            self,
+            Operation::Load(MemoryLoad::Wide(..) | MemoryLoad::Pseudo(..))
+        )
     }
 }
 
-/// What the instruction of a class does.
+/// The operation of an instruction by its class.
 fn decode_class(instruction: bpf_insn, second: Option<bpf_insn>) -> Option<Operation> {
     match instruction.code % 8 {
         LD => Some(Operation::Load(decode_first_class(instruction, second)?)),
@@ -51,7 +54,7 @@ fn decode_class(instruction: bpf_insn, second: Option<bpf_insn>) -> Option<Opera
     }
 }
 
-/// What an instruction does, before the slot `second`, where there is one: of a wide load it has the upper half.
+/// The operation of an instruction. `second` is the next slot, where there is one: of a wide load it has the upper half.
 pub fn decode(instruction: bpf_insn, second: Option<bpf_insn>) -> Operation {
     match decode_class(instruction, second) {
         Some(operation) => operation,

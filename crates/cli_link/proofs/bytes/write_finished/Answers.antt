@@ -1,5 +1,5 @@
 use Rattle.std.proofs.Common.{ap, subst}
-use Rattle.cli_plain.specs.Linked.{default_passes}
+use Rattle.cli_common.specs.DefaultPasses.{default_passes}
 use Rattle.ebpf_ksyms.specs.Sources.{Text}
 use Rattle.ebpf_object.specs.Headline.{Headline}
 use Rattle.ebpf_object.specs.declared.object.Object.{Object}

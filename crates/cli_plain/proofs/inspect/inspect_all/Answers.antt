@@ -1,10 +1,9 @@
 use Rattle.std.proofs.Common.{ap, ◌∙◌, map, subst}
 use Rattle.std.specs.Prelude.{pos}
 use Rattle.std.specs.Option.{option_copied}
-use Rattle.cli_plain.proofs.Appending.{all_default_passes}
-use Rattle.cli_plain.specs.Linked.{numbered_descriptors}
+use Rattle.cli_common.proofs.DefaultPasses.{all_default_passes}
 use Rattle.ebpf_inspect.specs.Inspected.{IsInspected}
-use Rattle.ebpf_object.specs.Stages.{chosen, descriptor_of}
+use Rattle.ebpf_object.specs.Stages.{chosen, descriptor_of, numbered_descriptors}
 use Rattle.cli_plain.proofs.inspect.inspect_all.Goals as goal
 use Rattle.ebpf_parts.specs.declared.reading.Reading.TheVariants.{Stated}
 

@@ -2,7 +2,7 @@ use Rattle.std.proofs.Common.{subst}
 use Rattle.std.specs.Io.KnownBytes.{Appends}
 use Rattle.std.specs.List.{flat_map}
 use Rattle.cli_plain.specs.Printed.{copy_line}
-use Rattle.cli_plain.proofs.Appending.{one_more}
+use Rattle.cli_common.proofs.Appending.{one_more}
 use Rattle.cli_plain.proofs.printed_text.write_copies.Goals as goal
 
 pub loop-copy-preserved : goal.loop-copy-preserved

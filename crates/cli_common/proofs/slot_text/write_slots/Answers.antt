@@ -1,9 +1,9 @@
 use Rattle.std.proofs.Common.{subst}
 use Rattle.std.specs.Io.KnownBytes.{Appends}
 use Rattle.std.specs.List.{flat_map}
-use Rattle.cli_plain.specs.Printed.{slot_line}
-use Rattle.cli_plain.proofs.Appending.{one_more}
-use Rattle.cli_plain.proofs.printed_text.write_slots.Goals as goal
+use Rattle.cli_common.specs.SlotText.{slot_line}
+use Rattle.cli_common.proofs.Appending.{one_more}
+use Rattle.cli_common.proofs.slot_text.write_slots.Goals as goal
 
 pub loop-slot-preserved : goal.loop-slot-preserved
 loop-slot-preserved g c all others =

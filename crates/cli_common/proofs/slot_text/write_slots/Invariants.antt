@@ -1,8 +1,8 @@
 use Rattle.std.proofs.Common.{ℕ, List, Option, drop}
 use Rattle.std.specs.Io.KnownBytes.{Appends}
 use Rattle.std.specs.List.{flat_map}
-use Rattle.cli_plain.specs.Printed.{slot_line}
-use Rattle.cli_plain.proofs.printed_text.write_slots.Given as goal
+use Rattle.cli_common.specs.SlotText.{slot_line}
+use Rattle.cli_common.proofs.slot_text.write_slots.Given as goal
 
 -- with the lines that are left, all are there
 abbrev pub invariant-loop-slot : goal.invariant-loop-slot

@@ -1,7 +1,0 @@
-use Rattle.std.proofs.Common.{◌≡◌, ◌++◌, drop}
-use Rattle.ebpf_base.specs.Maps.{lent_bytes}
-use Rattle.cli_plain.proofs.preparation.copied.Given as goal
-
--- with those that are left, all are there
-abbrev pub invariant-loop-name : goal.invariant-loop-name
-invariant-loop-name l = l.copies ++ lent_bytes (drop l.name-index l.names) ≡ lent_bytes l.fn.names

@@ -1,9 +1,0 @@
-use Rattle.std.proofs.Common.{◌≡◌, ◌++◌, map, drop}
-use Rattle.std.specs.Prelude.{pos}
-use Rattle.cli_plain.specs.Linked.{numbered_descriptors}
-use Rattle.ebpf_object.specs.Stages.{descriptor_of}
-use Rattle.cli_plain.proofs.preparation.numbered_descriptors.Given as goal
-
--- with those that are left, all are there
-abbrev pub invariant-loop-name : goal.invariant-loop-name
-invariant-loop-name l = map descriptor_of l.numbered_descriptors.items ++ numbered_descriptors l.descriptor (drop l.name-index l.names) ≡ numbered_descriptors (pos 0) l.fn.names
