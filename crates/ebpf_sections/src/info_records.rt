@@ -172,7 +172,7 @@ impl Model for RecordsBySlot {
 
 impl RecordsBySlot {
     /// Indices, sorted by their slots.
-    pub fn sorted(mut indices: Vec<RecordIndex>) -> Result<RecordsBySlot, ParseError>
+    pub fn from_indices(mut indices: Vec<RecordIndex>) -> Result<RecordsBySlot, ParseError>
         ensures grouped { IfOk result (λ s. (q : ℕ) → filter (is_at_slot q) s ≡ filter (is_at_slot q) indices.items) }
         ensures memory { IfErr result (λ e. is_parse_memory e ≡ true) }
     {
@@ -234,14 +234,14 @@ pub trait InfoRecord: NamesSlot + Copy {
     ghost zero: { Self };
 
     /// The record, its slot counted from another one.
-    ghost counted_from: { ℕ → Self → Self };
+    ghost rebase: { ℕ → Self → Self };
 
     /// The record, its slot counted from another one.
-    fn counted_from(&self, base: usize) -> Self
-        ensures { result ≡ counted_from base self.now };
+    fn rebase(&self, base: usize) -> Self
+        ensures { result ≡ rebase base self.now };
 
     /// Counted from slot 0 it stays.
-    ghost from_zero: { (row : Self) → counted_from 0 row ≡ row };
+    ghost from_zero: { (row : Self) → rebase 0 row ≡ row };
 }
 
 impl NamesSlot for bpf_func_info {
@@ -263,11 +263,11 @@ impl NamesSlot for bpf_line_info {
 impl InfoRecord for bpf_func_info {
     ghost zero = { record { insn_off = 0; type_id = 0 } };
 
-    ghost counted_from = { func_from };
+    ghost rebase = { func_from };
 
     ghost from_zero = { λ row. ap (λ n. record row { insn_off = n }) (sub-zero row.insn_off) };
 
-    fn counted_from(&self, base: usize) -> bpf_func_info
+    fn rebase(&self, base: usize) -> bpf_func_info
         ensures { result ≡ func_from base self.now }
     {
         bpf_func_info {
@@ -280,11 +280,11 @@ impl InfoRecord for bpf_func_info {
 impl InfoRecord for bpf_line_info {
     ghost zero = { record { insn_off = 0; file_name_off = 0; line_off = 0; line_col = 0 } };
 
-    ghost counted_from = { line_from };
+    ghost rebase = { line_from };
 
     ghost from_zero = { λ row. ap (λ n. record row { insn_off = n }) (sub-zero row.insn_off) };
 
-    fn counted_from(&self, base: usize) -> bpf_line_info
+    fn rebase(&self, base: usize) -> bpf_line_info
         ensures { result ≡ line_from base self.now }
     {
         bpf_line_info {
@@ -328,7 +328,7 @@ impl<'e, R: InfoRecord> InfoRecords<'e, R> {
                 indices: None,
             });
         }
-        let indices = RecordsBySlot::sorted(slot_indices(alloc, records)?)?;
+        let indices = RecordsBySlot::from_indices(slot_indices(alloc, records)?)?;
         Ok(InfoRecords {
             records,
             next,
@@ -337,34 +337,30 @@ impl<'e, R: InfoRecord> InfoRecords<'e, R> {
     }
 
     /// The records of so many slots from a slot on, their slots counted from another one.
-    pub fn counted_from(
+    pub fn records_among(
         &self,
         alloc: Global,
         first: usize,
         count: usize,
         base: usize,
     ) -> Result<Items<R>, ParseError>
-        ensures records { IfOk result (λ kept. kept ≡ map (R.counted_from base) (filter (is_among_slots R.slot_of first count) self.now)) }
+        ensures records { IfOk result (λ kept. kept ≡ map (R.rebase base) (filter (is_among_slots R.slot_of first count) self.now)) }
         ensures memory { IfErr result (λ e. is_parse_memory e ≡ true) }
     {
         let Some(indices) = &self.indices else {
             let among = rows_among(self.records, &self.next, first, count);
-            return all_counted_from(alloc, among, base);
+            return rebase_all(alloc, among, base);
         };
         let indices = indices.within(alloc, first, count)?;
-        let kept = those_counted_from(alloc, self.records, &indices, base)?;
+        let kept = rebase_at(alloc, self.records, &indices, base)?;
         Ok(kept)
     }
 }
 
 /// A copy of records, their slots counted from another one.
 #[tactic(auto, using(crate::proofs::Records::records_kept))]
-fn all_counted_from<R: InfoRecord>(
-    alloc: Global,
-    rows: &[R],
-    base: usize,
-) -> Result<Items<R>, ParseError>
-    ensures records { IfOk result (λ kept. kept ≡ map (R.counted_from base) rows.now) }
+fn rebase_all<R: InfoRecord>(alloc: Global, rows: &[R], base: usize) -> Result<Items<R>, ParseError>
+    ensures records { IfOk result (λ kept. kept ≡ map (R.rebase base) rows.now) }
     ensures memory { IfErr result (λ e. is_parse_memory e ≡ true) }
 {
     if base == 0 {
@@ -372,25 +368,25 @@ fn all_counted_from<R: InfoRecord>(
     }
     let mut kept = Vec::with_capacity(alloc, rows.len())?;
     for row in rows {
-        kept.push(row.counted_from(base))?;
+        kept.push(row.rebase(base))?;
     }
     Ok(Items::from_vec(kept))
 }
 
 /// The records at some indices, their slots counted from another one.
-fn those_counted_from<R: InfoRecord>(
+fn rebase_at<R: InfoRecord>(
     alloc: Global,
     rows: &[R],
     indices: &[usize],
     base: usize,
 ) -> Result<Items<R>, ParseError>
     requires { All (λ i. i < length rows.now) indices.now }
-    ensures records { IfOk result (λ kept. kept ≡ map (λ i. R.counted_from base (slice_index_or rows.now i R.zero)) indices.now) }
+    ensures records { IfOk result (λ kept. kept ≡ map (λ i. R.rebase base (slice_index_or rows.now i R.zero)) indices.now) }
     ensures memory { IfErr result (λ e. is_parse_memory e ≡ true) }
 {
     let mut kept = Vec::with_capacity(alloc, indices.len())?;
     for index in indices {
-        kept.push(rows[*index].counted_from(base))?;
+        kept.push(rows[*index].rebase(base))?;
     }
     Ok(Items::from_vec(kept))
 }

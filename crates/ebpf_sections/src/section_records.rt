@@ -77,7 +77,7 @@ impl<'e> FuncRecords<'e> {
         Ok(FuncSecInfo {
             sec_name_offset: self.name_offset,
             num_info: self.count,
-            func_info: self.records.counted_from(alloc, first, 1, base)?,
+            func_info: self.records.records_among(alloc, first, 1, base)?,
         })
     }
 }
@@ -118,7 +118,7 @@ impl<'e> LineRecords<'e> {
         Ok(LineSecInfo {
             sec_name_offset: self.name_offset,
             num_info: self.count,
-            line_info: self.records.counted_from(alloc, first, count, base)?,
+            line_info: self.records.records_among(alloc, first, count, base)?,
         })
     }
 }

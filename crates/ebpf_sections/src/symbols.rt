@@ -46,7 +46,7 @@ impl<'a> Model for NamedSymbol<'a> {
 impl<'a> NamedSymbol<'a> {
     /// A symbol of a file whose name is known.
     #[tactic(auto, unfolding(crate::specs::Symbols::symbol_of))]
-    fn named(symbol: &ElfSymbol<'_>, name: &'a str) -> NamedSymbol<'a>
+    fn with_name(symbol: &ElfSymbol<'_>, name: &'a str) -> NamedSymbol<'a>
         ensures { name.now ≡ unwrap_or (symbol_name symbol.now) [] → result ≡ symbol_of symbol.now }
     {
         NamedSymbol {
@@ -67,13 +67,13 @@ impl<'a> NamedSymbol<'a> {
         ensures fault { fault_of result ≡ symbol_fault symbol.now }
     {
         match symbol.name() {
-            Ok(name) => Ok(NamedSymbol::named(symbol, name)),
+            Ok(name) => Ok(NamedSymbol::with_name(symbol, name)),
             Err(_) => Err(ParseError::BtfError(BtfError::InvalidSymbolName)),
         }
     }
 
     /// What an object keeps of it.
-    fn owned(&self, alloc: Global) -> Result<Symbol, ParseError>
+    fn to_symbol(&self, alloc: Global) -> Result<Symbol, ParseError>
         ensures symbol { IfOk result (λ owned. owned ≡ (symbol_entry self.now).1) }
         ensures memory { IfErr result (λ e. is_parse_memory e ≡ true) }
     {
@@ -154,8 +154,8 @@ pub fn object_symbols(
 {
     let mut table = ByIndex::from_map(HashMap::with_capacity(alloc, names.len())?);
     for (symbol, name) in file.symbols().zip(names) {
-        let symbol = NamedSymbol::named(&symbol, *name);
-        table.insert(symbol.index, symbol.owned(alloc)?)?;
+        let symbol = NamedSymbol::with_name(&symbol, *name);
+        table.insert(symbol.index, symbol.to_symbol(alloc)?)?;
     }
     Ok(table)
 }

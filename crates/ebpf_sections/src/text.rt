@@ -32,7 +32,7 @@ impl NamedSymbol<'_> {
 }
 
 /// The defined Text symbols.
-fn defined<'s, 'a>(
+fn defined_symbols<'s, 'a>(
     alloc: Global,
     symbols: &'s [NamedSymbol<'a>],
 ) -> Result<Vec<&'s NamedSymbol<'a>>, ParseError>
@@ -49,7 +49,7 @@ fn defined<'s, 'a>(
 }
 
 /// Symbols in order of their addresses, those of one address in the order that they had.
-fn sorted<'s, 'a>(
+fn sort_by_address<'s, 'a>(
     mut rows: Vec<&'s NamedSymbol<'a>>,
 ) -> Result<Vec<&'s NamedSymbol<'a>>, ParseError>
     ensures rising { IfOk result (λ s. IsNonDecreasingBy (λ y. y.now.address) s.items) }
@@ -185,7 +185,7 @@ impl<'s, 'a> TextSymbols<'s, 'a> {
         ensures symbols { IfOk result (λ t. t.symbols.now ≡ symbols.now) }
         ensures fault { Refuses is_parse_memory result (conflict_fault section_index symbols.now) }
     {
-        let rows = sorted(defined(alloc, symbols)?)?;
+        let rows = sort_by_address(defined_symbols(alloc, symbols)?)?;
         check_apart(alloc, section_index, symbols, rows.as_slice())?;
         let next = Cell::new(0);
         Ok(TextSymbols {
