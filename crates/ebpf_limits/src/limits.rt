@@ -11,12 +11,13 @@ ghost use Rattle.ebpf_object.specs.Objects.{object_as};
 ghost use Rattle.ebpf_parts.specs.Memory.{is_parse_memory};
 ghost use Rattle.ebpf_parts.specs.declared.error.ParseError.TheVariants.{ElfError};
 
-use crate::facts::{Facts, FoundRecords};
+use crate::facts::{Facts, code_names};
 use crate::readable::{license_bytes, readable_ext, readable_types, type_information_bytes};
 use crate::symbols::{ENTRY, facts_at, take_names, take_sections, take_symbols};
 use ebpf_elf::{ElfFile, ElfRelocationSection};
 use ebpf_object::Object;
 use ebpf_parts::{EbpfSectionKind, ParseError, Reading};
+use ebpf_sections::section_records::FoundRecords;
 use std::alloc::{AllocError, Global};
 
 /// Takes the names of sections and the license. The names come first: sections are looked for by their names then.
@@ -54,7 +55,8 @@ fn take_later(
     if !room.take(type_information_bytes(file, &types, &ext)) {
         return Ok(false);
     }
-    let records = FoundRecords::of(alloc, file, &ext)?;
+    let names = code_names(alloc, file, &ext)?;
+    let records = FoundRecords::find(alloc, &ext, &names)?;
     let Some(all) = take_sections(alloc, room, bytes, file, &records)? else {
         return Ok(false);
     };

@@ -6,12 +6,13 @@ ghost use Rattle.std.specs.Option.{option_copied};
 ghost use Rattle.ebpf_elf.specs.Sections.{section_name, sections};
 ghost use Rattle.ebpf_elf.specs.Symbols.{entry, symbols, symbol_name};
 ghost use Rattle.ebpf_limits.specs.OwnedBytes.{total, facts_at, placed_in, symbol_bytes, named_bytes, section_entry_bytes, contents_bytes, facts_of, Took};
-ghost use Rattle.ebpf_parts.specs.Sections.{name_or_empty};
 
-use crate::facts::{Facts, FoundRecords, contents_bytes};
+use crate::facts::{Facts, contents_bytes};
 use crate::limits::Room;
 use ebpf_elf::{ElfFile, ElfSection, ElfSymbol};
 use ebpf_parts::EbpfSectionKind;
+use ebpf_sections::section_records::FoundRecords;
+use ebpf_sections::sections::name_or_empty;
 use std::alloc::{AllocError, Global};
 
 /// What the section with an index, from 1 on, has for its symbols.
@@ -70,16 +71,6 @@ pub fn take_symbols(
 /// What an entry of a table takes beside its name and its lists, in bytes.
 pub const ENTRY: u128 = 64;
 
-/// The name of a section, empty where it can't be read.
-pub fn name_or_empty<'a>(section: &ElfSection<'a>) -> &'a str
-    ensures { result.now ≡ name_or_empty section.now }
-{
-    match section.name() {
-        Ok(name) => name,
-        Err(_) => "",
-    }
-}
-
 /// The bytes of an entry by a section's name.
 pub fn section_named_bytes(bytes: &[u8], section: &ElfSection<'_>) -> u128
     ensures exact { result ≡ named_bytes bytes.now (section_name section.now) }
@@ -136,8 +127,8 @@ fn take_section<'e>(
 {
     let name = name_or_empty(section);
     let kind = EbpfSectionKind::from_elf(name, section);
-    let funcs = records.funcs(name);
-    let lines = records.lines(name);
+    let funcs = records.funcs(name).records;
+    let lines = records.lines(name).records;
     let named = section_named_bytes(bytes, section);
     if !room.take(contents_bytes(kind, named, section, funcs, lines)) {
         return None;

@@ -46,7 +46,7 @@ pub struct SectionInputs<'s> {
     pub metadata: &'s FileMetadata,
     pub records: RecordsByName<'s>,
     pub declared: Option<BtfDefinedMaps<'s>>,
-    ghost infos: { records ≡ metadata.now.btf_ext },
+    ghost infos: { records.found ≡ metadata.now.btf_ext },
     ghost declared_are: { declared ≡ types_in_reading metadata.now.reading metadata.now.btf },
 }
 
@@ -140,7 +140,7 @@ impl ObjectTables {
         if let Some(records) = inputs.records.of(section.name) {
             return put_functions(alloc, &mut self.functions, records, section, symbols);
         }
-        let read = inputs.records.read(alloc, section.name)?;
+        let read = inputs.records.found.section_records(alloc, section.name)?;
         put_functions(alloc, &mut self.functions, &read, section, symbols)
     }
 
@@ -187,7 +187,7 @@ impl ObjectTables {
         if let Some(records) = inputs.records.of(section.name) {
             return put_text_functions(alloc, &mut self.functions, records, section, symbols);
         }
-        let read = inputs.records.read(alloc, section.name)?;
+        let read = inputs.records.found.section_records(alloc, section.name)?;
         put_text_functions(alloc, &mut self.functions, &read, section, symbols)
     }
 

@@ -69,10 +69,8 @@ fn function_of(
         section_index: section.index,
         section_offset: symbol.address as usize,
         instructions: Items::from_vec(instructions),
-        func_info: records.funcs.at(alloc, first, first)?,
-        line_info: records
-            .lines
-            .within(alloc, first, symbol.size as usize / SLOT, first)?,
+        func_info: records.funcs_at(alloc, first, first)?,
+        line_info: records.lines_in(alloc, first, symbol.size as usize / SLOT, first)?,
         func_info_rec_size: records.func_size,
         line_info_rec_size: records.line_size,
     })

@@ -241,10 +241,8 @@ fn function_of(
         section_index: section.index,
         section_offset: offset,
         instructions: Items::from_vec(instructions),
-        func_info: records.funcs.at(alloc, offset / SLOT, 0)?,
-        line_info: records
-            .lines
-            .within(alloc, offset / SLOT, symbol.size as usize / SLOT, 0)?,
+        func_info: records.funcs_at(alloc, offset / SLOT, 0)?,
+        line_info: records.lines_in(alloc, offset / SLOT, symbol.size as usize / SLOT, 0)?,
         func_info_rec_size: records.func_size,
         line_info_rec_size: records.line_size,
     };
