@@ -15,7 +15,7 @@ use ebpf_sections::sections::name_or_empty;
 use std::alloc::{AllocError, Global};
 use std::marker::Model;
 
-/// How many rows name one of so many slots from a slot on.
+/// The number of rows that name one of `count` slots from a slot on.
 pub fn count_among<R: NamesSlot>(rows: &[R], first: u64, count: u64) -> usize
     requires { rises_from R.slot_of 0 rows.now ≡ true }
     ensures { result ≡ length (filter (is_among_slots R.slot_of first count) rows.now) }
@@ -48,7 +48,7 @@ pub fn code_names<'a>(
 /// The length of a slot in bytes.
 const SLOT: u64 = 8;
 
-/// What a section has for its symbols: its place, and the records of its name, lent.
+/// The facts of a section that its symbols' bytes depend on: its kind, its range, and its info entries, lent.
 #[derive(Drop)]
 pub struct Facts<'e> {
     pub kind: EbpfSectionKind,
@@ -70,7 +70,7 @@ impl<'e> Model for Facts<'e> {
     ghost view = { λ f. record { kind = f.kind; address = f.address; size = f.size; funcs = f.funcs.now; lines = f.lines.now } };
 }
 
-/// Where a symbol of an address stands in a section of a kind, in bytes.
+/// The offset in bytes of an address in a section of a kind.
 fn offset_by(kind: EbpfSectionKind, start: u64, address: u64) -> u64
     ensures { result ≡ offset_by kind start address }
 {
@@ -81,7 +81,7 @@ fn offset_by(kind: EbpfSectionKind, start: u64, address: u64) -> u64
 }
 
 impl<'e> Facts<'e> {
-    /// Those of a section of a kind with some records.
+    /// The facts of a section of a kind with some info entries.
     pub fn new(
         kind: EbpfSectionKind,
         section: &ElfSection<'_>,
@@ -105,7 +105,7 @@ impl<'e> Facts<'e> {
         }
     }
 
-    /// How many func records a function has that begins at a slot of the section.
+    /// The number of func info entries of a function that begins at a slot of the section.
     #[tactic(auto, using(crate::proofs::Counts::of_one_slot))]
     fn func_count(&self, first: u64) -> usize
         ensures { result ≡ func_count self.now first }
@@ -116,7 +116,7 @@ impl<'e> Facts<'e> {
         self.funcs.len()
     }
 
-    /// How many line records a function of so many slots has.
+    /// The number of line info entries of a function of `count` slots.
     fn line_count(&self, first: u64, count: u64) -> usize
         ensures { result ≡ line_count self.now first count }
     {
@@ -126,7 +126,7 @@ impl<'e> Facts<'e> {
         self.lines.len()
     }
 
-    /// The slot of the section that a symbol stands at.
+    /// The slot of the section at a symbol's address.
     fn first_slot(&self, symbol: &ElfSymbol<'_>) -> u64
         ensures { result ≡ first_slot self.now (entry symbol.now) }
     {
@@ -147,7 +147,7 @@ impl<'e> Facts<'e> {
         named + code + record_bytes(funcs, lines)
     }
 
-    /// What a symbol gives that stands in the section, beside its own entry.
+    /// The bytes of a symbol in the section, beside its own entry.
     pub fn placed_bytes(&self, license: usize, named: u128, symbol: &ElfSymbol<'_>) -> u128
         requires { named < 2 ^ 65 }
         ensures exact { result ≡ placed_by self.now.kind (is_text_symbol (symbol_kind (entry symbol.now))) license named self.now (entry symbol.now) }
@@ -175,7 +175,7 @@ fn record_bytes(funcs: u128, lines: u128) -> u128
     8 * funcs + 16 * lines
 }
 
-/// The bytes of what a section gives itself, before its records are looked at.
+/// The bytes of a section itself, before its info entries are looked at.
 pub fn contents_bytes(
     kind: EbpfSectionKind,
     named: u128,

@@ -1,4 +1,4 @@
-//! What an ELF file with eBPF programs holds, read from its bytes.
+//! The contents of an ELF file with eBPF programs, read from its bytes.
 #![tactic(auto)]
 
 mod file_contents;

@@ -1,4 +1,4 @@
-//! What the sections of a file give to an object.
+//! The tables of an object that the sections of its file fill.
 
 ghost use Rattle.std.specs.FinMap as finite;
 ghost use Rattle.std.specs.List.{flat_map};
@@ -131,7 +131,7 @@ fn put_code(
 }
 
 impl ObjectTables {
-    /// None but the names that were met before.
+    /// Empty tables, but for the names of the type information sections.
     fn new(alloc: Global, section_infos: ByName<SectionIndex>) -> ObjectTables
         ensures { result ≡ object_tables_from section_infos }
     {
@@ -270,8 +270,7 @@ fn section_inputs<'s>(
     })
 }
 
-/// What the sections of a file give, each with its relocations and its symbols, by the last section of data of each
-/// name.
+/// The tables that the sections of a file fill, by the last data section of each name.
 fn read_by_last(
     inputs: &mut SectionInputs<'_>,
     section_infos: ByName<SectionIndex>,
@@ -297,7 +296,7 @@ fn read_by_last(
     Ok(object_tables)
 }
 
-/// What the sections of a file give, each with its relocations and its symbols.
+/// The tables that the sections of a file fill, each with its relocations and its symbols.
 pub fn read_sections(
     alloc: Global,
     metadata: &FileMetadata,

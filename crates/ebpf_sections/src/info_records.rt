@@ -1,8 +1,8 @@
 //! The func info or line info records of a section, by the slots that they name.
 //!
-//! Records in the order of their slots are taken as they stand: functions are asked for in that order, so the part of the
-//! next one mostly begins where the last one ended; that index is tried first, and only else the rows are searched. Of
-//! records in another order the indices stand in one list, sorted once by their slots.
+//! Records in the order of their slots are used as they are. Functions are asked for in that order, so the records of the
+//! next function mostly begin where those of the last one ended: that index is tried first, before a binary search. For
+//! records in another order the indices are sorted once by their slots.
 
 ghost use Rattle.std.proofs.Common.{ap};
 ghost use Rattle.std.proofs.Math.Nat.{sub-zero};
@@ -24,10 +24,10 @@ use std::marker::Model;
 
 /// A row that names a slot.
 pub trait NamesSlot {
-    /// The slot that it names.
+    /// The slot that a row names.
     ghost slot_of: { Self → ℕ };
 
-    /// The slot that it names.
+    /// The slot that a row names.
     fn slot(&self) -> u32
         ensures { result ≡ slot_of self.now };
 }
@@ -46,7 +46,7 @@ pub fn is_in_order<R: NamesSlot>(rows: &[R]) -> bool
     true
 }
 
-/// How many rows stand before those of a slot, found by a search.
+/// The number of rows before those of a slot, by a binary search.
 pub fn lower_bound<R: NamesSlot>(rows: &[R], slot: u128) -> usize
     requires { IsNonDecreasingBy R.slot_of rows.now }
     ensures within { result ≤ length rows.now }
@@ -94,7 +94,7 @@ fn begins_at<R: NamesSlot>(rows: &[R], index: usize, slot: usize) -> bool
     true
 }
 
-/// How many rows stand before those of a slot, where an index is tried first.
+/// The number of rows before those of a slot, where `guess` is tried first.
 fn start_of<R: NamesSlot>(rows: &[R], guess: usize, slot: usize) -> usize
     requires { IsNonDecreasingBy R.slot_of rows.now }
     ensures within { result ≤ length rows.now }
@@ -106,7 +106,7 @@ fn start_of<R: NamesSlot>(rows: &[R], guess: usize, slot: usize) -> usize
     lower_bound(rows, slot as u128)
 }
 
-/// How many rows stand before those of a slot, from the index on where those of a slot before it begin.
+/// The number of rows before those of the slot `limit`, by a walk from `start`, where the rows of a lower slot begin.
 fn end_of<R: NamesSlot>(rows: &[R], start: usize, limit: u128) -> usize
     requires rising { IsNonDecreasingBy R.slot_of rows.now }
     requires within { start ≤ length rows.now }
@@ -122,7 +122,7 @@ fn end_of<R: NamesSlot>(rows: &[R], start: usize, limit: u128) -> usize
     end
 }
 
-/// The rows of so many slots from a slot on. `next` is where they may begin, and becomes the index behind them.
+/// The rows of `count` slots from a slot on. `next` is the index where the rows may begin, and becomes the index behind them.
 pub fn rows_among<'r, R: NamesSlot>(
     rows: &'r [R],
     next: &Cell<usize>,
@@ -138,7 +138,7 @@ pub fn rows_among<'r, R: NamesSlot>(
     &rows[start..end]
 }
 
-/// Where a record stands in its list, and the slot that it names.
+/// The index of a record in its list, and the slot that the record names.
 #[derive(Clone, Copy)]
 pub struct RecordIndex {
     pub slot: u32,
@@ -181,7 +181,7 @@ impl RecordsBySlot {
         Ok(RecordsBySlot { indices, next })
     }
 
-    /// The indices of the records at so many slots from a slot on, in the order of the list.
+    /// The indices of the records at `count` slots from a slot on, in the order of the list.
     pub fn within(
         &self,
         alloc: Global,
@@ -230,17 +230,17 @@ pub fn slot_indices<R: InfoRecord>(
 
 /// A func info or line info record.
 pub trait InfoRecord: NamesSlot + Copy {
-    /// What stands for a record past the end of a list.
+    /// The record past the end of a list.
     ghost zero: { Self };
 
-    /// The record, its slot counted from another one.
+    /// The record, its slot counted from a base.
     ghost rebase: { ℕ → Self → Self };
 
-    /// The record, its slot counted from another one.
+    /// The record, its slot counted from `base`.
     fn rebase(&self, base: usize) -> Self
         ensures { result ≡ rebase base self.now };
 
-    /// Counted from slot 0 it stays.
+    /// A record counted from slot 0 is unchanged.
     ghost from_zero: { (row : Self) → rebase 0 row ≡ row };
 }
 
@@ -296,7 +296,7 @@ impl InfoRecord for bpf_line_info {
     }
 }
 
-/// The records of a section, lent. Indices are gathered only where the records are not in the order of their slots.
+/// The records of a section, lent. Indices are gathered only if the records are not in the order of their slots.
 #[derive(Drop)]
 pub struct InfoRecords<'e, R: InfoRecord> {
     records: &'e [R],
@@ -336,7 +336,7 @@ impl<'e, R: InfoRecord> InfoRecords<'e, R> {
         })
     }
 
-    /// The records of so many slots from a slot on, their slots counted from another one.
+    /// The records of `count` slots from a slot on, their slots counted from `base`.
     pub fn records_among(
         &self,
         alloc: Global,
@@ -357,7 +357,7 @@ impl<'e, R: InfoRecord> InfoRecords<'e, R> {
     }
 }
 
-/// A copy of records, their slots counted from another one.
+/// A copy of records, their slots counted from `base`.
 #[tactic(auto, using(crate::proofs::Records::records_kept))]
 fn rebase_all<R: InfoRecord>(alloc: Global, rows: &[R], base: usize) -> Result<Items<R>, ParseError>
     ensures records { IfOk result (λ kept. kept ≡ map (R.rebase base) rows.now) }
@@ -373,7 +373,7 @@ fn rebase_all<R: InfoRecord>(alloc: Global, rows: &[R], base: usize) -> Result<I
     Ok(Items::from_vec(kept))
 }
 
-/// The records at some indices, their slots counted from another one.
+/// The records at some indices, their slots counted from `base`.
 fn rebase_at<R: InfoRecord>(
     alloc: Global,
     rows: &[R],
