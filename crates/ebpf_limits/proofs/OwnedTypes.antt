@@ -1,10 +1,10 @@
 -- The license, the types and the records of `.BTF.ext` of a file without a fault.
 use Rattle.std.proofs.Common.{◌≡◌, ℕ, ◌+◌, ◌-◌, ◌≤◌, Bool, true, false, List, [], ◌∷◌, ◌++◌, length, Option, Some, None, Result, Ok, Err, option_map, refl, ap, ◌∙◌, arith, sym, zero, suc, ◌*◌, not, ◌&&◌, map, subst, eqb-true}
-use Rattle.std.specs.Prelude.{codes, nat_lt, unwrap_or, ◌==◌, if◌then◌else◌}
+use Rattle.std.specs.Prelude.{codes, nat_lt, ◌==◌, if◌then◌else◌}
 use Rattle.std.specs.Result.{result_ok}
 use Rattle.std.proofs.lemmas.List.{length-append, length-take}
 use Rattle.std.proofs.lemmas.List.Sums.{sum_by_push}
-use Rattle.std.specs.FinMap.{FinMap, get-empty, entries, empty}
+use Rattle.std.specs.FinMap.{FinMap, entries, empty}
 use Rattle.std.specs.List.{range_with_len}
 use Rattle.std.proofs.Math.Nat.{mul-le-mul_right}
 use Rattle.std.proofs.lemmas.Bool.Decides.{nat_tests}
@@ -30,7 +30,7 @@ use Rattle.ebpf_declarations.specs.declared.externs.FunctionOrFault.TheVariants.
 use Rattle.ebpf_elf.specs.Headers.{ei_data}
 use Rattle.ebpf_elf.specs.Sections.{SectionOf, data_faults, data_of}
 use Rattle.ebpf_ext.specs.ExtFormat.{ext_header_fault, func_part, line_part, core_relo_part, part_fault, part_length, part_start, record_size, sections_start, sections_end, sec_name_off_at, num_info_at, section_end, info_sec_fault, func_infos, line_infos, func_record, line_record, core_relos_at, core_relo_at, all_ok}
-use Rattle.ebpf_ext.specs.ExtReading.{read_ext, func_info_at, line_info_at, no_func_info, no_line_info, ExtInfo, checked_section, named_func_info, named_line_info, section_core_relos, func_section, line_section, core_relo_section, sections_from, part_sections, func_sections, line_sections, core_relo_sections}
+use Rattle.ebpf_ext.specs.ExtReading.{read_ext, ExtInfo, checked_section, named_func_info, named_line_info, section_core_relos, func_section, line_section, core_relo_section, sections_from, part_sections, func_sections, line_sections, core_relo_sections}
 use Rattle.ebpf_parsing.specs.FileTypes.{types_of_file, btf_in, btf_of, btf_fault, types_fault_in, types_section, ext_in, ext_of, ext_beside, ext_fault, ext_fault_in, ext_fault_beside, ext_section, file_types_fault}
 use Rattle.ebpf_parsing.specs.LicenseAndVersion.{license_in, license_as, license_fault_in, license_fault_as, license_text}
 use Rattle.ebpf_parsing.specs.Sections.{first_section_named}
@@ -46,7 +46,7 @@ use Rattle.ebpf_btf.specs.declared.error.BtfError.TheVariants.{InvalidHeader, In
 use Rattle.ebpf_ext.specs.declared.ext_infos.FuncSecInfo.{FuncSecInfo}
 use Rattle.ebpf_ext.specs.declared.ext_infos.LineSecInfo.{LineSecInfo}
 use Rattle.ebpf_ext.specs.declared.relocation.Relocation.{Relocation}
-use Rattle.ebpf_limits.specs.OwnedBytes.{entry_bytes, license_bytes, types_in_bytes, types_bytes, readable_data, readable_types, readable_ext, ext_beside_types, data_in, funcs_row, lines_row, core_row, ext_bytes, part_bytes, ext_in_bytes, total, found_funcs, found_lines}
+use Rattle.ebpf_limits.specs.OwnedBytes.{entry_bytes, license_bytes, types_in_bytes, types_bytes, readable_data, readable_types, readable_ext, ext_beside_types, data_in, funcs_row, lines_row, core_row, ext_bytes, part_bytes, ext_in_bytes, total}
 use Rattle.ebpf_limits.proofs.OwnedFunctions.{range_short}
 use Rattle.ebpf_limits.proofs.Counts.{Counted, covered, all_of}
 use Rattle.ebpf_limits.specs.OwnedBytes as made
@@ -186,14 +186,6 @@ unfolding ext_of readable_ext file_types_fault ext_fault
 ext_same file clear =
     let both = both_None (btf_fault file) _ clear in
     ap (ext_beside_types file) (types_same file both.0) ∙ beside_same file (btf_of file) both.1
-
--- ---- where nothing was found, a section of any name has no records.
-
-pub no_funcs : (found : Option (FinMap text_cmp FuncSecInfo)) (name : List ℕ) → found ≡ None → [] ≡ (func_info_at (found_funcs found) name).func_info
-no_funcs found name none = rw none (sym (ap (λ o. (unwrap_or o no_func_info).func_info) (get-empty {X = FuncSecInfo} text_cmp name)))
-
-pub no_lines : (found : Option (FinMap text_cmp LineSecInfo)) (name : List ℕ) → found ≡ None → [] ≡ (line_info_at (found_lines found) name).line_info
-no_lines found name none = rw none (sym (ap (λ o. (unwrap_or o no_line_info).line_info) (get-empty {X = LineSecInfo} text_cmp name)))
 
 -- ---- the records of `.BTF.ext`, by the lengths of its parts
 

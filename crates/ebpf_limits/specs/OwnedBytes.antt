@@ -1,7 +1,7 @@
 -- How many bytes an object owns, and how many what is made of a file owns at most.
 use Rattle.std.specs.Prelude.{ℕ, List, [], Option, Some, None, is_some, if◌then◌else◌, ◌+◌, ◌∷◌, ◌*◌, length, ◌-◌, ◌%◌, ◌^◌, Bool, true, false, map, filter, codes, nat_lt, min, slice_get, ◌≡◌, ◌≤◌, ◌<◌, unwrap_or}
 use Rattle.std.specs.Result.{result_ok}
-use Rattle.std.specs.FinMap.{entries, FinMap, empty}
+use Rattle.std.specs.FinMap.{entries, FinMap}
 use Rattle.std.specs.Ordering.{nat_cmp}
 use Rattle.ebpf_base.specs.Faults.{first_of}
 use Rattle.ebpf_btf.specs.Reading.{type_info_of}
@@ -38,7 +38,6 @@ use Rattle.ebpf_parts.specs.declared.maps.either.Map.{Map}
 use Rattle.ebpf_parts.specs.declared.reading.Reading.{Reading}
 use Rattle.ebpf_parts.specs.declared.section.EbpfSectionKind.{EbpfSectionKind}
 use Rattle.ebpf_parts.specs.declared.section.EbpfSectionKind.TheVariants.{Maps, BtfMaps, Data, Rodata, Bss, Text, Program as Programs}
-use Rattle.ebpf_base.specs.Maps.{text_cmp}
 
 -- ---- what can be read of a file's sections before any other fault of the file is known. Data outside the file, and type
 -- information with a fault, is none here: a file with such a section is refused.
@@ -304,13 +303,6 @@ abbrev pub ObjectsOwnWhatIsMade : Type 0
 ObjectsOwnWhatIsMade = (reading : Reading) (file : List ℕ) → length file < 2 ^ 64 → parse_fault_as reading file ≡ None → owned_bytes (object_as reading file) ≤ made_bytes file
 
 -- ---- what contracts of private functions name and no public one.
-
--- records that may have been found
-abbrev pub found_funcs : Option (FinMap text_cmp FuncSecInfo) → FinMap text_cmp FuncSecInfo
-found_funcs found = unwrap_or found empty
-
-abbrev pub found_lines : Option (FinMap text_cmp LineSecInfo) → FinMap text_cmp LineSecInfo
-found_lines found = unwrap_or found empty
 
 -- what taking bytes from a limit leaves of it, with what is made where they fit
 abbrev pub Took : {X : Type 0} → Option X → ℕ → ℕ → ℕ → Type 0

@@ -1,23 +1,22 @@
-//! What a section has for its symbols, and the records of a file's sections of code, found by the sections' names.
+//! The counts of a section's symbols: of its kind, its address, its size, and its func info and line info.
 
-ghost use Rattle.std.specs.Prelude.{◌≡◌, true, filter, length, IfOk, ◌<◌, ◌^◌};
-ghost use Rattle.ebpf_ext.specs.ExtReading.{func_info_at, line_info_at};
-ghost use Rattle.ebpf_limits.specs.OwnedBytes.{found_funcs, found_lines, contents_by, func_count, line_count, first_slot, offset_by, function_bytes, placed_by, record_bytes};
-ghost use Rattle.ebpf_parsing.specs.Records.{is_among_slots, rises_from, func_info_of, line_info_of, slot_of_func, slot_of_line};
+ghost use Rattle.std.specs.Prelude.{◌≡◌, true, filter, length, ◌<◌, ◌^◌};
+ghost use Rattle.ebpf_limits.specs.OwnedBytes.{contents_by, func_count, line_count, first_slot, offset_by, function_bytes, placed_by, record_bytes};
+ghost use Rattle.ebpf_sections.specs.Records.{is_among_slots, rises_from, slot_of_func, slot_of_line};
 ghost use Rattle.ebpf_elf.specs.Sections.{header};
 ghost use Rattle.ebpf_elf.specs.Symbols.{entry, symbol_kind};
-ghost use Rattle.ebpf_parsing.specs.Symbols.{is_text_symbol};
+ghost use Rattle.ebpf_sections.specs.Symbols.{is_text_symbol};
 
-use crate::symbols::name_or_empty;
 use ebpf_elf::{ElfFile, ElfSection, ElfSymbol, SymbolKind};
-use ebpf_ext::{BtfExt, FoundSections, FuncSecInfo, LineSecInfo, bpf_func_info, bpf_line_info};
-use ebpf_parsing::{NamesSlot, is_in_order, lower_bound};
+use ebpf_ext::{BtfExt, bpf_func_info, bpf_line_info};
 use ebpf_parts::EbpfSectionKind;
 use ebpf_parts::insn::bpf_insn;
+use ebpf_sections::info_records::{NamesSlot, is_in_order, lower_bound};
+use ebpf_sections::sections::name_or_empty;
 use std::alloc::{AllocError, Global};
 use std::marker::Model;
 
-/// How many rows name one of so many slots from a slot on.
+/// The number of rows that name one of `count` slots from a slot on.
 pub fn count_among<R: NamesSlot>(rows: &[R], first: u64, count: u64) -> usize
     requires { rises_from R.slot_of 0 rows.now ≡ true }
     ensures { result ≡ length (filter (is_among_slots R.slot_of first count) rows.now) }
@@ -27,9 +26,16 @@ pub fn count_among<R: NamesSlot>(rows: &[R], first: u64, count: u64) -> usize
     end - start
 }
 
-/// The names of a file's sections of code.
-fn code_names<'a>(alloc: Global, file: &ElfFile<'a>) -> Result<Vec<&'a str>, AllocError> {
+/// The names of a file's sections of code; none where the file has no `.BTF.ext`.
+pub fn code_names<'a>(
+    alloc: Global,
+    file: &ElfFile<'a>,
+    ext: &Option<BtfExt>,
+) -> Result<Vec<&'a str>, AllocError> {
     let mut names = Vec::new(alloc);
+    if ext.is_none() {
+        return Ok(names);
+    }
     for section in file.sections() {
         let name = name_or_empty(&section);
         match EbpfSectionKind::from_elf(name, &section) {
@@ -40,98 +46,6 @@ fn code_names<'a>(alloc: Global, file: &ElfFile<'a>) -> Result<Vec<&'a str>, All
     Ok(names)
 }
 
-/// The func records of the section with a name.
-#[tactic(auto, using(crate::proofs::OwnedTypes::no_funcs))]
-fn funcs_in<'e>(found: &Option<FoundSections<'e, FuncSecInfo>>, name: &str) -> &'e [bpf_func_info]
-    ensures { result.now ≡ (func_info_at (found_funcs found.now) name.now).func_info }
-{
-    match found {
-        Some(found) => match found.get(name) {
-            Some(info) => info.func_info.as_slice(),
-            None => &[],
-        },
-        None => &[],
-    }
-}
-
-/// The line records of the section with a name.
-#[tactic(auto, using(crate::proofs::OwnedTypes::no_lines))]
-fn lines_in<'e>(found: &Option<FoundSections<'e, LineSecInfo>>, name: &str) -> &'e [bpf_line_info]
-    ensures { result.now ≡ (line_info_at (found_lines found.now) name.now).line_info }
-{
-    match found {
-        Some(found) => match found.get(name) {
-            Some(info) => info.line_info.as_slice(),
-            None => &[],
-        },
-        None => &[],
-    }
-}
-
-/// The func info and line info of a file, of which the sections of code are found. Contracts see what `.BTF.ext` says.
-#[derive(Drop)]
-pub struct FoundRecords<'e> {
-    ext: &'e Option<BtfExt>,
-    funcs: Option<FoundSections<'e, FuncSecInfo>>,
-    lines: Option<FoundSections<'e, LineSecInfo>>,
-    ghost funcs_are: { found_funcs funcs ≡ func_info_of ext.now },
-    ghost lines_are: { found_lines lines ≡ line_info_of ext.now },
-}
-
-impl<'e> Model for FoundRecords<'e> {
-    ghost use Rattle.ebpf_base.specs.Maps.{coded_text, text_cmp};
-    ghost use Rattle.ebpf_ext.specs.ExtReading.{ExtInfo};
-    ghost use Rattle.ebpf_ext.specs.contracts.ext_infos.FuncSecInfo as func_rows;
-    ghost use Rattle.ebpf_ext.specs.contracts.ext_infos.LineSecInfo as line_rows;
-    ghost use Rattle.std.specs.Coded.{codes};
-    ghost use Rattle.std.specs.FinMap as map;
-    ghost use Rattle.std.specs.Prelude.{Option};
-
-    ghost Value = { Option ExtInfo };
-
-    ghost coded = { Prim.hlevel (codes, map.code {R = text_cmp} coded_text func_rows.the_row.coded, map.code {R = text_cmp} coded_text line_rows.the_row.coded) };
-
-    ghost view = { λ r. r.ext.now };
-}
-
-impl<'e> FoundRecords<'e> {
-    /// Those of a file beside what its section `.BTF.ext` says.
-    pub fn of(
-        alloc: Global,
-        file: &ElfFile<'_>,
-        ext: &'e Option<BtfExt>,
-    ) -> Result<FoundRecords<'e>, AllocError>
-        ensures { IfOk result (λ r. r ≡ ext.now) }
-    {
-        let Some(infos) = ext else {
-            return Ok(FoundRecords {
-                ext,
-                funcs: None,
-                lines: None,
-            });
-        };
-        let names = code_names(alloc, file)?;
-        let funcs = Some(infos.func_info.with_found(alloc, &names)?);
-        let lines = Some(infos.line_info.with_found(alloc, &names)?);
-        Ok(FoundRecords { ext, funcs, lines })
-    }
-
-    /// The func records of the section with a name.
-    pub fn funcs(&self, name: &str) -> &'e [bpf_func_info]
-        ensures { result.now ≡ (func_info_at (func_info_of self.now) name.now).func_info }
-    {
-        funcs_in(&self.funcs, name)
-    }
-
-    /// The line records of the section with a name.
-    pub fn lines(&self, name: &str) -> &'e [bpf_line_info]
-        ensures { result.now ≡ (line_info_at (line_info_of self.now) name.now).line_info }
-    {
-        lines_in(&self.lines, name)
-    }
-}
-
-/// What a section has for its symbols: its place, and the records of its name, lent.
 #[derive(Drop)]
 pub struct Facts<'e> {
     pub kind: EbpfSectionKind,
@@ -153,7 +67,7 @@ impl<'e> Model for Facts<'e> {
     ghost view = { λ f. record { kind = f.kind; address = f.address; size = f.size; funcs = f.funcs.now; lines = f.lines.now } };
 }
 
-/// Where a symbol of an address stands in a section of a kind, in bytes.
+/// The offset in bytes of an address in a section of a kind.
 fn offset_by(kind: EbpfSectionKind, start: u64, address: u64) -> u64
     ensures { result ≡ offset_by kind start address }
 {
@@ -164,7 +78,7 @@ fn offset_by(kind: EbpfSectionKind, start: u64, address: u64) -> u64
 }
 
 impl<'e> Facts<'e> {
-    /// Those of a section of a kind with some records.
+    /// The facts of a section of a kind with some info entries.
     pub fn new(
         kind: EbpfSectionKind,
         section: &ElfSection<'_>,
@@ -188,7 +102,7 @@ impl<'e> Facts<'e> {
         }
     }
 
-    /// How many func records a function has that begins at a slot of the section.
+    /// The number of func info entries of a function that begins at a slot of the section.
     #[tactic(auto, using(crate::proofs::Counts::of_one_slot))]
     fn func_count(&self, first: u64) -> usize
         ensures { result ≡ func_count self.now first }
@@ -199,7 +113,7 @@ impl<'e> Facts<'e> {
         self.funcs.len()
     }
 
-    /// How many line records a function of so many slots has.
+    /// The number of line info entries of a function of `count` slots.
     fn line_count(&self, first: u64, count: u64) -> usize
         ensures { result ≡ line_count self.now first count }
     {
@@ -209,7 +123,7 @@ impl<'e> Facts<'e> {
         self.lines.len()
     }
 
-    /// The slot of the section that a symbol stands at.
+    /// The slot of the section at a symbol's address.
     fn first_slot(&self, symbol: &ElfSymbol<'_>) -> u64
         ensures { result ≡ first_slot self.now (entry symbol.now) }
     {
@@ -230,7 +144,7 @@ impl<'e> Facts<'e> {
         named + code + record_bytes(funcs, lines)
     }
 
-    /// What a symbol gives that stands in the section, beside its own entry.
+    /// The bytes of a symbol in the section, beside its own entry.
     pub fn placed_bytes(&self, license: usize, named: u128, symbol: &ElfSymbol<'_>) -> u128
         requires { named < 2 ^ 65 }
         ensures exact { result ≡ placed_by self.now.kind (is_text_symbol (symbol_kind (entry symbol.now))) license named self.now (entry symbol.now) }
@@ -258,7 +172,7 @@ fn record_bytes(funcs: u128, lines: u128) -> u128
     8 * funcs + 16 * lines
 }
 
-/// The bytes of what a section gives itself, before its records are looked at.
+/// The bytes of a section itself, before its info entries are looked at.
 pub fn contents_bytes(
     kind: EbpfSectionKind,
     named: u128,

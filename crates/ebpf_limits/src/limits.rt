@@ -11,13 +11,41 @@ ghost use Rattle.ebpf_object.specs.Objects.{object_as};
 ghost use Rattle.ebpf_parts.specs.Memory.{is_parse_memory};
 ghost use Rattle.ebpf_parts.specs.declared.error.ParseError.TheVariants.{ElfError};
 
-use crate::facts::{Facts, FoundRecords};
+use crate::facts::{Facts, code_names};
 use crate::readable::{license_bytes, readable_ext, readable_types, type_information_bytes};
 use crate::symbols::{ENTRY, facts_at, take_names, take_sections, take_symbols};
 use ebpf_elf::{ElfFile, ElfRelocationSection};
 use ebpf_object::Object;
 use ebpf_parts::{EbpfSectionKind, ParseError, Reading};
+use ebpf_sections::section_records::FoundRecords;
 use std::alloc::{AllocError, Global};
+
+/// The number of bytes that may still be made. It counts down, since a sum over a file may pass 64 bits.
+#[derive(Drop)]
+pub struct Room {
+    pub left: u64,
+}
+
+impl Room {
+    /// Takes `bytes` bytes, and returns whether as many were left. If not, nothing is taken.
+    pub fn take(&mut self, bytes: u128) -> bool
+        ensures taken { OnTrue result (self.new.left + bytes ≡ self.old.left) }
+        ensures over { OnFalse result (self.old.left < bytes) }
+    {
+        if u128::from(self.left) < bytes {
+            return false;
+        }
+        self.left -= bytes as u64;
+        true
+    }
+}
+
+/// A limit on what is made of a file.
+#[derive(Clone, Copy, Debug, PartialEq, Eq)]
+pub struct Limits {
+    /// How many bytes the object may own at most.
+    pub most_bytes: u64,
+}
 
 /// Takes the names of sections and the license. The names come first: sections are looked for by their names then.
 fn take_first(room: &mut Room, bytes: &[u8], file: &ElfFile<'_>) -> bool
@@ -28,7 +56,7 @@ fn take_first(room: &mut Room, bytes: &[u8], file: &ElfFile<'_>) -> bool
     take_names(room, bytes, file) && room.take(license_bytes(file) as u128)
 }
 
-/// Takes what the symbols and the relocations give.
+/// Takes the bytes of the symbols and the relocations.
 fn take_last(room: &mut Room, bytes: &[u8], file: &ElfFile<'_>, all: &[Facts<'_>]) -> bool
     requires same { file.now ≡ bytes.now }
     requires facts { all.now ≡ all_facts file.now }
@@ -38,7 +66,7 @@ fn take_last(room: &mut Room, bytes: &[u8], file: &ElfFile<'_>, all: &[Facts<'_>
     take_symbols(room, bytes, file, license_bytes(file), all) && take_relocations(room, file, all)
 }
 
-/// Takes what the type information, the sections, the symbols and the relocations give.
+/// Takes the bytes of the type information, the sections, the symbols and the relocations.
 fn take_later(
     alloc: Global,
     room: &mut Room,
@@ -54,14 +82,15 @@ fn take_later(
     if !room.take(type_information_bytes(file, &types, &ext)) {
         return Ok(false);
     }
-    let records = FoundRecords::of(alloc, file, &ext)?;
+    let names = code_names(alloc, file, &ext)?;
+    let records = FoundRecords::find(alloc, &ext, &names)?;
     let Some(all) = take_sections(alloc, room, bytes, file, &records)? else {
         return Ok(false);
     };
     Ok(take_last(room, bytes, file, &all))
 }
 
-/// Whether what is made of a file owns at most so many bytes.
+/// Whether the bytes that are made of a file are at most `most_bytes`.
 pub fn fits(
     alloc: Global,
     bytes: &[u8],
@@ -112,34 +141,7 @@ pub fn take_relocations(room: &mut Room, file: &ElfFile<'_>, all: &[Facts<'_>]) 
     true
 }
 
-/// How many bytes may still be made. It counts down, since a sum over a file may pass 64 bits.
-#[derive(Drop)]
-pub struct Room {
-    pub left: u64,
-}
-
-impl Room {
-    /// Takes so many bytes. `false` where there are not as many; then nothing is taken.
-    pub fn take(&mut self, bytes: u128) -> bool
-        ensures taken { OnTrue result (self.new.left + bytes ≡ self.old.left) }
-        ensures over { OnFalse result (self.old.left < bytes) }
-    {
-        if u128::from(self.left) < bytes {
-            return false;
-        }
-        self.left -= bytes as u64;
-        true
-    }
-}
-
-/// A limit on what is made of a file.
-#[derive(Clone, Copy, Debug, PartialEq, Eq)]
-pub struct Limits {
-    /// How many bytes the object may own at most.
-    pub most_bytes: u64,
-}
-
-/// The file that bytes are.
+/// The ELF file in bytes.
 fn read_elf(bytes: &[u8]) -> Result<ElfFile<'_>, ParseError>
     ensures file { IfOk result (λ file. file ≡ bytes.now) }
     ensures fault { fault_of result ≡ option_map ElfError (first_in (faults bytes.now)) }

@@ -1,4 +1,4 @@
-//! What can be read of a file's sections before any other fault of the file is known.
+//! The parts of a file's sections that can be read before any other fault of the file is known.
 
 ghost use Rattle.std.specs.Prelude.{◌≡◌, ◌<◌, ◌≤◌, ◌^◌, IfOk};
 ghost use Rattle.std.specs.Result.{result_ok};
@@ -13,7 +13,7 @@ use ebpf_elf::{ElfFile, ElfSection};
 use ebpf_ext::BtfExt;
 use std::alloc::{AllocError, Global};
 
-/// The data of a section, none where it is outside the file.
+/// The data of a section; empty if it is outside the file.
 #[tactic(auto, unfolding(crate::specs::OwnedBytes::readable_data))]
 fn readable_data<'a>(section: &ElfSection<'a>) -> &'a [u8]
     ensures { result.now ≡ readable_data section.now }
@@ -24,7 +24,7 @@ fn readable_data<'a>(section: &ElfSection<'a>) -> &'a [u8]
     }
 }
 
-/// The data of the first section of a name, none where there is no such section.
+/// The data of the first section of a name; empty if there is no such section.
 fn data_named<'a>(file: &ElfFile<'a>, name: &str) -> &'a [u8]
     ensures { result.now ≡ data_named name.now file.now }
 {
@@ -34,7 +34,7 @@ fn data_named<'a>(file: &ElfFile<'a>, name: &str) -> &'a [u8]
     }
 }
 
-/// The types that bytes are, where they are some.
+/// The types in bytes, if they can be read.
 fn types_in(alloc: Global, order: Endianness, bytes: &[u8]) -> Result<Option<Btf>, AllocError>
     ensures { IfOk result (λ types. types ≡ result_ok (type_info_of order bytes.now)) }
 {
@@ -45,7 +45,7 @@ fn types_in(alloc: Global, order: Endianness, bytes: &[u8]) -> Result<Option<Btf
     }
 }
 
-/// The records that bytes are, where they are some.
+/// The info entries and CO-RE relocations in bytes, if they can be read.
 fn ext_in(
     alloc: Global,
     order: Endianness,
@@ -61,7 +61,7 @@ fn ext_in(
     }
 }
 
-/// The types of a file, where they can be read.
+/// The types of a file, if they can be read.
 #[tactic(auto, unfolding(crate::specs::OwnedBytes::readable_types))]
 pub fn readable_types(alloc: Global, file: &ElfFile<'_>) -> Result<Option<Btf>, AllocError>
     ensures { IfOk result (λ types. types ≡ readable_types file.now) }
@@ -69,7 +69,7 @@ pub fn readable_types(alloc: Global, file: &ElfFile<'_>) -> Result<Option<Btf>, 
     types_in(alloc, file.endianness(), data_named(file, ".BTF"))
 }
 
-/// The records in the section `.BTF.ext` of a file, beside its types.
+/// The contents of the section `.BTF.ext` of a file with these types, if they can be read.
 #[tactic(auto, unfolding(crate::specs::OwnedBytes::readable_ext))]
 pub fn readable_ext(
     alloc: Global,
@@ -90,7 +90,7 @@ pub fn readable_ext(
     }
 }
 
-/// How many bytes the license of a file takes, once.
+/// The number of bytes of a file's license.
 #[tactic(auto, unfolding(crate::specs::OwnedBytes::license_bytes))]
 pub fn license_bytes(file: &ElfFile<'_>) -> usize
     ensures { result ≡ license_bytes file.now }
@@ -101,7 +101,7 @@ pub fn license_bytes(file: &ElfFile<'_>) -> usize
     }
 }
 
-/// How many bytes the types and strings in the bytes of `.BTF` take.
+/// The number of bytes of the types and strings in `.BTF`.
 fn types_bytes(order: Endianness, bytes: &[u8], types: &Option<Btf>) -> u128
     ensures exact { result ≡ types_in_bytes order bytes.now types.now }
     ensures few { result < 2 ^ 33 }
@@ -112,7 +112,7 @@ fn types_bytes(order: Endianness, bytes: &[u8], types: &Option<Btf>) -> u128
     u128::from(read_u32(order, bytes, 12)) + u128::from(read_u32(order, bytes, 20))
 }
 
-/// How many bytes a part of `.BTF.ext` takes, whose length its header has at an offset.
+/// The number of bytes of a part of `.BTF.ext`, whose offset and length are at `at` in the header.
 #[tactic(auto, unfolding(ebpf_ext::specs::ExtFormat::part_length, ebpf_btf::specs::Reading::header_length))]
 fn part_bytes(order: Endianness, bytes: &[u8], at: usize) -> u128
     requires { at ≤ 24 }
@@ -125,7 +125,7 @@ fn part_bytes(order: Endianness, bytes: &[u8], at: usize) -> u128
     u128::from(read_u32(order, bytes, at + 4))
 }
 
-/// How many bytes the parts of `.BTF.ext` take.
+/// The number of bytes of the parts of `.BTF.ext`.
 fn ext_bytes(order: Endianness, bytes: &[u8], ext: &Option<BtfExt>) -> u128
     ensures exact { result ≡ ext_in_bytes order bytes.now ext.now }
     ensures few { result < 2 ^ 34 }
@@ -136,7 +136,7 @@ fn ext_bytes(order: Endianness, bytes: &[u8], ext: &Option<BtfExt>) -> u128
     part_bytes(order, bytes, 8) + part_bytes(order, bytes, 16) + part_bytes(order, bytes, 24)
 }
 
-/// How many bytes the type information of a file takes.
+/// The number of bytes of a file's type information.
 #[tactic(auto, unfolding(crate::specs::OwnedBytes::type_information_bytes))]
 pub fn type_information_bytes(file: &ElfFile<'_>, types: &Option<Btf>, ext: &Option<BtfExt>) -> u128
     requires types { types.now ≡ readable_types file.now }

@@ -1,4 +1,4 @@
-//! How many bytes symbols, their names and sections come to.
+//! The numbers of bytes of symbols, their names and sections.
 
 ghost use Rattle.std.specs.Prelude.{◌≡◌, ◌+◌, ◌<◌, ◌^◌, ◌*◌, map, IfOk, IfSome};
 ghost use Rattle.std.specs.Bool.{OnTrue, OnFalse};
@@ -6,22 +6,23 @@ ghost use Rattle.std.specs.Option.{option_copied};
 ghost use Rattle.ebpf_elf.specs.Sections.{section_name, sections};
 ghost use Rattle.ebpf_elf.specs.Symbols.{entry, symbols, symbol_name};
 ghost use Rattle.ebpf_limits.specs.OwnedBytes.{total, facts_at, placed_in, symbol_bytes, named_bytes, section_entry_bytes, contents_bytes, facts_of, Took};
-ghost use Rattle.ebpf_parts.specs.Sections.{name_or_empty};
 
-use crate::facts::{Facts, FoundRecords, contents_bytes};
+use crate::facts::{Facts, contents_bytes};
 use crate::limits::Room;
 use ebpf_elf::{ElfFile, ElfSection, ElfSymbol};
 use ebpf_parts::EbpfSectionKind;
+use ebpf_sections::section_records::FoundRecords;
+use ebpf_sections::sections::name_or_empty;
 use std::alloc::{AllocError, Global};
 
-/// What the section with an index, from 1 on, has for its symbols.
+/// The facts of the section with an index, from 1 on.
 pub fn facts_at<'f, 'e>(all: &'f [Facts<'e>], index: Option<usize>) -> Option<&'f Facts<'e>>
     ensures { option_copied result ≡ facts_at all.now index }
 {
     all.get(index?.saturating_sub(1))
 }
 
-/// What a symbol gives that stands in a section, beside its own entry.
+/// The bytes of a symbol in a section, beside its own entry.
 fn placed_bytes(
     facts: Option<&Facts<'_>>,
     license: usize,
@@ -38,7 +39,7 @@ fn placed_bytes(
     }
 }
 
-/// The bytes of what a symbol gives.
+/// The bytes of a symbol.
 #[tactic(auto, unfolding(crate::specs::OwnedBytes::symbol_bytes))]
 fn symbol_bytes(bytes: &[u8], license: usize, all: &[Facts<'_>], symbol: &ElfSymbol<'_>) -> u128
     ensures { result ≡ symbol_bytes bytes.now license all.now symbol.now }
@@ -48,7 +49,7 @@ fn symbol_bytes(bytes: &[u8], license: usize, all: &[Facts<'_>], symbol: &ElfSym
     2 * named + placed_bytes(facts, license, named, symbol)
 }
 
-/// Takes what the symbols give. No name is read behind the one that passes the limit.
+/// Takes the bytes of the symbols. No name is read behind the one that passes the limit.
 pub fn take_symbols(
     room: &mut Room,
     bytes: &[u8],
@@ -67,18 +68,8 @@ pub fn take_symbols(
     true
 }
 
-/// What an entry of a table takes beside its name and its lists, in bytes.
+/// The bytes of an entry of a table, beside its name and its lists.
 pub const ENTRY: u128 = 64;
-
-/// The name of a section, empty where it can't be read.
-pub fn name_or_empty<'a>(section: &ElfSection<'a>) -> &'a str
-    ensures { result.now ≡ name_or_empty section.now }
-{
-    match section.name() {
-        Ok(name) => name,
-        Err(_) => "",
-    }
-}
 
 /// The bytes of an entry by a section's name.
 pub fn section_named_bytes(bytes: &[u8], section: &ElfSection<'_>) -> u128
@@ -123,7 +114,7 @@ pub fn take_names(room: &mut Room, bytes: &[u8], file: &ElfFile<'_>) -> bool
     true
 }
 
-/// Takes what a section gives itself, and what it has for its symbols. Its records are looked at once they are taken.
+/// Takes the bytes of a section itself, and gives its facts. Its info entries are looked at once they are taken.
 #[tactic(auto, unfolding(crate::specs::OwnedBytes::contents_bytes, crate::specs::OwnedBytes::facts_of))]
 fn take_section<'e>(
     room: &mut Room,
@@ -136,8 +127,8 @@ fn take_section<'e>(
 {
     let name = name_or_empty(section);
     let kind = EbpfSectionKind::from_elf(name, section);
-    let funcs = records.funcs(name);
-    let lines = records.lines(name);
+    let funcs = records.funcs(name).records;
+    let lines = records.lines(name).records;
     let named = section_named_bytes(bytes, section);
     if !room.take(contents_bytes(kind, named, section, funcs, lines)) {
         return None;
@@ -145,7 +136,7 @@ fn take_section<'e>(
     Some(Facts::new(kind, section, funcs, lines))
 }
 
-/// Takes what the sections give themselves, and what each has for its symbols. None where that passes the limit.
+/// Takes the bytes of the sections themselves, and gives the facts of each. `None` if they pass the limit.
 pub fn take_sections<'e>(
     alloc: Global,
     room: &mut Room,

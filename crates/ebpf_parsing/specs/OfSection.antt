@@ -68,6 +68,12 @@ unfoldable pub program_section_faults : Reading → SectionValue → List Symbol
 program_section_faults reading s symbols =
     or_else (section_fault_as reading s.name) (or_else (first_of ((length symbols == 0, NoSymbolsForSection s.name) ∷ [])) (programs_fault s symbols))
 
+-- the faults of the functions of a section of code
+abbrev pub functions_fault : EbpfSectionKind → SectionValue → List SymbolValue → Option ParseError
+functions_fault Programs s symbols = programs_fault s symbols
+functions_fault Text s symbols = text_fault s symbols
+functions_fault _ s symbols = None
+
 abbrev pub fault_by : EbpfSectionKind → Reading → Option TypeInfo → SectionValue → List SymbolValue → Option ParseError
 fault_by Programs reading types s symbols = program_section_faults reading s symbols
 fault_by Text reading types s symbols = text_fault s symbols

@@ -1,4 +1,4 @@
-//! What a file has.
+//! The contents of a file.
 
 ghost use Rattle.std.specs.Prelude.{◌≡◌, ℕ, IfOk, None, OnOk};
 ghost use Rattle.ebpf_base.specs.Faults.{Refuses, or_else};
@@ -42,8 +42,8 @@ pub struct FileContents {
     pub object_tables: ObjectTables,
 }
 
-/// What is read of a file before its sections: what programs carry of it, its externs, and the indices of its sections of
-/// type information by name.
+/// The part of a file that is read before its sections: its metadata, its externs, and the indices of its type information
+/// sections by name.
 #[derive(Drop)]
 struct FileHead {
     metadata: FileMetadata,
@@ -87,7 +87,7 @@ fn read_head(
     })
 }
 
-/// What the sections give, and then the symbols.
+/// The tables that the sections fill, and the symbols.
 fn read_sections_and_symbols(
     alloc: Global,
     file: &ElfFile<'_>,
@@ -117,7 +117,7 @@ fn read_sections_and_symbols(
     Ok((object_tables, symbol_table))
 }
 
-/// What a file holds, beside what was read of it before its sections.
+/// The contents of a file, with the part that was read before its sections.
 #[tactic(auto, unfolding(crate::specs::FileContents::maps_as, crate::specs::FileContents::programs_as, crate::specs::FileContents::functions, crate::specs::FileContents::relocation_tables, crate::specs::FileContents::section_infos))]
 fn read_tables(
     alloc: Global,
@@ -158,7 +158,7 @@ fn read_tables(
     })
 }
 
-/// What a file holds whose byte order its reading takes.
+/// The contents of a file whose byte order its reading accepts.
 fn read_parts(
     alloc: Global,
     file: &ElfFile<'_>,

@@ -26,7 +26,7 @@ use ebpf_sections::sections::{Groups, read_section_of};
 use ebpf_sections::symbols::weak_by_name;
 use std::alloc::Global;
 
-/// The types that some bytes are.
+/// The types in the bytes of `.BTF`.
 #[tactic(auto, using(crate::proofs::TypeErrors::refused))]
 fn btf_in(alloc: Global, order: Endianness, bytes: &[u8]) -> Result<Btf, ParseError>
     ensures types { IfOk result (λ types. result_ok (type_info_of order bytes.now) ≡ Some types) }
@@ -38,7 +38,7 @@ fn btf_in(alloc: Global, order: Endianness, bytes: &[u8]) -> Result<Btf, ParseEr
     }
 }
 
-/// What some bytes say of instructions.
+/// The info entries and CO-RE relocations in the bytes of `.BTF.ext`.
 #[tactic(auto, using(crate::proofs::TypeErrors::refused))]
 fn ext_in(alloc: Global, order: Endianness, bytes: &[u8], types: &Btf) -> Result<BtfExt, ParseError>
     ensures infos { IfOk result (λ infos. result_ok (read_ext order bytes.now types.now.strings) ≡ Some infos) }

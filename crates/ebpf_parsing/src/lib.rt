@@ -1,4 +1,4 @@
-//! What an ELF file with eBPF programs holds, read from its bytes.
+//! The contents of an ELF file with eBPF programs, read from its bytes.
 #![tactic(auto)]
 
 mod file_contents;
@@ -8,7 +8,6 @@ mod maps;
 mod object_tables;
 
 pub use ebpf_model::Program;
-pub use ebpf_sections::info_records::{NamesSlot, is_in_order, lower_bound};
 pub use ebpf_sections::metadata::FileMetadata;
 pub use file_contents::FileContents;
 pub use object_tables::ObjectTables;

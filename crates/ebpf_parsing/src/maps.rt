@@ -37,6 +37,7 @@ fn bytes_of(alloc: Global, section: &Section<'_>) -> Result<Items<u8>, ParseErro
     }
 }
 
+/// The flags of the map of a data section.
 fn flags_of(kind: EbpfSectionKind) -> u32
     ensures { result ≡ data_flags kind }
 {
@@ -75,7 +76,7 @@ fn data_map(alloc: Global, section: &Section<'_>) -> Result<Map, ParseError>
     }))
 }
 
-/// The fault of a data section, whose map is not made.
+/// Checks a data section whose map is not made.
 #[tactic(auto, unfolding(crate::specs::Maps::data_map_fault))]
 fn check_data_map(alloc: Global, section: &Section<'_>) -> Result<(), ParseError>
     ensures fault { Refuses is_parse_memory result (data_map_fault section.now) }
@@ -106,10 +107,10 @@ pub fn put_data_map(
     Ok(())
 }
 
-/// The length of the first five numbers of a struct, which each has.
+/// The minimum size of a map struct: its first five numbers.
 const LEAST_SIZE: u64 = 20;
 
-/// Where the number of the pinning stands.
+/// The offset of the pinning in a map struct.
 const PINNING: usize = 24;
 
 /// The byte at an offset, 0 where there is none.
@@ -144,7 +145,7 @@ fn legacy_pinning(number: u32) -> PinningType
     }
 }
 
-/// What a struct of these bytes says.
+/// The map definition in the bytes of a struct.
 #[tactic(auto, unfolding(crate::specs::Maps::definition_of))]
 fn definition_of(bytes: &[u8]) -> bpf_map_def
     ensures { result ≡ definition_of bytes.now }

@@ -1,4 +1,4 @@
-//! What the sections of a file give to an object.
+//! The tables of an object that the sections of its file fill.
 
 ghost use Rattle.std.specs.FinMap as finite;
 ghost use Rattle.std.specs.List.{flat_map};
@@ -10,16 +10,15 @@ ghost use Rattle.ebpf_elf.specs.Relocations.{relocation_sections, relocated_sect
 ghost use Rattle.ebpf_parts.specs.Memory.{is_parse_memory};
 ghost use Rattle.ebpf_parts.specs.ProgramTypes.{section_as};
 ghost use Rattle.ebpf_parts.specs.Sections.{section_of, section_fault};
+ghost use Rattle.ebpf_parts.specs.declared.section.EbpfSectionKind.TheVariants.{Program as Programs};
 ghost use Rattle.ebpf_parsing.specs.FileContents.{sections_fault};
 ghost use Rattle.ebpf_parsing.specs.Maps.{legacy_maps};
 ghost use Rattle.ebpf_parsing.specs.ObjectTables.{added_last, added, object_tables_of, object_tables_from};
-ghost use Rattle.ebpf_parsing.specs.OfSection.{fault_in, program_section_faults, relocations_in};
-ghost use Rattle.ebpf_sections.specs.Programs.{programs_of, with_key, program_functions, programs_fault};
-ghost use Rattle.ebpf_sections.specs.Records.{func_and_line_info_of};
+ghost use Rattle.ebpf_parsing.specs.OfSection.{fault_in, functions_by, functions_fault, functions_in, program_section_faults, relocations_in};
+ghost use Rattle.ebpf_sections.specs.Programs.{programs_of, with_key};
 ghost use Rattle.ebpf_sections.specs.Relocations.{AreOfOneFile, relocation_table_at};
 ghost use Rattle.ebpf_sections.specs.Sections.{group_at, AreTablesOf, last_data, object_sections, with_relocations};
 ghost use Rattle.ebpf_sections.specs.Symbols.{file_symbols, section_symbols};
-ghost use Rattle.ebpf_sections.specs.Texts.{text_functions, text_fault};
 
 use crate::file_types::remember;
 use crate::maps::{find_btf_defined_maps, put_btf_defined_maps, put_data_map, put_legacy_maps};
@@ -40,13 +39,14 @@ use ebpf_sections::text::put_text_functions;
 use std::alloc::Global;
 use std::marker::Model;
 
-/// What the sections of a file are read with: what they share, the func info and line info of each, and the BTF-defined maps.
+/// The inputs of each section's reading: the metadata that they share, their func info and line info, and the BTF-defined maps.
 #[derive(Drop)]
 pub struct SectionInputs<'s> {
+    pub alloc: Global,
     pub metadata: &'s FileMetadata,
     pub records: RecordsByName<'s>,
     pub declared: Option<BtfDefinedMaps<'s>>,
-    ghost infos: { records ≡ metadata.now.btf_ext },
+    ghost infos: { records.found ≡ metadata.now.btf_ext },
     ghost declared_are: { declared ≡ types_in_reading metadata.now.reading metadata.now.btf },
 }
 
@@ -62,7 +62,7 @@ impl<'s> Model for SectionInputs<'s> {
     ghost view = { λ c. c.metadata.now };
 }
 
-/// What the sections of a file give to an object.
+/// The tables of an object that the sections of its file fill.
 #[derive(Drop)]
 pub struct ObjectTables {
     pub maps: ByName<Map>,
@@ -112,8 +112,26 @@ fn put_relocations(
     }
 }
 
+/// Puts the functions of a section of code by section and address.
+fn put_code(
+    alloc: Global,
+    functions: &mut ByKey<Function>,
+    records: &SectionRecords<'_>,
+    section: &Section<'_>,
+    symbols: &[NamedSymbol<'_>],
+) -> Result<(), ParseError>
+    ensures put { OnOk result (functions.new ≡ put_all functions.old (map with_key (functions_by section.now.kind records.now section.now symbols.now))) }
+    ensures fault { Refuses is_parse_memory result (functions_fault section.now.kind section.now symbols.now) }
+{
+    match section.kind {
+        EbpfSectionKind::Program => put_functions(alloc, functions, records, section, symbols),
+        EbpfSectionKind::Text => put_text_functions(alloc, functions, records, section, symbols),
+        _ => Ok(()),
+    }
+}
+
 impl ObjectTables {
-    /// None but the names that were met before.
+    /// Empty tables, but for the names of the type information sections.
     fn new(alloc: Global, section_infos: ByName<SectionIndex>) -> ObjectTables
         ensures { result ≡ object_tables_from section_infos }
     {
@@ -126,43 +144,45 @@ impl ObjectTables {
         }
     }
 
-    /// Adds the functions of a Program section.
+    /// Adds the functions of a section of code.
+    #[tactic(auto, unfolding(crate::specs::OfSection::functions_in))]
     fn add_functions(
         &mut self,
-        alloc: Global,
         inputs: &SectionInputs<'_>,
         section: &Section<'_>,
         symbols: &[NamedSymbol<'_>],
     ) -> Result<(), ParseError>
-        ensures put { OnOk result (self.new ≡ record self.old { functions = put_all self.old.functions (map with_key (program_functions (func_and_line_info_of inputs.now.btf_ext section.now.name) section.now symbols.now)) }) }
-        ensures fault { Refuses is_parse_memory result (programs_fault section.now symbols.now) }
+        ensures put { OnOk result (self.new ≡ record self.old { functions = put_all self.old.functions (functions_in inputs.now.btf_ext section.now symbols.now) }) }
+        ensures fault { Refuses is_parse_memory result (functions_fault section.now.kind section.now symbols.now) }
     {
+        let alloc = inputs.alloc;
         if let Some(records) = inputs.records.of(section.name) {
-            return put_functions(alloc, &mut self.functions, records, section, symbols);
+            return put_code(alloc, &mut self.functions, records, section, symbols);
         }
-        let read = inputs.records.read(alloc, section.name)?;
-        put_functions(alloc, &mut self.functions, &read, section, symbols)
+        let records = inputs.records.found.section_records(alloc, section.name)?;
+        put_code(alloc, &mut self.functions, &records, section, symbols)
     }
 
     /// Adds the programs of a Program section.
     #[tactic(auto, unfolding(crate::specs::OfSection::program_section_faults))]
     fn add_programs(
         &mut self,
-        alloc: Global,
         inputs: &SectionInputs<'_>,
         section: &Section<'_>,
         symbols: &[NamedSymbol<'_>],
     ) -> Result<(), ParseError>
-        ensures put { OnOk result (self.new ≡ record self.old { programs = put_all self.old.programs (programs_of inputs.now.license inputs.now.kernel_version section.now symbols.now (section_as inputs.now.reading section.now.name)); functions = put_all self.old.functions (map with_key (program_functions (func_and_line_info_of inputs.now.btf_ext section.now.name) section.now symbols.now)) }) }
+        requires { section.now.kind ≡ Programs }
+        ensures put { OnOk result (self.new ≡ record self.old { programs = put_all self.old.programs (programs_of inputs.now.license inputs.now.kernel_version section.now symbols.now (section_as inputs.now.reading section.now.name)); functions = put_all self.old.functions (functions_in inputs.now.btf_ext section.now symbols.now) }) }
         ensures fault { Refuses is_parse_memory result (program_section_faults inputs.now.reading section.now symbols.now) }
     {
+        let alloc = inputs.alloc;
         let kind = ProgramSection::read(alloc, section.name, inputs.metadata.reading)?;
         if symbols.len() == 0 {
             return Err(ParseError::NoSymbolsForSection {
                 section_name: Text::from_str(alloc, section.name)?,
             });
         }
-        self.add_functions(alloc, inputs, section, symbols)?;
+        self.add_functions(inputs, section, symbols)?;
         put_programs(
             alloc,
             &mut self.programs,
@@ -173,29 +193,10 @@ impl ObjectTables {
         )
     }
 
-    /// Adds the functions of a Text section.
-    fn add_texts(
-        &mut self,
-        alloc: Global,
-        inputs: &SectionInputs<'_>,
-        section: &Section<'_>,
-        symbols: &[NamedSymbol<'_>],
-    ) -> Result<(), ParseError>
-        ensures put { OnOk result (self.new ≡ record self.old { functions = put_all self.old.functions (map with_key (text_functions (func_and_line_info_of inputs.now.btf_ext section.now.name) section.now symbols.now)) }) }
-        ensures fault { Refuses is_parse_memory result (text_fault section.now symbols.now) }
-    {
-        if let Some(records) = inputs.records.of(section.name) {
-            return put_text_functions(alloc, &mut self.functions, records, section, symbols);
-        }
-        let read = inputs.records.read(alloc, section.name)?;
-        put_text_functions(alloc, &mut self.functions, &read, section, symbols)
-    }
-
     /// Adds a section by its kind, but for its relocations and its name.
     #[tactic(auto, unfolding(crate::specs::ObjectTables::added, crate::specs::OfSection::fault_in, crate::specs::OfSection::maps_in, crate::specs::OfSection::programs_in, crate::specs::OfSection::functions_in))]
     fn add_kind(
         &mut self,
-        alloc: Global,
         inputs: &mut SectionInputs<'_>,
         last: &ByName<usize>,
         section: &Section<'_>,
@@ -206,8 +207,9 @@ impl ObjectTables {
         ensures put { OnOk result (record self.new { relocations = put_all self.old.relocations (relocations_in section.now); section_infos = put_all self.new.section_infos ((section.now.name, section.now.index) ∷ []) } ≡ added_last last.now inputs.old self.old section.now symbols.now) }
         ensures fault { Refuses is_parse_memory result (fault_in inputs.old.reading inputs.old.btf section.now symbols.now) }
     {
+        let alloc = inputs.alloc;
         match section.kind {
-            EbpfSectionKind::Program => self.add_programs(alloc, inputs, section, symbols),
+            EbpfSectionKind::Program => self.add_programs(inputs, section, symbols),
             EbpfSectionKind::Data | EbpfSectionKind::Rodata | EbpfSectionKind::Bss => {
                 put_data_map(alloc, &mut self.maps, last, section)
             }
@@ -221,7 +223,7 @@ impl ObjectTables {
                     symbols,
                 )
             }
-            EbpfSectionKind::Text => self.add_texts(alloc, inputs, section, symbols),
+            EbpfSectionKind::Text => self.add_functions(inputs, section, symbols),
             _ => Ok(()),
         }
     }
@@ -230,7 +232,6 @@ impl ObjectTables {
     #[tactic(auto, using(crate::proofs::Added::same_added, crate::proofs::Added::same_fault, crate::proofs::Added::section_patched, ebpf_sections::proofs::RelocationTables::of_one_file))]
     fn add_section(
         &mut self,
-        alloc: Global,
         inputs: &mut SectionInputs<'_>,
         last: &ByName<usize>,
         section: &ElfSection<'_>,
@@ -242,14 +243,15 @@ impl ObjectTables {
         ensures put { OnOk result (self.new ≡ added_last last.now inputs.old self.old (section_of section.now) symbols.now) }
         ensures fault { Refuses is_parse_memory result (or_else (section_fault section.now) (fault_in inputs.old.reading inputs.old.btf (section_of section.now) symbols.now)) }
     {
+        let alloc = inputs.alloc;
         let section = read_section(alloc, section, tables)?;
-        self.add_kind(alloc, inputs, last, &section, symbols)?;
+        self.add_kind(inputs, last, &section, symbols)?;
         put_relocations(alloc, &mut self.relocations, &section, tables)?;
         remember(alloc, &mut self.section_infos, &section)
     }
 }
 
-/// What the sections of a file are read with.
+/// The inputs of each section's reading.
 fn section_inputs<'s>(
     alloc: Global,
     metadata: &'s FileMetadata,
@@ -261,16 +263,15 @@ fn section_inputs<'s>(
     let records = RecordsByName::gather(alloc, &metadata.btf_ext, names.code.as_slice())?;
     let declared = find_btf_defined_maps(alloc, &metadata.btf, metadata.reading, names)?;
     Ok(SectionInputs {
+        alloc,
         metadata,
         records,
         declared,
     })
 }
 
-/// What the sections of a file give, each with its relocations and its symbols, by the last section of data of each
-/// name.
+/// The tables that the sections of a file fill, by the last data section of each name.
 fn read_by_last(
-    alloc: Global,
     inputs: &mut SectionInputs<'_>,
     section_infos: ByName<SectionIndex>,
     file: &ElfFile<'_>,
@@ -284,25 +285,18 @@ fn read_by_last(
     ensures object_tables { IfOk result (λ p. p ≡ object_tables_of inputs.old section_infos file.now) }
     ensures fault { Refuses is_parse_memory result (sections_fault inputs.old.reading inputs.old.btf file.now) }
 {
-    let mut object_tables = ObjectTables::new(alloc, section_infos);
+    let mut object_tables = ObjectTables::new(inputs.alloc, section_infos);
     for section in file.sections() {
         if is_type_information(&section) {
             continue;
         }
         let index = section.index().0;
-        object_tables.add_section(
-            alloc,
-            inputs,
-            last,
-            &section,
-            tables.of(index),
-            symbols.of(index),
-        )?;
+        object_tables.add_section(inputs, last, &section, tables.of(index), symbols.of(index))?;
     }
     Ok(object_tables)
 }
 
-/// What the sections of a file give, each with its relocations and its symbols.
+/// The tables that the sections of a file fill, each with its relocations and its symbols.
 pub fn read_sections(
     alloc: Global,
     metadata: &FileMetadata,
@@ -319,7 +313,6 @@ pub fn read_sections(
     let names = SectionNames::read(alloc, file)?;
     let mut inputs = section_inputs(alloc, metadata, &names)?;
     read_by_last(
-        alloc,
         &mut inputs,
         section_infos,
         file,

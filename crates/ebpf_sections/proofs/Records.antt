@@ -22,7 +22,7 @@ use Rattle.ebpf_base.specs.Maps.{text_cmp, text_total}
 use Rattle.ebpf_ext.specs.ExtReading.{func_info_at, line_info_at, no_func_info, no_line_info, ExtInfo}
 use Rattle.ebpf_ext.specs.declared.ext_infos.FuncSecInfo.{FuncSecInfo}
 use Rattle.ebpf_ext.specs.declared.ext_infos.LineSecInfo.{LineSecInfo}
-use Rattle.ebpf_sections.specs.Records.{slot_at, is_at_slot, is_slot_among, is_among_slots, indices_with, FuncAndLineInfo, func_and_line_info_of, AreRecordsOf}
+use Rattle.ebpf_sections.specs.Records.{slot_at, is_at_slot, is_slot_among, is_among_slots, indices_with, FuncAndLineInfo, func_and_line_info_of, AreRecordsOf, found_funcs, found_lines}
 use Rattle.ebpf_sections.specs.declared.info_records.RecordIndex.{RecordIndex}
 use Rattle.ebpf_sections.proofs.InOrder.{none_passes, stands_at}
 
@@ -192,16 +192,10 @@ module _ (ext : Option ExtInfo) where
           sym there_is ∙ there ∙ ap (func_and_line_info_of ext) (sym (tells_apart text_exact name n same))
       by_same name found false same some = before.are name found some
 
--- what was found with a name in the same tables
-pub found_are : (ext : ExtInfo) (funcs : FinMap text_cmp FuncSecInfo) (lines : FinMap text_cmp LineSecInfo) (name : List ℕ) (f : Option FuncSecInfo) (l : Option LineSecInfo) (records : FuncAndLineInfo) (func_size line_size : ℕ)
-    → records ≡ record { funcs = unwrap_or f no_func_info; lines = unwrap_or l no_line_info; func_size = func_size; line_size = line_size }
-    → f ≡ get funcs name → l ≡ get lines name → funcs ≡ ext.func_info → lines ≡ ext.line_info → func_size ≡ ext.func_record_size → line_size ≡ ext.line_record_size
-    → records ≡ func_and_line_info_of (Some ext) name
-found_are ext funcs lines name f l records func_size line_size is at_f at_l same_f same_l size_f size_l = is ∙ rw (at_f, at_l, same_f, same_l, size_f, size_l) refl
+-- ---- a section of a name that is not found has no func info and no line info
 
--- a file without `.BTF.ext` says nothing of any section
-pub no_ext : (ext : Option ExtInfo) (name : List ℕ) → ext ≡ None → record { funcs = no_func_info; lines = no_line_info; func_size = 0; line_size = 0 } ≡ func_and_line_info_of ext name
-no_ext ext name none =
-    let funcs_are : func_info_at empty name ≡ no_func_info = ap (λ o. unwrap_or o no_func_info) (get-empty text_cmp name) in
-    let lines_are : line_info_at empty name ≡ no_line_info = ap (λ o. unwrap_or o no_line_info) (get-empty text_cmp name) in
-    rw (none, funcs_are, lines_are) refl
+pub no_funcs : (found : Option (FinMap text_cmp FuncSecInfo)) (name : List ℕ) → found ≡ None → func_info_at (found_funcs found) name ≡ no_func_info
+no_funcs found name none = rw none (ap (λ o. unwrap_or o no_func_info) (get-empty {X = FuncSecInfo} text_cmp name))
+
+pub no_lines : (found : Option (FinMap text_cmp LineSecInfo)) (name : List ℕ) → found ≡ None → line_info_at (found_lines found) name ≡ no_line_info
+no_lines found name none = rw none (ap (λ o. unwrap_or o no_line_info) (get-empty {X = LineSecInfo} text_cmp name))

@@ -2,7 +2,7 @@
 use Rattle.std.specs.FinMap.{FinMap, empty, get}
 use Rattle.std.specs.List.{range_with_len}
 use Rattle.std.specs.List.Sorted.{IsPartitionPoint}
-use Rattle.std.specs.Prelude.{ℕ, ◌+◌, ◌-◌, ◌/◌, ◌&&◌, Bool, List, map, filter, Option, Some, None, ◌==◌, nat_le, nat_lt, ◌<◌, ◌≤◌, true, [], ◌∷◌, ◌≡◌, slice_index_or}
+use Rattle.std.specs.Prelude.{ℕ, ◌+◌, ◌-◌, ◌/◌, ◌&&◌, Bool, List, map, filter, Option, Some, None, ◌==◌, nat_le, nat_lt, ◌<◌, ◌≤◌, true, [], ◌∷◌, ◌≡◌, slice_index_or, unwrap_or}
 use Rattle.ebpf_base.specs.Maps.{text_cmp}
 use Rattle.ebpf_ext.specs.ExtReading.{func_info_at, line_info_at, ExtInfo}
 use Rattle.ebpf_ext.specs.declared.ext_infos.FuncSecInfo.{FuncSecInfo}
@@ -105,6 +105,13 @@ RowsBeginAt slot s xs n = IsPartitionPoint (λ x. slot x < s) (λ x. s ≤ slot 
 abbrev pub rises_from : {X : Type 0} → (X → ℕ) → ℕ → List X → Bool
 rises_from slot least [] = true
 rises_from slot least (x ∷ xs) = nat_le least (slot x) && rises_from slot (slot x) xs
+
+-- records that may have been found
+abbrev pub found_funcs : Option (FinMap text_cmp FuncSecInfo) → FinMap text_cmp FuncSecInfo
+found_funcs found = unwrap_or found empty
+
+abbrev pub found_lines : Option (FinMap text_cmp LineSecInfo) → FinMap text_cmp LineSecInfo
+found_lines found = unwrap_or found empty
 
 -- a table has at its names the func info and line info of the sections of these names
 pub record AreRecordsOf (ext : Option ExtInfo) (table : FinMap text_cmp FuncAndLineInfo) : Type 0 where

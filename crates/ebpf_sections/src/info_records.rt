@@ -1,8 +1,8 @@
 //! The func info or line info records of a section, by the slots that they name.
 //!
-//! Records in the order of their slots are taken as they stand: functions are asked for in that order, so the part of the
-//! next one mostly begins where the last one ended; that index is tried first, and only else the rows are searched. Of
-//! records in another order the indices stand in one list, sorted once by their slots.
+//! Records in the order of their slots are used as they are. Functions are asked for in that order, so the records of the
+//! next function mostly begin where those of the last one ended: that index is tried first, before a binary search. For
+//! records in another order the indices are sorted once by their slots.
 
 ghost use Rattle.std.proofs.Common.{ap};
 ghost use Rattle.std.proofs.Math.Nat.{sub-zero};
@@ -24,10 +24,10 @@ use std::marker::Model;
 
 /// A row that names a slot.
 pub trait NamesSlot {
-    /// The slot that it names.
+    /// The slot that a row names.
     ghost slot_of: { Self → ℕ };
 
-    /// The slot that it names.
+    /// The slot that a row names.
     fn slot(&self) -> u32
         ensures { result ≡ slot_of self.now };
 }
@@ -46,7 +46,7 @@ pub fn is_in_order<R: NamesSlot>(rows: &[R]) -> bool
     true
 }
 
-/// How many rows stand before those of a slot, found by a search.
+/// The number of rows before those of a slot, by a binary search.
 pub fn lower_bound<R: NamesSlot>(rows: &[R], slot: u128) -> usize
     requires { IsNonDecreasingBy R.slot_of rows.now }
     ensures within { result ≤ length rows.now }
@@ -94,7 +94,7 @@ fn begins_at<R: NamesSlot>(rows: &[R], index: usize, slot: usize) -> bool
     true
 }
 
-/// How many rows stand before those of a slot, where an index is tried first.
+/// The number of rows before those of a slot, where `guess` is tried first.
 fn start_of<R: NamesSlot>(rows: &[R], guess: usize, slot: usize) -> usize
     requires { IsNonDecreasingBy R.slot_of rows.now }
     ensures within { result ≤ length rows.now }
@@ -106,7 +106,7 @@ fn start_of<R: NamesSlot>(rows: &[R], guess: usize, slot: usize) -> usize
     lower_bound(rows, slot as u128)
 }
 
-/// How many rows stand before those of a slot, from the index on where those of a slot before it begin.
+/// The number of rows before those of the slot `limit`, by a walk from `start`, where the rows of a lower slot begin.
 fn end_of<R: NamesSlot>(rows: &[R], start: usize, limit: u128) -> usize
     requires rising { IsNonDecreasingBy R.slot_of rows.now }
     requires within { start ≤ length rows.now }
@@ -122,7 +122,7 @@ fn end_of<R: NamesSlot>(rows: &[R], start: usize, limit: u128) -> usize
     end
 }
 
-/// The rows of so many slots from a slot on. `next` is where they may begin, and becomes the index behind them.
+/// The rows of `count` slots from a slot on. `next` is the index where the rows may begin, and becomes the index behind them.
 pub fn rows_among<'r, R: NamesSlot>(
     rows: &'r [R],
     next: &Cell<usize>,
@@ -138,7 +138,7 @@ pub fn rows_among<'r, R: NamesSlot>(
     &rows[start..end]
 }
 
-/// Where a record stands in its list, and the slot that it names.
+/// The index of a record in its list, and the slot that the record names.
 #[derive(Clone, Copy)]
 pub struct RecordIndex {
     pub slot: u32,
@@ -172,7 +172,7 @@ impl Model for RecordsBySlot {
 
 impl RecordsBySlot {
     /// Indices, sorted by their slots.
-    pub fn sorted(mut indices: Vec<RecordIndex>) -> Result<RecordsBySlot, ParseError>
+    pub fn from_indices(mut indices: Vec<RecordIndex>) -> Result<RecordsBySlot, ParseError>
         ensures grouped { IfOk result (λ s. (q : ℕ) → filter (is_at_slot q) s ≡ filter (is_at_slot q) indices.items) }
         ensures memory { IfErr result (λ e. is_parse_memory e ≡ true) }
     {
@@ -181,7 +181,7 @@ impl RecordsBySlot {
         Ok(RecordsBySlot { indices, next })
     }
 
-    /// The indices of the records at so many slots from a slot on, in the order of the list.
+    /// The indices of the records at `count` slots from a slot on, in the order of the list.
     pub fn within(
         &self,
         alloc: Global,
@@ -230,18 +230,18 @@ pub fn slot_indices<R: InfoRecord>(
 
 /// A func info or line info record.
 pub trait InfoRecord: NamesSlot + Copy {
-    /// What stands for a record past the end of a list.
+    /// The record past the end of a list.
     ghost zero: { Self };
 
-    /// The record, its slot counted from another one.
-    ghost counted_from: { ℕ → Self → Self };
+    /// The record, its slot counted from a base.
+    ghost rebase: { ℕ → Self → Self };
 
-    /// The record, its slot counted from another one.
-    fn counted_from(&self, base: usize) -> Self
-        ensures { result ≡ counted_from base self.now };
+    /// The record, its slot counted from `base`.
+    fn rebase(&self, base: usize) -> Self
+        ensures { result ≡ rebase base self.now };
 
-    /// Counted from slot 0 it stays.
-    ghost from_zero: { (row : Self) → counted_from 0 row ≡ row };
+    /// A record counted from slot 0 is unchanged.
+    ghost from_zero: { (row : Self) → rebase 0 row ≡ row };
 }
 
 impl NamesSlot for bpf_func_info {
@@ -263,11 +263,11 @@ impl NamesSlot for bpf_line_info {
 impl InfoRecord for bpf_func_info {
     ghost zero = { record { insn_off = 0; type_id = 0 } };
 
-    ghost counted_from = { func_from };
+    ghost rebase = { func_from };
 
     ghost from_zero = { λ row. ap (λ n. record row { insn_off = n }) (sub-zero row.insn_off) };
 
-    fn counted_from(&self, base: usize) -> bpf_func_info
+    fn rebase(&self, base: usize) -> bpf_func_info
         ensures { result ≡ func_from base self.now }
     {
         bpf_func_info {
@@ -280,11 +280,11 @@ impl InfoRecord for bpf_func_info {
 impl InfoRecord for bpf_line_info {
     ghost zero = { record { insn_off = 0; file_name_off = 0; line_off = 0; line_col = 0 } };
 
-    ghost counted_from = { line_from };
+    ghost rebase = { line_from };
 
     ghost from_zero = { λ row. ap (λ n. record row { insn_off = n }) (sub-zero row.insn_off) };
 
-    fn counted_from(&self, base: usize) -> bpf_line_info
+    fn rebase(&self, base: usize) -> bpf_line_info
         ensures { result ≡ line_from base self.now }
     {
         bpf_line_info {
@@ -296,7 +296,7 @@ impl InfoRecord for bpf_line_info {
     }
 }
 
-/// The records of a section, lent. Indices are gathered only where the records are not in the order of their slots.
+/// The records of a section, lent. Indices are gathered only if the records are not in the order of their slots.
 #[derive(Drop)]
 pub struct InfoRecords<'e, R: InfoRecord> {
     records: &'e [R],
@@ -328,7 +328,7 @@ impl<'e, R: InfoRecord> InfoRecords<'e, R> {
                 indices: None,
             });
         }
-        let indices = RecordsBySlot::sorted(slot_indices(alloc, records)?)?;
+        let indices = RecordsBySlot::from_indices(slot_indices(alloc, records)?)?;
         Ok(InfoRecords {
             records,
             next,
@@ -336,35 +336,31 @@ impl<'e, R: InfoRecord> InfoRecords<'e, R> {
         })
     }
 
-    /// The records of so many slots from a slot on, their slots counted from another one.
-    pub fn counted_from(
+    /// The records of `count` slots from a slot on, their slots counted from `base`.
+    pub fn records_among(
         &self,
         alloc: Global,
         first: usize,
         count: usize,
         base: usize,
     ) -> Result<Items<R>, ParseError>
-        ensures records { IfOk result (λ kept. kept ≡ map (R.counted_from base) (filter (is_among_slots R.slot_of first count) self.now)) }
+        ensures records { IfOk result (λ kept. kept ≡ map (R.rebase base) (filter (is_among_slots R.slot_of first count) self.now)) }
         ensures memory { IfErr result (λ e. is_parse_memory e ≡ true) }
     {
         let Some(indices) = &self.indices else {
             let among = rows_among(self.records, &self.next, first, count);
-            return all_counted_from(alloc, among, base);
+            return rebase_all(alloc, among, base);
         };
         let indices = indices.within(alloc, first, count)?;
-        let kept = those_counted_from(alloc, self.records, &indices, base)?;
+        let kept = rebase_at(alloc, self.records, &indices, base)?;
         Ok(kept)
     }
 }
 
-/// A copy of records, their slots counted from another one.
+/// A copy of records, their slots counted from `base`.
 #[tactic(auto, using(crate::proofs::Records::records_kept))]
-fn all_counted_from<R: InfoRecord>(
-    alloc: Global,
-    rows: &[R],
-    base: usize,
-) -> Result<Items<R>, ParseError>
-    ensures records { IfOk result (λ kept. kept ≡ map (R.counted_from base) rows.now) }
+fn rebase_all<R: InfoRecord>(alloc: Global, rows: &[R], base: usize) -> Result<Items<R>, ParseError>
+    ensures records { IfOk result (λ kept. kept ≡ map (R.rebase base) rows.now) }
     ensures memory { IfErr result (λ e. is_parse_memory e ≡ true) }
 {
     if base == 0 {
@@ -372,25 +368,25 @@ fn all_counted_from<R: InfoRecord>(
     }
     let mut kept = Vec::with_capacity(alloc, rows.len())?;
     for row in rows {
-        kept.push(row.counted_from(base))?;
+        kept.push(row.rebase(base))?;
     }
     Ok(Items::from_vec(kept))
 }
 
-/// The records at some indices, their slots counted from another one.
-fn those_counted_from<R: InfoRecord>(
+/// The records at some indices, their slots counted from `base`.
+fn rebase_at<R: InfoRecord>(
     alloc: Global,
     rows: &[R],
     indices: &[usize],
     base: usize,
 ) -> Result<Items<R>, ParseError>
     requires { All (λ i. i < length rows.now) indices.now }
-    ensures records { IfOk result (λ kept. kept ≡ map (λ i. R.counted_from base (slice_index_or rows.now i R.zero)) indices.now) }
+    ensures records { IfOk result (λ kept. kept ≡ map (λ i. R.rebase base (slice_index_or rows.now i R.zero)) indices.now) }
     ensures memory { IfErr result (λ e. is_parse_memory e ≡ true) }
 {
     let mut kept = Vec::with_capacity(alloc, indices.len())?;
     for index in indices {
-        kept.push(rows[*index].counted_from(base))?;
+        kept.push(rows[*index].rebase(base))?;
     }
     Ok(Items::from_vec(kept))
 }

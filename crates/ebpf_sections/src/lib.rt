@@ -1,4 +1,5 @@
-//! What the sections of an ELF file with eBPF programs hold: symbols, relocations, records, functions, license and version.
+//! The contents of the sections of an ELF file with eBPF programs: symbols, relocations, info entries, functions, license
+//! and version.
 #![tactic(auto)]
 
 pub mod info_records;

@@ -17,13 +17,14 @@ use ebpf_elf::ElfFile;
 use ebpf_parts::{ParseError, Reading};
 use std::alloc::Global;
 
+/// Whether bytes have a zero.
 fn has_zero(bytes: &[u8]) -> bool
     ensures { result ≡ has_zero bytes.now }
 {
     bytes.iter().any(|byte| *byte == 0)
 }
 
-/// Where the first zero stands.
+/// The index of the first zero.
 fn zero_at(bytes: &[u8]) -> Option<usize>
     ensures place { result ≡ position (λ b. b == 0) bytes.now }
     ensures inside { IfSome result (λ at. at < length bytes.now) }
@@ -42,7 +43,7 @@ fn before_zero(bytes: &[u8]) -> &[u8]
     }
 }
 
-/// The license that a section's bytes are, without the zero byte at its end.
+/// The license in a section's bytes, without the zero byte at its end.
 #[tactic(auto, unfolding(crate::specs::LicenseAndVersion::stated_text_fault))]
 fn stated_license(alloc: Global, bytes: &[u8]) -> Result<Items<u8>, ParseError>
     ensures license { IfOk result (λ license. license ≡ front_of bytes.now) }
@@ -67,7 +68,7 @@ fn stated_license(alloc: Global, bytes: &[u8]) -> Result<Items<u8>, ParseError>
     Ok(Items::from_vec(Vec::from_slice(alloc, front)?))
 }
 
-/// The license that a section's bytes are in the broad reading: those before the first zero, or none.
+/// The license in a section's bytes in the broad reading: the bytes before the first zero, which may be none.
 #[tactic(auto, unfolding(crate::specs::LicenseAndVersion::license_text, crate::specs::LicenseAndVersion::license_text_fault, crate::specs::LicenseAndVersion::stated_text_fault))]
 fn broad_license(alloc: Global, bytes: &[u8]) -> Result<Items<u8>, ParseError>
     ensures license { IfOk result (λ license. license ≡ license_text Broad bytes.now) }
@@ -79,7 +80,7 @@ fn broad_license(alloc: Global, bytes: &[u8]) -> Result<Items<u8>, ParseError>
     Ok(Items::from_vec(Vec::from_slice(alloc, before_zero(bytes))?))
 }
 
-/// The license that a section's bytes are in a reading.
+/// The license in a section's bytes, by the reading.
 #[tactic(auto, unfolding(crate::specs::LicenseAndVersion::license_text, crate::specs::LicenseAndVersion::license_text_fault))]
 fn license_in(alloc: Global, bytes: &[u8], reading: Reading) -> Result<Items<u8>, ParseError>
     ensures license { IfOk result (λ license. license ≡ license_text reading bytes.now) }
@@ -110,10 +111,10 @@ pub fn read_license(
     license_in(alloc, section.bytes, reading)
 }
 
-/// The version that stands for all kernels.
+/// The version that means all kernels.
 const ANY_KERNEL: u32 = 0xffff_fffe;
 
-/// The version that a section's bytes are.
+/// The version in a section's bytes.
 #[tactic(auto, unfolding(crate::specs::LicenseAndVersion::version_number_fault, crate::specs::LicenseAndVersion::version_of))]
 fn version_in(alloc: Global, order: Endianness, bytes: &[u8]) -> Result<Option<u32>, ParseError>
     ensures version { IfOk result (λ version. version ≡ version_of order bytes.now) }

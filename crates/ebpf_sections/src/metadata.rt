@@ -1,11 +1,11 @@
-//! What programs and functions carry of their object.
+//! The properties of an object that its programs and functions share.
 
 use ebpf_base::Items;
 use ebpf_btf::Btf;
 use ebpf_ext::BtfExt;
 use ebpf_parts::Reading;
 
-/// What programs and functions carry of their object.
+/// The properties of an object that its programs and functions share.
 #[derive(Drop)]
 pub struct FileMetadata {
     pub reading: Reading,

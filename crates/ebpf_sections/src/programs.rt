@@ -18,7 +18,7 @@ use ebpf_parts::{ParseError, ProgramSection, Section};
 use std::alloc::Global;
 
 impl NamedSymbol<'_> {
-    /// Whether it names a program of its section: a Text symbol with a name.
+    /// Whether the symbol names a program of its section: a Text symbol with a name.
     fn is_program(&self) -> bool
         ensures { result ≡ is_program_symbol self.now }
     {
@@ -69,16 +69,14 @@ fn function_of(
         section_index: section.index,
         section_offset: symbol.address as usize,
         instructions: Items::from_vec(instructions),
-        func_info: records.funcs.at(alloc, first, first)?,
-        line_info: records
-            .lines
-            .within(alloc, first, symbol.size as usize / bpf_insn::SIZE, first)?,
+        func_info: records.funcs_at(alloc, first, first)?,
+        line_info: records.lines_in(alloc, first, symbol.size as usize / bpf_insn::SIZE, first)?,
         func_info_rec_size: records.func_size,
         line_info_rec_size: records.line_size,
     })
 }
 
-/// The fault of a program's symbol, whose function is not made.
+/// Checks a program's symbol whose function is not made.
 #[tactic(auto, unfolding(crate::specs::Programs::program_fault, ebpf_parts::specs::Slots::code_faults))]
 fn check_program(
     alloc: Global,
@@ -110,7 +108,7 @@ fn last_programs(alloc: Global, symbols: &[NamedSymbol<'_>]) -> Result<ByOffset<
     Ok(last)
 }
 
-/// Puts the functions of a section's programs by section and address, of symbols at one address the last one's alone.
+/// Puts the functions of a section's programs by section and address; of symbols at one address only the last one's.
 #[tactic(auto, using(ebpf_base::proofs::Lists::kept_more, ebpf_base::proofs::Lists::passed_more, ebpf_base::proofs::Lists::fault_here, ebpf_base::proofs::Lists::rest_none))]
 fn put_last_functions(
     alloc: Global,

@@ -21,7 +21,7 @@ use std::alloc::{AllocError, Global};
 use std::collections::BTreeMap;
 use std::marker::Model;
 
-/// Values by the place of the first entry, the size of an entry and the number of entries.
+/// Values by the offset of the first entry, the size of an entry and the number of entries.
 #[derive(Drop)]
 pub struct ByEntryRange<V> {
     entries: BTreeMap<((usize, usize), usize), V>,
@@ -38,7 +38,7 @@ impl<V> Model for ByEntryRange<V> {
     ghost view = { λ a. map.from_entries a.entries.entries };
 }
 
-/// Where the entries of a section of relocations stand.
+/// The range of the entries of a relocation section.
 fn entry_range_of(table: &ElfRelocationSection<'_>) -> ((usize, usize), usize)
     ensures { result ≡ entry_range_of table.now }
 {
@@ -56,7 +56,7 @@ impl<V> ByEntryRange<V> {
         }
     }
 
-    /// The value where the entries of a section stand.
+    /// The value of the range of a section's entries.
     pub fn get(&self, table: &ElfRelocationSection<'_>) -> Option<&V>
         ensures { option_copied result ≡ map.get self.now (entry_range_of table.now) }
     {
@@ -65,7 +65,7 @@ impl<V> ByEntryRange<V> {
 }
 
 impl<V: Drop> ByEntryRange<V> {
-    /// Puts a value where the entries of a section stand. Where no memory is found the map stays.
+    /// Puts a value at the range of a section's entries. On an allocation failure the map is unchanged.
     pub fn insert(&mut self, table: &ElfRelocationSection<'_>, value: V) -> Result<(), AllocError>
         ensures ok { OnOk result (self.new ≡ map.insert self.old (entry_range_of table.now) value) }
         ensures err { OnErr result (self.new ≡ self.old) }
@@ -92,7 +92,7 @@ impl<'a> Model for RelocationTable<'a> {
 }
 
 impl RelocationTable<'_> {
-    /// Whether one of its entries names no symbol.
+    /// Whether one of the section's entries names no symbol.
     fn lacks_symbol(&self) -> bool
         ensures { result ≡ lacks_symbol (table_entries self.now) }
     {
@@ -112,7 +112,7 @@ fn lacks_symbol(section: &ElfRelocationSection<'_>) -> bool
     false
 }
 
-/// A section of relocations, whose entries are read where none at their places were read before.
+/// A relocation section, whose entries are read only if no section with the same range was read before.
 #[tactic(auto, using(crate::proofs::RelocationTables::cached_is, crate::proofs::RelocationTables::cached_more))]
 fn read_table<'a>(
     cached: &mut ByEntryRange<bool>,
@@ -132,7 +132,7 @@ fn read_table<'a>(
     Ok(RelocationTable { section, lacks })
 }
 
-/// The sections of relocations of a file by the section that they patch.
+/// The relocation sections of a file, by the section that they patch.
 pub fn read_relocation_sections<'a>(
     alloc: Global,
     file: &ElfFile<'a>,
@@ -163,7 +163,7 @@ pub fn check_targets(tables: &[RelocationTable<'_>]) -> Result<(), ParseError>
     Ok(())
 }
 
-/// The index of the last section of relocations whose entries stand at the same offsets.
+/// The index of the last relocation section of each range of entries.
 #[tactic(auto, using(crate::proofs::RelocationTables::row_more, ebpf_base::proofs::Lists::rest_none))]
 fn last_tables(
     alloc: Global,
@@ -203,7 +203,7 @@ fn table_of(
     Ok(ByOffset::from_map(entries.into_iter().collect(alloc)?))
 }
 
-/// Of sections whose entries stand at the same places, those of the last one alone.
+/// The relocations by offset; of sections with the same range of entries only those of the last one.
 #[tactic(auto, using(ebpf_base::proofs::Lists::rest_none))]
 fn put_last_tables(
     alloc: Global,

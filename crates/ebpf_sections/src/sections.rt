@@ -1,6 +1,5 @@
-//! The sections of a file: what each is for, by its name; values by section; whether one has code; the last section of
-//! data of each name, whose map stands, while those of the others need not be made. A section is read without its
-//! relocations, which only sections of code keep.
+//! The sections of a file: the kind of each by its name, values by section, and whether one has code. Of the data sections
+//! of one name only the last one gives a map. A section is read without its relocations, which only code sections keep.
 
 ghost use Rattle.std.specs.List.{list_any};
 ghost use Rattle.std.specs.Option.{option_copied};
@@ -22,7 +21,7 @@ use ebpf_parts::{EbpfSectionKind, ParseError, Reading, Section};
 use std::alloc::Global;
 use std::collections::BTreeMap;
 
-/// Values by the index of a section, those of one section in the order in which they came.
+/// Values by the index of a section, the values of one section in the order of their arrival.
 #[derive(Drop)]
 pub struct Groups<T> {
     pub groups: BTreeMap<usize, Vec<T>>,
@@ -41,7 +40,7 @@ impl<T: Drop> Groups<T> {
         }
     }
 
-    /// Adds a value behind those of its section.
+    /// Adds a value behind the values of its section.
     pub fn add(&mut self, alloc: Global, section: usize, value: T) -> Result<(), ParseError>
         ensures added { OnOk result ((q : ℕ) → group_at self.new.groups q ≡ (if section == q then group_at self.old.groups q ++ value ∷ [] else group_at self.old.groups q)) }
         ensures memory { IfErr result (λ e. is_parse_memory e ≡ true) }
@@ -87,19 +86,19 @@ pub fn is_type_information(section: &ElfSection<'_>) -> bool
     section.has_name(".BTF") || section.has_name(".BTF.ext")
 }
 
-/// What the names of a file's sections tell of them. Each is read once: it may be as long as the file.
+/// The names of a file's sections, by kind. Each name is read once, since it may be as long as the file.
 #[derive(Drop)]
 pub struct SectionNames<'a> {
     /// The names of the sections of code.
     pub code: Vec<&'a str>,
     /// The names of the sections of BTF-defined maps.
     pub maps: Vec<&'a str>,
-    /// The index of the last section of data of each name: its map stands, and those of the others need not be made.
+    /// The index of the last data section of each name, the only one whose map is made.
     pub last_data: ByName<usize>,
 }
 
 impl<'a> SectionNames<'a> {
-    /// Adds a section to those of its kind.
+    /// Adds the name of a section to the names of its kind.
     #[tactic(auto, unfolding(ebpf_parts::specs::Sections::section_of, ebpf_parts::specs::Sections::section_with))]
     fn add(&mut self, alloc: Global, section: &ElfSection<'a>) -> Result<(), ParseError>
         ensures last { OnOk result (self.new.last_data ≡ put_all self.old.last_data (data_row (section_of section.now))) }
@@ -124,7 +123,7 @@ impl<'a> SectionNames<'a> {
         }
     }
 
-    /// Those of all sections but the ones of type information.
+    /// The names of all sections but those of type information.
     pub fn read(alloc: Global, file: &ElfFile<'a>) -> Result<SectionNames<'a>, ParseError>
         ensures last { IfOk result (λ names. names.last_data ≡ last_data (object_sections file.now)) }
         ensures memory { IfErr result (λ e. is_parse_memory e ≡ true) }
@@ -184,7 +183,7 @@ pub fn check_order(file: &ElfFile<'_>, reading: Reading) -> Result<(), ParseErro
     }
 }
 
-/// Whether a number is the one that is stated, if there is one.
+/// Whether a number is the stated one, or none is stated.
 pub fn is_index(number: usize, stated: Option<&usize>) -> bool
     ensures { result ≡ is_index number (option_copied stated.entry) }
 {
@@ -194,7 +193,7 @@ pub fn is_index(number: usize, stated: Option<&usize>) -> bool
     }
 }
 
-/// A section of a file, of which these are the sections of relocations.
+/// A section of a file, with its relocation sections.
 #[tactic(auto, using(crate::proofs::ReadSections::fault_of_targets), unfolding(ebpf_parts::specs::Sections::section_fault, ebpf_parts::specs::Sections::section_fault_with))]
 pub fn read_section<'a>(
     alloc: Global,
@@ -210,7 +209,7 @@ pub fn read_section<'a>(
     Ok(read)
 }
 
-/// A section of a file, with the sections of relocations that apply to it among those of the file.
+/// A section of a file, with its relocation sections among those of the file.
 #[tactic(auto, using(crate::proofs::NamedSymbols::tables_of_section))]
 pub fn read_section_of<'a>(
     alloc: Global,

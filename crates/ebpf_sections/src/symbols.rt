@@ -46,7 +46,7 @@ impl<'a> Model for NamedSymbol<'a> {
 impl<'a> NamedSymbol<'a> {
     /// A symbol of a file whose name is known.
     #[tactic(auto, unfolding(crate::specs::Symbols::symbol_of))]
-    fn named(symbol: &ElfSymbol<'_>, name: &'a str) -> NamedSymbol<'a>
+    fn with_name(symbol: &ElfSymbol<'_>, name: &'a str) -> NamedSymbol<'a>
         ensures { name.now ≡ unwrap_or (symbol_name symbol.now) [] → result ≡ symbol_of symbol.now }
     {
         NamedSymbol {
@@ -67,13 +67,13 @@ impl<'a> NamedSymbol<'a> {
         ensures fault { fault_of result ≡ symbol_fault symbol.now }
     {
         match symbol.name() {
-            Ok(name) => Ok(NamedSymbol::named(symbol, name)),
+            Ok(name) => Ok(NamedSymbol::with_name(symbol, name)),
             Err(_) => Err(ParseError::BtfError(BtfError::InvalidSymbolName)),
         }
     }
 
-    /// What an object keeps of it.
-    fn owned(&self, alloc: Global) -> Result<Symbol, ParseError>
+    /// The symbol as an object keeps it.
+    fn to_symbol(&self, alloc: Global) -> Result<Symbol, ParseError>
         ensures symbol { IfOk result (λ owned. owned ≡ (symbol_entry self.now).1) }
         ensures memory { IfErr result (λ e. is_parse_memory e ≡ true) }
     {
@@ -98,7 +98,7 @@ pub struct FileSymbols<'a> {
 }
 
 impl<'a> FileSymbols<'a> {
-    /// Takes one more symbol.
+    /// Adds a symbol.
     #[tactic(auto, unfolding(crate::specs::Symbols::section_symbols))]
     fn add(&mut self, alloc: Global, symbol: NamedSymbol<'a>) -> Result<(), ParseError>
         ensures names { OnOk result (lent_bytes self.new.names.items ≡ lent_bytes self.old.names.items ++ symbol.entry.name ∷ []) }
@@ -113,7 +113,7 @@ impl<'a> FileSymbols<'a> {
     }
 }
 
-/// About how many symbols a file has, as far as its first symbol table tells, so that a list takes its memory once.
+/// The number of entries of the first symbol table, so that a list of names takes its memory once.
 fn count_of(file: &ElfFile<'_>) -> usize {
     for section in file.sections() {
         if section.kind_number() == SHT_SYMTAB {
@@ -141,7 +141,7 @@ pub fn read_symbols<'a>(alloc: Global, file: &ElfFile<'a>) -> Result<FileSymbols
     Ok(symbols)
 }
 
-/// The symbols of a file as an object keeps them. Their names are given, so that they are read once.
+/// The symbols of a file as an object keeps them. The caller passes their names, so that each name is read once.
 #[tactic(auto, unfolding(crate::specs::Symbols::symbol_of))]
 pub fn object_symbols(
     alloc: Global,
@@ -154,8 +154,8 @@ pub fn object_symbols(
 {
     let mut table = ByIndex::from_map(HashMap::with_capacity(alloc, names.len())?);
     for (symbol, name) in file.symbols().zip(names) {
-        let symbol = NamedSymbol::named(&symbol, *name);
-        table.insert(symbol.index, symbol.owned(alloc)?)?;
+        let symbol = NamedSymbol::with_name(&symbol, *name);
+        table.insert(symbol.index, symbol.to_symbol(alloc)?)?;
     }
     Ok(table)
 }
@@ -189,7 +189,7 @@ pub fn weak_by_name(alloc: Global, file: &ElfFile<'_>) -> Result<ByName<bool>, P
     Ok(weak)
 }
 
-/// Keeps a symbol where none of its name was met.
+/// Keeps whether a symbol is weak, if no symbol of its name came before.
 fn keep(alloc: Global, weak: &mut ByName<bool>, symbol: &NamedSymbol<'_>) -> Result<(), ParseError>
     ensures kept { OnOk result (weak.new ≡ (if contains_key weak.old symbol.now.name then weak.old else insert weak.old symbol.now.name symbol.now.is_weak)) }
     ensures memory { IfErr result (λ e. is_parse_memory e ≡ true) }

@@ -23,7 +23,7 @@ use std::cell::Cell;
 use std::collections::BTreeSet;
 
 impl NamedSymbol<'_> {
-    /// Whether it names a function of a Text section: a Text symbol that is defined.
+    /// Whether the symbol names a function of a Text section: a Text symbol that is defined.
     fn is_defined_text(&self) -> bool
         ensures { result ≡ is_defined_text self.now }
     {
@@ -32,7 +32,7 @@ impl NamedSymbol<'_> {
 }
 
 /// The defined Text symbols.
-fn defined<'s, 'a>(
+fn defined_symbols<'s, 'a>(
     alloc: Global,
     symbols: &'s [NamedSymbol<'a>],
 ) -> Result<Vec<&'s NamedSymbol<'a>>, ParseError>
@@ -48,8 +48,8 @@ fn defined<'s, 'a>(
     Ok(rows)
 }
 
-/// Symbols in order of their addresses, those of one address in the order that they had.
-fn sorted<'s, 'a>(
+/// Sorts symbols by their addresses; symbols at one address keep their order.
+fn sort_by_address<'s, 'a>(
     mut rows: Vec<&'s NamedSymbol<'a>>,
 ) -> Result<Vec<&'s NamedSymbol<'a>>, ParseError>
     ensures rising { IfOk result (λ s. IsNonDecreasingBy (λ y. y.now.address) s.items) }
@@ -60,7 +60,7 @@ fn sorted<'s, 'a>(
     Ok(rows)
 }
 
-/// Whether the symbol at an index has a smaller address than this one.
+/// Whether the symbol at an index has a smaller address than `address`.
 fn is_below(rows: &[&NamedSymbol<'_>], index: usize, address: u64) -> bool
     requires { index < length rows.now }
     ensures { MatchBool result (HoldsAt (λ y. y.now.address < address) rows.now index) (HoldsAt (λ y. address ≤ y.now.address) rows.now index) }
@@ -82,7 +82,7 @@ fn rises(rows: &[&NamedSymbol<'_>]) -> bool
     true
 }
 
-/// Looks for the first defined Text symbol that has the address of one before it.
+/// Checks that no defined Text symbol has the address of one before it.
 #[tactic(auto, using(crate::proofs::TextSymbols::find_front, crate::proofs::TextSymbols::repeated_more, crate::proofs::TextSymbols::repeated_here, crate::proofs::TextSymbols::repeated_is), unfolding(crate::specs::Texts::conflict_fault))]
 fn check_conflicts(
     alloc: Global,
@@ -106,8 +106,8 @@ fn check_conflicts(
     Ok(())
 }
 
-/// Checks that no two defined Text symbols are at one address. The rows are all of them: where each is at a greater
-/// address than the one before it, no two are.
+/// Checks that no two defined Text symbols are at one address. `rows` are all of them: if their addresses rise, no two
+/// are at one address.
 fn check_apart(
     alloc: Global,
     section_index: usize,
@@ -123,8 +123,7 @@ fn check_apart(
     check_conflicts(alloc, section_index, symbols)
 }
 
-/// Whether there is a symbol at an index, those before it have smaller addresses than this one, and those from there
-/// on have not.
+/// Whether there is a symbol at an index, and the symbols before that index are those with addresses below `address`.
 fn splits(rows: &[&NamedSymbol<'_>], index: usize, address: u64) -> bool
     requires { IsNonDecreasingBy (λ y. y.now.address) rows.now }
     ensures within { OnTrue result (index ≤ length rows.now) }
@@ -135,7 +134,7 @@ fn splits(rows: &[&NamedSymbol<'_>], index: usize, address: u64) -> bool
         && (index == 0 || is_below(rows, index - 1, address))
 }
 
-/// How many symbols have smaller addresses than this one. The guess is tried first.
+/// The number of symbols with addresses below `address`. The guess is tried first.
 fn lower_bound(rows: &[&NamedSymbol<'_>], guess: usize, address: u64) -> usize
     requires { IsNonDecreasingBy (λ y. y.now.address) rows.now }
     ensures within { result ≤ length rows.now }
@@ -147,7 +146,7 @@ fn lower_bound(rows: &[&NamedSymbol<'_>], guess: usize, address: u64) -> usize
     rows.partition_point(|row| row.address < address)
 }
 
-/// The first symbol at an address, where so many have smaller ones.
+/// The first symbol at an address, where `index` symbols have smaller addresses.
 fn row_at<'s, 'a>(
     rows: &[&'s NamedSymbol<'a>],
     index: usize,
@@ -167,9 +166,9 @@ fn row_at<'s, 'a>(
 #[derive(Drop)]
 pub struct TextSymbols<'s, 'a> {
     pub symbols: &'s [NamedSymbol<'a>],
-    /// In order of their addresses.
+    /// The symbols in order of their addresses.
     rows: Vec<&'s NamedSymbol<'a>>,
-    /// The index behind the last one that was asked for, since most are asked for in order.
+    /// The index behind the last symbol that was asked for, since most are asked for in order.
     next: Cell<usize>,
     ghost rising: { IsNonDecreasingBy (λ y. y.now.address) rows.items },
     ghost by_address: { (q : ℕ) → find (is_at q) (map (λ y. y.now) rows.items) ≡ find (is_text_at q) symbols.now },
@@ -185,7 +184,7 @@ impl<'s, 'a> TextSymbols<'s, 'a> {
         ensures symbols { IfOk result (λ t. t.symbols.now ≡ symbols.now) }
         ensures fault { Refuses is_parse_memory result (conflict_fault section_index symbols.now) }
     {
-        let rows = sorted(defined(alloc, symbols)?)?;
+        let rows = sort_by_address(defined_symbols(alloc, symbols)?)?;
         check_apart(alloc, section_index, symbols, rows.as_slice())?;
         let next = Cell::new(0);
         Ok(TextSymbols {
@@ -195,7 +194,7 @@ impl<'s, 'a> TextSymbols<'s, 'a> {
         })
     }
 
-    /// How many there are; no clause says so, since it tells only how much memory to take.
+    /// The number of symbols. No clause states it, since it only says how much memory to take.
     pub fn count(&self) -> usize {
         self.rows.len()
     }
@@ -241,13 +240,8 @@ fn function_of(
         section_index: section.index,
         section_offset: offset,
         instructions: Items::from_vec(instructions),
-        func_info: records.funcs.at(alloc, offset / bpf_insn::SIZE, 0)?,
-        line_info: records.lines.within(
-            alloc,
-            offset / bpf_insn::SIZE,
-            symbol.size as usize / bpf_insn::SIZE,
-            0,
-        )?,
+        func_info: records.funcs_at(alloc, offset / bpf_insn::SIZE, 0)?,
+        line_info: records.lines_in(alloc, offset / bpf_insn::SIZE, symbol.size as usize / bpf_insn::SIZE, 0)?,
         func_info_rec_size: records.func_size,
         line_info_rec_size: records.line_size,
     };
@@ -301,7 +295,7 @@ fn gather(
     Ok(entries)
 }
 
-/// The table of these entries alone, of those at one key the last one.
+/// The table of these entries; of entries with one key the last one.
 fn table_of(
     alloc: Global,
     entries: Vec<((usize, u64), Function)>,

@@ -1,6 +1,6 @@
 use Rattle.std.proofs.Common.{◌≡◌, take, map, filter}
 use Rattle.ebpf_sections.specs.Texts.{is_defined_text}
-use Rattle.ebpf_sections.proofs.text.defined.Given as goal
+use Rattle.ebpf_sections.proofs.text.defined_symbols.Given as goal
 
 -- the symbols so far
 abbrev pub invariant-loop-symbol : goal.invariant-loop-symbol

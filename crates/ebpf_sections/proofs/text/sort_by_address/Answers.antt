@@ -2,7 +2,7 @@ use Rattle.std.proofs.Common.{rules}
 use Rattle.std.proofs.lemmas.List.Sorted.{IsNonDecreasingBy-from_sort_by_key, answers_always}
 use Rattle.ebpf_sections.proofs.InOrder.{stable_at}
 use Rattle.ebpf_sections.proofs.TextSymbols.{at_one_address}
-use Rattle.ebpf_sections.proofs.text.sorted.Goals as goal
+use Rattle.ebpf_sections.proofs.text.sort_by_address.Goals as goal
 
 pub returns-clause-rising : goal.returns-clause-rising
 returns-clause-rising c = IsNonDecreasingBy-from_sort_by_key (λ y. y.now.address) _ c.in_ok-sort_by_key.ensures.sorted (λ a r q k. search rules)

@@ -1,7 +1,7 @@
 use Rattle.std.proofs.Common.{rules}
 use Rattle.std.proofs.lemmas.List.Sorted.{IsNonDecreasingBy-from_sort_by_key, answers_always}
 use Rattle.ebpf_sections.proofs.InOrder.{stable_at}
-use Rattle.ebpf_sections.proofs.info_records.RecordsBySlot.sorted.Goals as goal
+use Rattle.ebpf_sections.proofs.info_records.RecordsBySlot.from_indices.Goals as goal
 
 pub invariant_of-result : goal.invariant_of-result
 invariant_of-result c = (IsNonDecreasingBy-from_sort_by_key (λ p. p.slot) _ c.in_ok-sort_by_key.ensures.sorted (λ a r q k. search rules), tt)
