@@ -67,7 +67,7 @@ impl JsonValue for KernelName {
 }
 
 /// Writes the number and the name of a helper function, as members of a JSON object.
-pub fn write_helper<W: Write>(json: &mut JsonWriter<'_, W>, number: u32) -> io::Result<()> {
+pub fn write_helper<W: Write>(json: &mut JsonWriter<'_, W>, number: u64) -> io::Result<()> {
     json.member("number", number)?;
     json.member("name", helper_name(number).map(KernelName))
 }

@@ -57,7 +57,7 @@ fn write_program<W: Write>(
     json.objects(
         "helpers",
         uses.helpers.iter(),
-        |json, helper| write_helper(json, *helper),
+        |json, helper| write_helper(json, u64::from(*helper)),
     )?;
     json.values("kernel_functions", uses.kernel_functions.iter().copied())
 }
