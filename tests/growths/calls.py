@@ -109,7 +109,7 @@ def types():
 
 def small():
     """One entry more than so many: where a list or a map grows depends on how many it has."""
-    calls = ["by_name", "by_index", "by_key", "by_offset", "by_section", "extended", "copied"]
+    calls = ["by_name", "by_index", "by_key", "by_number", "extended", "copied"]
     rows = [on_file(f"{call}, {count}", b"", "small", f"{call}={count}") for call in calls for count in range(0, 30)]
     return rows + [on_file("a text", b"", "small", "text=some")]
 

@@ -50,7 +50,7 @@ const NAMES: &str =
     user_ringbuf_drain cgrp_storage_get cgrp_storage_delete";
 
 /// The name of the helper function of a number, without `bpf_`.
-pub fn helper_name(number: u32) -> Option<&'static str> {
+pub fn helper_name(number: u64) -> Option<&'static str> {
     NAMES.split(' ').nth(number as usize)
 }
 

@@ -134,7 +134,7 @@ fn slots_among(
     let mut slots = ByName::new(alloc);
     let start = function.section_offset as u64;
     let end = function.end();
-    for (offset, relocation) in relocations.from_offset(start) {
+    for (offset, relocation) in relocations.from_number(start) {
         if u128::from(*offset) >= end {
             return Ok(slots);
         }
@@ -157,7 +157,7 @@ fn first_slots(
 ) -> Result<ByName<usize>, AllocError>
     ensures { IfOk result (λ slots. slots ≡ first_slots object.now (names_in names.now) function.now) }
 {
-    match object.relocations.get(function.section_index.0) {
+    match object.relocations.get(function.section_index.0 as u64) {
         Some(relocations) => slots_among(alloc, object, names, function, relocations),
         None => Ok(ByName::new(alloc)),
     }

@@ -134,7 +134,7 @@ impl<'a> Table<'a> {
     }
 
     /// Adds a cell of the name of a helper function.
-    pub fn push_helper(&mut self, number: u32) -> Result<(), AllocError> {
+    pub fn push_helper(&mut self, number: u64) -> Result<(), AllocError> {
         let Some(name) = helper_name(number) else {
             return self.push_text("-");
         };

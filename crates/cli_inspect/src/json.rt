@@ -96,7 +96,7 @@ fn write_texts<W: Write>(out: &mut W, key: &str, texts: &BTreeSet<&str>) -> io::
 /// Writes a helper function.
 fn write_helper<W: Write>(out: &mut W, helper: u32) -> io::Result<()> {
     write!(out, "{{\"number\":{helper},\"name\":")?;
-    match helper_name(helper) {
+    match helper_name(u64::from(helper)) {
         Some(name) => write!(out, "\"bpf_{name}\"}}"),
         None => write!(out, "null}}"),
     }

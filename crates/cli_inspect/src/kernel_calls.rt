@@ -37,10 +37,10 @@ fn calls_of<'a>(
     function: &Function,
 ) -> Result<BTreeSet<&'a str>, AllocError> {
     let mut names = BTreeSet::new(alloc);
-    let Some(relocations) = object.relocations.get(function.section_index.0) else {
+    let Some(relocations) = object.relocations.get(function.section_index.0 as u64) else {
         return Ok(names);
     };
-    for (offset, relocation) in relocations.from_offset(function.section_offset as u64) {
+    for (offset, relocation) in relocations.from_number(function.section_offset as u64) {
         let slot = slot_at(function, *offset);
         if slot >= function.instructions.len() {
             break;

@@ -178,7 +178,7 @@ fn write_helpers<W: Write>(
     let mut table = Table::new(alloc, &HELPER_COLUMNS)?;
     for helper in helpers.iter() {
         table.push_number(*helper as usize)?;
-        table.push_helper(*helper)?;
+        table.push_helper(u64::from(*helper))?;
     }
     Ok(table.write_under(out, "HELPERS", helpers.len())?)
 }

@@ -52,7 +52,7 @@ impl<'a> Origins<'a> {
         let function = self.parsed.functions.get(key)?;
         let start = function.section_offset as u64;
         let offset = start.checked_add((spot.slot as u64).checked_mul(8)?)?;
-        self.parsed.relocations.get(key.0)?.get(offset)
+        self.parsed.relocations.get(key.0 as u64)?.get(offset)
     }
 
     /// What a symbol of the kernel is, by its name.
@@ -118,7 +118,7 @@ impl<'a> Origins<'a> {
             return None;
         }
         let number = instruction.imm.cast_unsigned();
-        let name = helper_name(number)?;
+        let name = helper_name(u64::from(number))?;
         Some(Subject::Helper { name, number })
     }
 

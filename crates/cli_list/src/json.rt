@@ -175,7 +175,7 @@ fn write_maps<W: Write>(out: &mut W, listing: &Listing<'_>) -> Result<(), Stop> 
 }
 
 /// Writes the name of a helper function, or `null`.
-fn write_helper_name<W: Write>(out: &mut W, helper: u32) -> io::Result<()> {
+fn write_helper_name<W: Write>(out: &mut W, helper: u64) -> io::Result<()> {
     match helper_name(helper) {
         Some(name) => write!(out, "\"bpf_{name}\""),
         None => write!(out, "null"),

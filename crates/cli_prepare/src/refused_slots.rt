@@ -53,8 +53,8 @@ impl Target<'_> {
 
 /// The first slot of a function that refers to something.
 fn first_slot(object: &Object, function: &Function, target: Target<'_>) -> Option<usize> {
-    let relocations = object.relocations.get(function.section_index.0)?;
-    for (offset, relocation) in relocations.from_offset(function.section_offset as u64) {
+    let relocations = object.relocations.get(function.section_index.0 as u64)?;
+    for (offset, relocation) in relocations.from_number(function.section_offset as u64) {
         let slot = slot_at(function, *offset)?;
         let Some(symbol) = object.symbol_table.get(relocation.symbol_index) else {
             continue;

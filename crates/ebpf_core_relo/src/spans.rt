@@ -207,14 +207,14 @@ fn add(
 ) -> Result<(), AllocError>
     ensures { OnOk result (sections.new ≡ with_span sections.old section span (map.get sections.old section)) }
 {
-    match sections.get_mut(section) {
+    match sections.get_mut(section as u64) {
         Some(spans) => {
             spans.push(alloc, span)?;
         }
         None => {
             let mut spans = Spans::new(alloc);
             spans.push(alloc, span)?;
-            sections.insert(section, spans)?;
+            sections.insert(section as u64, spans)?;
         }
     }
     Ok(())
@@ -239,7 +239,7 @@ pub fn section_spans(
 pub fn span_in(sections: &BySection<Spans>, section: usize, offset: usize) -> Option<Span>
     ensures { result ≡ span_at offset (spans_or_none (map.get sections.now section)) }
 {
-    sections.get(section)?.at(offset)
+    sections.get(section as u64)?.at(offset)
 }
 
 /// The functions as they stand, with their spans, and the sections' indexes by name.

@@ -113,7 +113,7 @@ fn one_slot(alloc: Global, slot: InitialSlot) -> Result<ByNumber<InitialSlot>, A
     ensures { IfOk result (λ own. own ≡ finite.insert finite.empty slot.index slot) }
 {
     let mut own = ByNumber::new(alloc);
-    own.insert(slot.index, slot)?;
+    own.insert(slot.index as u64, slot)?;
     Ok(own)
 }
 
@@ -127,7 +127,7 @@ fn add_slot(
 {
     match found.get_mut(slot.map.as_str()) {
         Some(own) => {
-            own.insert(slot.index, slot)?;
+            own.insert(slot.index as u64, slot)?;
         }
         None => {
             let name = String::from_str(alloc, slot.map.as_str())?;

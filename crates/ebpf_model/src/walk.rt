@@ -44,7 +44,7 @@ fn all_from(
     ensures { ahead_in result ≡ entries_from offset (entries_or_none (option_copied section_relocations.entry)) }
 {
     match section_relocations {
-        Some(section_relocations) => Some(section_relocations.from_offset(offset)),
+        Some(section_relocations) => Some(section_relocations.from_number(offset)),
         None => None,
     }
 }
@@ -215,7 +215,7 @@ impl<'a> Walk<'a> {
             return;
         }
         *self = Walk::over(
-            relocations.get(index),
+            relocations.get(index as u64),
             index,
             function.section_offset as u64,
         );

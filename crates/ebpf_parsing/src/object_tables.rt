@@ -88,7 +88,7 @@ fn put_table(
     if kept.is_empty() {
         return Ok(());
     }
-    relocations.insert(section, kept)?;
+    relocations.insert(section as u64, kept)?;
     Ok(())
 }
 

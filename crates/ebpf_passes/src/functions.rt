@@ -170,7 +170,7 @@ fn write_function(
 )
     ensures { function.new ≡ relocated (rule_edit_of rule.now) relocations.now function.old }
 {
-    let Some(section_relocations) = relocations.get(function.section_index.0) else {
+    let Some(section_relocations) = relocations.get(function.section_index.0 as u64) else {
         return;
     };
     let start = function.section_offset as u64;

@@ -71,7 +71,7 @@ pub fn write_slots(
 )
     ensures { slots.new ≡ slots_after (edit_at (rule_edit_of rule.now) section_relocations.now start (length slots.old)) slots.old }
 {
-    for (offset, relocation) in section_relocations.from_offset(start) {
+    for (offset, relocation) in section_relocations.from_number(start) {
         let distance = offset.saturating_sub(start);
         if distance / 8 >= slots.len() as u64 {
             break;

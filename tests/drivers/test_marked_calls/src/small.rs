@@ -1,7 +1,7 @@
 //! Small types that grow by one: something is added to so many as the word says, or all is copied.
 
 use crate::call::{Call, say};
-use ebpf_base::{ByIndex, ByKey, ByName, ByOffset, BySection, Items, Text};
+use ebpf_base::{ByIndex, ByKey, ByName, ByNumber, Items, Text};
 use std::alloc::{AllocError, Global};
 use std::fmt::Debug;
 use std::io;
@@ -32,16 +32,9 @@ impl Grow for ByKey<u32> {
     }
 }
 
-impl Grow for ByOffset<u32> {
+impl Grow for ByNumber<u32> {
     fn add(&mut self, _alloc: Global, number: u32) -> Result<(), AllocError> {
         self.insert(u64::from(number), number)?;
-        Ok(())
-    }
-}
-
-impl Grow for BySection<u32> {
-    fn add(&mut self, _alloc: Global, number: u32) -> Result<(), AllocError> {
-        self.insert(number as usize, number)?;
         Ok(())
     }
 }
@@ -97,8 +90,7 @@ pub fn on_small(call: &Call<'_>) -> io::Result<()> {
         "by_name" => grown::<ByName<u32>>(ByName::new(call.rt.alloc()), call),
         "by_index" => grown::<ByIndex<u32>>(ByIndex::new(call.rt.alloc()), call),
         "by_key" => grown::<ByKey<u32>>(ByKey::new(call.rt.alloc()), call),
-        "by_offset" => grown::<ByOffset<u32>>(ByOffset::new(call.rt.alloc()), call),
-        "by_section" => grown::<BySection<u32>>(BySection::new(call.rt.alloc()), call),
+        "by_number" => grown::<ByNumber<u32>>(ByNumber::new(call.rt.alloc()), call),
         "extended" => grown::<Items<u32>>(Items::new(call.rt.alloc()), call),
         "copied" => copy(call),
         "text" => text(call),

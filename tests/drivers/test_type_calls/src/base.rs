@@ -1,6 +1,6 @@
 //! Each call that takes memory, once on its happy path.
 
-use ebpf_base::{ByIndex, ByKey, ByName, ByOffset, BySection, Items, Text};
+use ebpf_base::{ByIndex, ByKey, ByName, ByNumber, Items, Text};
 use std::alloc::{AllocError, Global};
 use std::collections::{BTreeMap, HashMap};
 use std::test::Fail;
@@ -91,17 +91,10 @@ fn by_index(rt: HostRuntime) -> Result<(), Fail> {
 }
 
 #[test]
-fn offsets(rt: HostRuntime) -> Result<(), Fail> {
-    let mut offsets = ByOffset::from_map(BTreeMap::new(rt.alloc()));
-    offsets.insert(8, 1u32)?;
-    holds(offsets.clone()? == offsets, "by offset")
-}
-
-#[test]
-fn sections(rt: HostRuntime) -> Result<(), Fail> {
-    let mut sections = BySection::from_map(BTreeMap::new(rt.alloc()));
-    sections.insert(4, 1u32)?;
-    holds(sections.clone()? == sections, "by section")
+fn numbers(rt: HostRuntime) -> Result<(), Fail> {
+    let mut numbers = ByNumber::from_map(BTreeMap::new(rt.alloc()));
+    numbers.insert(8, 1u32)?;
+    holds(numbers.clone()? == numbers, "by number")
 }
 
 #[test]
