@@ -22,12 +22,12 @@ fn add_caller(
 ) -> Result<(), AllocError>
     ensures { OnOk result (users.new ≡ with_user_beside users.old helper program (finite.get users.old helper)) }
 {
-    match users.get_mut(u64::from(helper)) {
+    match users.get_mut(helper as u64) {
         Some(numbers) => {
             note(numbers, program)?;
         }
         None => {
-            users.insert(u64::from(helper), one_number(alloc, program)?)?;
+            users.insert(helper as u64, one_number(alloc, program)?)?;
         }
     }
     Ok(())

@@ -135,7 +135,7 @@ fn one_slot(alloc: Global, slot: InitialSlot) -> Result<ByNumber<InitialSlot>, A
     ensures { IfOk result (λ own. own ≡ finite.insert finite.empty slot.index slot) }
 {
     let mut own = ByNumber::new(alloc);
-    own.insert(u64::from(slot.index), slot)?;
+    own.insert(slot.index as u64, slot)?;
     Ok(own)
 }
 
@@ -149,7 +149,7 @@ fn add_slot(
 {
     match found.get_mut(slot.map.as_str()) {
         Some(own) => {
-            own.insert(u64::from(slot.index), slot)?;
+            own.insert(slot.index as u64, slot)?;
         }
         None => {
             let name = String::from_str(alloc, slot.map.as_str())?;
