@@ -3,7 +3,7 @@
 use crate::session::{Judgement, KernelAnswer, Session};
 use crate::verdict::findings::{Finding, FindingKey, Severity, SourceLocation};
 use cli_common::kinds::Kind;
-use cli_common::names::{Shown, last_part, write_value};
+use cli_common::names::{EscapedName, last_part, write_value};
 use std::collections::{BTreeMap, BTreeSet};
 use std::io::{self, Write};
 
@@ -16,7 +16,7 @@ pub fn write_kernel<W: Write>(
     kernel: &KernelAnswer,
     programs: usize,
 ) -> io::Result<()> {
-    let name = Shown(kernel.name.as_str());
+    let name = EscapedName(kernel.name.as_str());
     let breaking = kernel.breaking();
     match &kernel.answer {
         Judgement::Unread(_) => writeln!(out, "unread  -/{programs} programs  {name}"),
@@ -28,15 +28,15 @@ pub fn write_kernel<W: Write>(
 }
 
 /// The name of the kernel of a number.
-fn kernel_name(session: &Session, number: usize) -> Shown<'_> {
+fn kernel_name(session: &Session, number: usize) -> EscapedName<'_> {
     match session.kernels.get(number) {
-        Some(kernel) => Shown(kernel.name.as_str()),
-        None => Shown(""),
+        Some(kernel) => EscapedName(kernel.name.as_str()),
+        None => EscapedName(""),
     }
 }
 
 /// Writes a name, behind a comma where it isn't the first.
-fn write_name<W: Write>(out: &mut W, name: Shown<'_>, is_first: bool) -> io::Result<()> {
+fn write_name<W: Write>(out: &mut W, name: EscapedName<'_>, is_first: bool) -> io::Result<()> {
     if is_first {
         write!(out, "{name}")
     } else {
@@ -79,14 +79,14 @@ fn write_on<W: Write>(out: &mut W, session: &Session, kernels: &[usize]) -> io::
 /// Writes the program of a location, its slot and the function that the slot was copied from.
 fn write_slot<W: Write>(out: &mut W, session: &Session, place: &SourceLocation) -> io::Result<()> {
     if let Some(program) = session.loaded.needs.programs.get(place.program) {
-        let name = Shown(program.name.as_str());
+        let name = EscapedName(program.name.as_str());
         write!(out, "{name}")?;
     }
     if let Some(slot) = place.slot {
         write!(out, " slot {slot}")?;
     }
     if let Some((function, slot)) = &place.within {
-        let function = Shown(function.as_str());
+        let function = EscapedName(function.as_str());
         write!(out, " ({function}+{slot})")?;
     }
     Ok(())
@@ -102,7 +102,7 @@ fn write_place<W: Write>(
     write!(out, "    ")?;
     write_slot(out, session, place)?;
     if let Some((file, line)) = &place.line {
-        let file = Shown(last_part(file.as_str()));
+        let file = EscapedName(last_part(file.as_str()));
         write!(out, "  {file}:{line}")?;
     }
     if place.kernels.len() < kernels.len() {
@@ -124,10 +124,10 @@ fn write_kinds<W: Write>(out: &mut W, kinds: &BTreeSet<Kind>) -> io::Result<()> 
 
 /// Writes the first line of a finding that is absent or refused: its name, the kinds of question, and the reason.
 fn write_reason<W: Write>(out: &mut W, key: &FindingKey, kinds: &BTreeSet<Kind>) -> io::Result<()> {
-    let name = Shown(key.name.as_str());
+    let name = EscapedName(key.name.as_str());
     write!(out, "  {name}  ")?;
     write_kinds(out, kinds)?;
-    let reason = Shown(key.reason.as_str());
+    let reason = EscapedName(key.reason.as_str());
     writeln!(out, " {reason}")
 }
 
@@ -172,7 +172,7 @@ fn write_changed<W: Write>(
     key: &FindingKey,
     found: &Finding,
 ) -> io::Result<()> {
-    let name = Shown(key.name.as_str());
+    let name = EscapedName(key.name.as_str());
     write!(out, "  {name}  ")?;
     if key.kind != Kind::EnumeratorValue {
         let kind = key.kind.word();
@@ -223,7 +223,7 @@ fn write_settings<W: Write>(out: &mut W, session: &Session) -> io::Result<()> {
         "WANTED (of the kernel's configuration; not looked for)"
     )?;
     for name in session.loaded.needs.settings.iter() {
-        let name = Shown(name.as_str());
+        let name = EscapedName(name.as_str());
         writeln!(out, "  {name}")?;
     }
     Ok(())
@@ -231,7 +231,7 @@ fn write_settings<W: Write>(out: &mut W, session: &Session) -> io::Result<()> {
 
 /// Writes the last line: on how many kernels how many programs break or run.
 fn write_summary<W: Write>(out: &mut W, session: &Session) -> io::Result<()> {
-    let file = Shown(session.file.as_str());
+    let file = EscapedName(session.file.as_str());
     let judged = session.judged();
     let programs = session.loaded.needs.programs.len();
     let broken = session.broken();

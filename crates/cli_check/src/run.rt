@@ -8,7 +8,7 @@ use crate::verdict::loaded::{Loaded, Needs};
 use cli_common::kernel_types::read_kernel;
 use cli_common::object_file::{parsed_object, read_object};
 use cli_common::programs::ObjectProgram;
-use cli_common::refusal::{READING, Refusal};
+use cli_common::refusal::{FileRefusal, READING};
 use cli_common::refuse::{Stop, chosen_programs, tell};
 use ebpf_base::{Items, Text};
 use ebpf_object::Object;
@@ -104,8 +104,8 @@ fn judge_file(rt: &HostRuntime, session: &mut Session, name: Text) -> Result<(),
 }
 
 /// The refusal of a folder without files.
-fn folder_refusal(alloc: Global, fault: &Text) -> Result<Refusal, AllocError> {
-    Ok(Refusal {
+fn folder_refusal(alloc: Global, fault: &Text) -> Result<FileRefusal, AllocError> {
+    Ok(FileRefusal {
         stage: READING,
         variant: "CannotRead",
         text: String::from_str(alloc, fault.as_str())?,

@@ -6,7 +6,7 @@ ghost use Rattle.cli_check.specs.Statuses.{status_of};
 use crate::verdict::findings::{Findings, Severity};
 use crate::verdict::judge_kernel;
 use crate::verdict::loaded::Loaded;
-use cli_common::refusal::Refusal;
+use cli_common::refusal::FileRefusal;
 use ebpf_base::Text;
 use ebpf_btf::Btf;
 use std::alloc::{AllocError, Global};
@@ -17,7 +17,7 @@ pub enum Judgement {
     /// Whether each program that counts breaks on the kernel.
     Judged(Vec<bool>),
     /// The reason why the kernel's types can't be read.
-    Unread(Refusal),
+    Unread(FileRefusal),
 }
 
 /// A kernel with its verdict.
@@ -101,7 +101,7 @@ impl Session {
     }
 
     /// Adds a kernel whose types can't be read.
-    pub fn note_unread(&mut self, name: Text, refusal: Refusal) -> Result<(), AllocError> {
+    pub fn note_unread(&mut self, name: Text, refusal: FileRefusal) -> Result<(), AllocError> {
         self.kernels.push(KernelAnswer {
             name,
             answer: Judgement::Unread(refusal),

@@ -1,6 +1,6 @@
 //! The types of a kernel, from a file.
 
-use crate::refusal::{READING, Refusal, help_of};
+use crate::refusal::{FileRefusal, READING, help_of};
 use crate::refuse::read_plain;
 use crate::variants::variant_of_types;
 use ebpf_btf::{Btf, BtfError, Endianness};
@@ -119,11 +119,11 @@ impl KernelError {
 }
 
 /// Why a file gives no types, as a refusal.
-fn refusal_of(alloc: Global, error: &KernelError) -> Result<Refusal, AllocError> {
+fn refusal_of(alloc: Global, error: &KernelError) -> Result<FileRefusal, AllocError> {
     if matches!(error, KernelError::Types(BtfError::OutOfMemory)) {
         return Err(AllocError);
     }
-    Ok(Refusal {
+    Ok(FileRefusal {
         stage: READING,
         variant: error.variant(),
         text: format!(in alloc; "{error}")?,
@@ -140,7 +140,7 @@ pub fn read_kernel(
     rt: &HostRuntime,
     path: &str,
     order: Endianness,
-) -> Result<Result<Btf, Refusal>, AllocError> {
+) -> Result<Result<Btf, FileRefusal>, AllocError> {
     let alloc = rt.alloc();
     let bytes = match read_plain(rt, path)? {
         Ok(bytes) => bytes,

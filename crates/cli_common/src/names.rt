@@ -13,7 +13,7 @@ use std::io::{self, Write};
 /// A name as text shows it: a control character, a backslash and a character that turns the direction of a line are
 /// written as their bytes, `\xNN` each.
 #[derive(Clone, Copy)]
-pub struct Shown<'a>(pub &'a str);
+pub struct EscapedName<'a>(pub &'a str);
 
 /// Whether a character speaks to a terminal: the controls, the marks and overrides of a line's direction, and the two
 /// separators of lines.
@@ -83,7 +83,7 @@ fn write_name<W: fmt::Write>(f: &mut fmt::Formatter<W>, name: &str) -> fmt::Resu
     Ok(())
 }
 
-impl fmt::Display for Shown<'_> {
+impl fmt::Display for EscapedName<'_> {
     ghost use Rattle.std.specs.Prelude.{Some};
     ghost use Rattle.cli_common.specs.Shown.{shown};
 

@@ -6,7 +6,7 @@ ghost use Rattle.ebpf_parts.specs.declared.reading.Reading.TheVariants.{Broad};
 
 use crate::embedded::{ObjectRange, embedded_objects};
 use crate::machines::{machine_name, other_machine};
-use crate::refusal::{READING, Refusal};
+use crate::refusal::{FileRefusal, READING};
 use crate::refuse::{Stop, read_given, refuse_parsing, refused};
 use ebpf_object::Object;
 use ebpf_parts::{ParseError, Reading};
@@ -14,7 +14,7 @@ use std::alloc::{AllocError, Global};
 use std::io::{self, Read};
 use std::{env, fs};
 
-/// For which machine a file is.
+/// The machine of a file, in words.
 fn machine_text(alloc: Global, machine: u16) -> Result<String, AllocError> {
     match machine_name(machine) {
         Some(name) => format!(in alloc; "is for {name} (machine {machine})"),
@@ -23,8 +23,8 @@ fn machine_text(alloc: Global, machine: u16) -> Result<String, AllocError> {
 }
 
 /// A refusal of a choice among the objects of a file.
-fn no_choice(variant: &'static str, text: String, help: Option<String>) -> Refusal {
-    Refusal {
+fn no_choice(variant: &'static str, text: String, help: Option<String>) -> FileRefusal {
+    FileRefusal {
         stage: READING,
         variant,
         text,
@@ -32,14 +32,14 @@ fn no_choice(variant: &'static str, text: String, help: Option<String>) -> Refus
     }
 }
 
-/// That a file of another machine holds no object.
-fn without_object(alloc: Global, machine: u16) -> Result<Refusal, AllocError> {
+/// The refusal of a file for another machine that holds no object.
+fn without_object(alloc: Global, machine: u16) -> Result<FileRefusal, AllocError> {
     let mut text = machine_text(alloc, machine)?;
     text.push_str(" and holds no eBPF object")?;
     Ok(no_choice("NoObject", text, None))
 }
 
-/// The objects that can be chosen, with where they stand.
+/// The objects that can be chosen, with their sizes and offsets.
 fn choices(alloc: Global, found: &[ObjectRange]) -> Result<String, AllocError> {
     let mut text = String::new(alloc);
     for (at, range) in found.iter().enumerate() {
@@ -55,13 +55,13 @@ fn choices(alloc: Global, found: &[ObjectRange]) -> Result<String, AllocError> {
     Ok(text)
 }
 
-/// That none of several objects is chosen, or one that isn't there.
+/// The refusal of a choice that selects none of several objects.
 fn without_choice(
     alloc: Global,
     machine: u16,
     found: &[ObjectRange],
     number: Option<usize>,
-) -> Result<Refusal, AllocError> {
+) -> Result<FileRefusal, AllocError> {
     let mut text = machine_text(alloc, machine)?;
     let count = found.len();
     write!(text, " and holds {count} eBPF objects")?;
@@ -76,8 +76,8 @@ fn without_choice(
     Ok(no_choice(variant, text, Some(choices(alloc, found)?)))
 }
 
-/// That a file that is an object is asked for another one.
-fn without_other(alloc: Global, number: usize) -> Result<Refusal, AllocError> {
+/// The refusal of a second object in a file that is one object.
+fn without_other(alloc: Global, number: usize) -> Result<FileRefusal, AllocError> {
     let text = format!(in alloc; "is one eBPF object, no object {number}")?;
     Ok(no_choice("NoObject", text, None))
 }
@@ -97,7 +97,7 @@ fn taken(
     file: &[u8],
     machine: u16,
     number: Option<usize>,
-) -> Result<Result<Vec<u8>, (Refusal, u8)>, AllocError> {
+) -> Result<Result<Vec<u8>, (FileRefusal, u8)>, AllocError> {
     let found = embedded_objects(alloc, file)?;
     if found.is_empty() {
         return Ok(Err((without_object(alloc, machine)?, 1)));

@@ -69,16 +69,20 @@ pub fn record_name(
 
 /// What a record asks, and what the object's own types answer.
 #[derive(Drop)]
-pub struct Asked {
+pub struct RecordSubject {
     /// What the record is about.
     pub name: String,
     /// The value that the object's own types give it. None where they give none.
     pub own: Option<u64>,
 }
 
-impl Asked {
+impl RecordSubject {
     /// What a record asks, and what the object's own types answer: its access string is read once for both.
-    pub fn of(alloc: Global, local: &Btf, relocation: &Relocation) -> Result<Asked, AllocError> {
+    pub fn of(
+        alloc: Global,
+        local: &Btf,
+        relocation: &Relocation,
+    ) -> Result<RecordSubject, AllocError> {
         let mut name = String::new(alloc);
         add_type(&mut name, local, relocation.type_id)?;
         let own = match local_path(alloc, local, relocation) {
@@ -92,7 +96,7 @@ impl Asked {
                 None
             }
         };
-        Ok(Asked { name, own })
+        Ok(RecordSubject { name, own })
     }
 }
 

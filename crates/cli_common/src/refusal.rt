@@ -1,28 +1,28 @@
-//! Why a file is refused, in words.
+//! Refusals of files: their parts, and their text and JSON.
 
 use crate::json::write_document;
-use crate::names::Shown;
+use crate::names::EscapedName;
 use std::alloc::{AllocError, Global};
 use std::fmt;
 use std::io::{self, Write};
 
-/// The stage at which files are read, and what is asked of them is looked for.
+/// The stage of reading files and choosing among their parts.
 pub const READING: &str = "file";
 
-/// Why a file is refused.
+/// The reason to refuse a file.
 #[derive(Drop)]
-pub struct Refusal {
-    /// The stage that refuses: `file`, `parse`, or a pass.
+pub struct FileRefusal {
+    /// The stage that refuses: `file`, `parse` or a pass.
     pub stage: &'static str,
     /// The name of the error.
     pub variant: &'static str,
-    /// The error in a sentence.
+    /// The error as a sentence.
     pub text: String,
-    /// What one can do, where one can.
+    /// The remedy, if one is known.
     pub help: Option<String>,
 }
 
-/// A help of known words.
+/// A copy of a known help text.
 pub fn help_of(alloc: Global, words: Option<&str>) -> Result<Option<String>, AllocError> {
     match words {
         Some(words) => Ok(Some(String::from_str(alloc, words)?)),
@@ -30,19 +30,19 @@ pub fn help_of(alloc: Global, words: Option<&str>) -> Result<Option<String>, All
     }
 }
 
-/// A refusal of a file as people read it: one line, and one more with the help.
+/// A refusal of a file as text: one line, and a second one with the help.
 #[derive(Clone, Copy)]
 pub struct RefusalLines<'a> {
     /// The file.
     pub path: &'a str,
-    /// Why it is refused.
-    pub refusal: &'a Refusal,
+    /// The refusal.
+    pub refusal: &'a FileRefusal,
 }
 
 impl fmt::Display for RefusalLines<'_> {
     fn fmt<W: fmt::Write>(&self, f: &mut fmt::Formatter<W>) -> fmt::Result {
         let refusal = self.refusal;
-        let (path, text) = (Shown(self.path), Shown(refusal.text.as_str()));
+        let (path, text) = (EscapedName(self.path), EscapedName(refusal.text.as_str()));
         write!(f, "ebpf: {path}: {text}")?;
         if refusal.stage != READING {
             write!(f, " ({}: {})", refusal.stage, refusal.variant)?;
@@ -50,13 +50,13 @@ impl fmt::Display for RefusalLines<'_> {
         let Some(help) = &refusal.help else {
             return Ok(());
         };
-        let help = Shown(help.as_str());
+        let help = EscapedName(help.as_str());
         write!(f, "\n  help: {help}")
     }
 }
 
 /// Writes a refusal of a file as one JSON object, on one line.
-pub fn write_refusal<W: Write>(out: &mut W, path: &str, refusal: &Refusal) -> io::Result<()> {
+pub fn write_refusal<W: Write>(out: &mut W, path: &str, refusal: &FileRefusal) -> io::Result<()> {
     write_document(out, |json| {
         json.key("error")?;
         json.object(|json| {

@@ -1,10 +1,10 @@
-//! Refusals, told.
+//! Refusals of files, and how they are reported.
 
 use crate::compressed::Compression;
 use crate::object_file::read_file;
 use crate::parse_help::parse_help;
 use crate::programs::{ObjectProgram, object_programs};
-use crate::refusal::{READING, Refusal, RefusalLines, help_of, write_refusal};
+use crate::refusal::{FileRefusal, READING, RefusalLines, help_of, write_refusal};
 use crate::variants::variant_of_parsing;
 use ebpf_base::Text;
 use ebpf_object::Object;
@@ -13,38 +13,43 @@ use ebpf_parts::ParseError;
 use std::alloc::{AllocError, Global};
 use std::io::{self, BufWriter, ErrorKind, Write};
 
-/// Tells a refusal of a file on standard error.
-pub fn tell(rt: &HostRuntime, path: &str, refusal: &Refusal) {
+/// Prints a refusal of a file on standard error.
+pub fn tell(rt: &HostRuntime, path: &str, refusal: &FileRefusal) {
     let lines = RefusalLines { path, refusal };
     let _ = eprintln!(rt; "{lines}");
 }
 
 /// Prints a refusal of a file as JSON.
-fn print_refusal(rt: &HostRuntime, path: &str, refusal: &Refusal) -> io::Result<()> {
+fn print_refusal(rt: &HostRuntime, path: &str, refusal: &FileRefusal) -> io::Result<()> {
     let mut out = BufWriter::new(rt.alloc(), rt.stdout())?;
     write_refusal(&mut out, path, refusal)?;
     out.flush()
 }
 
-/// Tells a refusal of a file, as JSON on standard output too where that is asked for; why the work ends, with this status.
-pub fn refused(rt: &HostRuntime, json: bool, path: &str, refusal: &Refusal, status: u8) -> Stop {
+/// Reports a refusal of a file, on standard output as JSON too if `json` holds. Returns the reason to stop, with the status.
+pub fn refused(
+    rt: &HostRuntime,
+    json: bool,
+    path: &str,
+    refusal: &FileRefusal,
+    status: u8,
+) -> Stop {
     tell(rt, path, refusal);
-    match if json {
-        print_refusal(rt, path, refusal)
-    } else {
-        Ok(())
-    } {
+    if !json {
+        return Stop::Told(status);
+    }
+    match print_refusal(rt, path, refusal) {
         Ok(()) => Stop::Told(status),
         Err(error) => Stop::Output(error),
     }
 }
 
-/// Why a file can't be read, as the system has it.
-fn unreadable(alloc: Global, error: &io::Error) -> Result<Refusal, AllocError> {
+/// The refusal of a file that the system can't read.
+fn unreadable(alloc: Global, error: &io::Error) -> Result<FileRefusal, AllocError> {
     if matches!(error.kind(), ErrorKind::OutOfMemory) {
         return Err(AllocError);
     }
-    Ok(Refusal {
+    Ok(FileRefusal {
         stage: READING,
         variant: "CannotRead",
         text: format!(in alloc; "{error}")?,
@@ -52,10 +57,10 @@ fn unreadable(alloc: Global, error: &io::Error) -> Result<Refusal, AllocError> {
     })
 }
 
-/// That a file is compressed.
-fn compressed(alloc: Global, path: &str, by: Compression) -> Result<Refusal, AllocError> {
+/// The refusal of a compressed file.
+fn compressed(alloc: Global, path: &str, by: Compression) -> Result<FileRefusal, AllocError> {
     let program = by.program();
-    Ok(Refusal {
+    Ok(FileRefusal {
         stage: READING,
         variant: "Compressed",
         text: format!(in alloc; "compressed ({program})")?,
@@ -63,12 +68,15 @@ fn compressed(alloc: Global, path: &str, by: Compression) -> Result<Refusal, All
     })
 }
 
-/// The bytes of a file, or why it is refused: it can't be read, or is compressed.
+/// The bytes of a file, or the refusal of a file that is unreadable or compressed.
 ///
 /// # Errors
 ///
-/// The outer one where memory is refused.
-pub fn read_plain(rt: &HostRuntime, path: &str) -> Result<Result<Vec<u8>, Refusal>, AllocError> {
+/// - `AllocError` (the outer one): out of memory.
+pub fn read_plain(
+    rt: &HostRuntime,
+    path: &str,
+) -> Result<Result<Vec<u8>, FileRefusal>, AllocError> {
     let alloc = rt.alloc();
     let bytes = match read_file(rt, path) {
         Ok(bytes) => bytes,
@@ -80,7 +88,7 @@ pub fn read_plain(rt: &HostRuntime, path: &str) -> Result<Result<Vec<u8>, Refusa
     }
 }
 
-/// The bytes of a file that words name; one that is refused is told.
+/// The bytes of a file of the command line. A refusal is reported.
 pub fn read_given(rt: &HostRuntime, json: bool, path: &str) -> Result<Vec<u8>, Stop> {
     match read_plain(rt, path)? {
         Ok(bytes) => Ok(bytes),
@@ -88,10 +96,10 @@ pub fn read_given(rt: &HostRuntime, json: bool, path: &str) -> Result<Vec<u8>, S
     }
 }
 
-/// Why an object can't be parsed.
-fn unparsed(alloc: Global, file: &[u8], error: &ParseError) -> Result<Refusal, AllocError> {
+/// The refusal of an object that can't be parsed.
+fn unparsed(alloc: Global, file: &[u8], error: &ParseError) -> Result<FileRefusal, AllocError> {
     let explained = ExplainedParse::new(file, error);
-    Ok(Refusal {
+    Ok(FileRefusal {
         stage: "parse",
         variant: variant_of_parsing(error),
         text: format!(in alloc; "{explained}")?,
@@ -99,7 +107,7 @@ fn unparsed(alloc: Global, file: &[u8], error: &ParseError) -> Result<Refusal, A
     })
 }
 
-/// Says why an object can't be parsed.
+/// Reports an error of parsing.
 pub fn refuse_parsing(
     rt: &HostRuntime,
     json: bool,
@@ -116,7 +124,7 @@ pub fn refuse_parsing(
     }
 }
 
-/// The names of programs, one behind the other.
+/// The names of all programs, after a title.
 fn known_names(alloc: Global, programs: &[ObjectProgram]) -> Result<String, AllocError> {
     let mut names = String::from_str(alloc, "its programs:")?;
     let mut between = " ";
@@ -128,18 +136,18 @@ fn known_names(alloc: Global, programs: &[ObjectProgram]) -> Result<String, Allo
     Ok(names)
 }
 
-/// That an object has no program of a name.
+/// The refusal of a program name that the object lacks.
 fn no_program(
     alloc: Global,
     programs: &[ObjectProgram],
     name: &str,
-) -> Result<Refusal, AllocError> {
+) -> Result<FileRefusal, AllocError> {
     let help = if programs.is_empty() {
         String::from_str(alloc, "it has no program")?
     } else {
         known_names(alloc, programs)?
     };
-    Ok(Refusal {
+    Ok(FileRefusal {
         stage: READING,
         variant: "NoProgram",
         text: format!(in alloc; "no program {name}")?,
@@ -147,14 +155,14 @@ fn no_program(
     })
 }
 
-/// Whether a program has a name.
+/// Whether some program has a name.
 fn has_name(programs: &[ObjectProgram], name: &Text) -> bool {
     programs
         .iter()
         .any(|program| program.name.is(name.as_str()))
 }
 
-/// Refuses names that no program of an object has.
+/// Refuses names that no program has.
 fn check_names(
     rt: &HostRuntime,
     json: bool,
@@ -172,7 +180,7 @@ fn check_names(
     Ok(())
 }
 
-/// The programs of these names.
+/// The programs that have one of these names.
 fn of_names(
     alloc: Global,
     programs: Vec<ObjectProgram>,
@@ -188,7 +196,7 @@ fn of_names(
     Ok(chosen)
 }
 
-/// The programs of an object that have these names, or all without a name; a name that no program has is told.
+/// The programs of an object that have these names, or all if no name is given. A name that no program has is reported.
 pub fn chosen_programs(
     rt: &HostRuntime,
     json: bool,
@@ -205,14 +213,14 @@ pub fn chosen_programs(
     Ok(of_names(rt.alloc(), programs, names)?)
 }
 
-/// Why the work ends before its end.
+/// Why a command stops early.
 #[derive(Drop)]
 pub enum Stop {
-    /// What was told already; with the status.
+    /// A refusal, reported already; with the status.
     Told(u8),
-    /// The output can't be written.
+    /// An error of writing the output.
     Output(io::Error),
-    /// No memory was found.
+    /// Out of memory.
     Memory,
 }
 
@@ -228,7 +236,7 @@ impl From<io::Error> for Stop {
     }
 }
 
-/// Says why nothing more is done, and gives the status. An output whose reader is gone ends without a word.
+/// Reports why a command stops, and returns the status. A closed pipe isn't reported.
 pub fn stopped(rt: &HostRuntime, stop: Stop) -> u8 {
     match stop {
         Stop::Told(status) => status,

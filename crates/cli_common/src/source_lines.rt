@@ -8,7 +8,7 @@ use std::alloc::{AllocError, Global};
 
 /// A slot in the copy of a function.
 #[derive(Clone, Copy)]
-pub struct Span {
+pub struct LineSpan {
     /// Where the copy begins.
     pub begin: usize,
     /// Where it ends.
@@ -28,7 +28,7 @@ pub struct LineNumber {
     pub number: u32,
 }
 
-/// The source lines of a program's slots.
+/// The source lines of the slots of a linked program.
 #[derive(Drop)]
 pub struct Lines<'a> {
     records: &'a [bpf_line_info],
@@ -36,7 +36,7 @@ pub struct Lines<'a> {
     begins: Vec<usize>,
 }
 
-/// A table in which no record begins anywhere.
+/// A table of slots at which no record begins.
 fn empty_table(alloc: Global, slots: usize, none: usize) -> Result<Vec<usize>, AllocError> {
     let mut begins = Vec::with_capacity(alloc, slots)?;
     for _ in 0..slots {
@@ -45,7 +45,7 @@ fn empty_table(alloc: Global, slots: usize, none: usize) -> Result<Vec<usize>, A
     Ok(begins)
 }
 
-/// Notes where records begin; of several at a slot the last one stands.
+/// Notes the slots at which records begin. The last record of a slot wins.
 fn note_records(begins: &mut [usize], records: &[bpf_line_info]) {
     for (number, record) in records.iter().enumerate() {
         if let Some(place) = begins.get_mut(record.insn_off as usize) {
@@ -64,7 +64,7 @@ impl<'a> Lines<'a> {
         Ok(Lines { records, begins })
     }
 
-    /// The record of a number, where it names a line.
+    /// The record of a number, if it names a line.
     fn naming(&self, number: usize) -> Option<&'a bpf_line_info> {
         let record = self.records.get(number)?;
         if record.line_col >> 10 == 0 {
@@ -73,7 +73,7 @@ impl<'a> Lines<'a> {
         Some(record)
     }
 
-    /// The line that begins at a slot, where one does.
+    /// The line that begins at a slot, if any.
     pub fn beginning(&self, slot: usize) -> Option<LineNumber> {
         let number = self.begins.get(slot)?;
         let record = self.naming(*number)?;
@@ -105,7 +105,7 @@ impl<'a> Lines<'a> {
 
     /// The record of a slot: where it leads the instructions behind it, which have lines of their own, the first one from
     /// it on; else, and where there is none, the last one up to it.
-    fn record(&self, span: Span) -> Option<&'a bpf_line_info> {
+    fn record(&self, span: LineSpan) -> Option<&'a bpf_line_info> {
         if span.leads {
             if let Some(record) = self.first_in(span.slot, span.end) {
                 return Some(record);
@@ -119,7 +119,7 @@ impl<'a> Lines<'a> {
         &self,
         alloc: Global,
         local: Option<&Btf>,
-        span: Span,
+        span: LineSpan,
     ) -> Result<Option<(Text, u32)>, AllocError> {
         let (Some(local), Some(record)) = (local, self.record(span)) else {
             return Ok(None);

@@ -1,7 +1,7 @@
 //! Tables of text.
 
 use crate::helper_calls::helper_name;
-use crate::names::Shown;
+use crate::names::EscapedName;
 use crate::types::map_type_name;
 use std::alloc::{AllocError, Global};
 use std::fmt::Write as _;
@@ -107,7 +107,7 @@ impl<'a> Table<'a> {
     /// Adds a cell of a text, as text shows names.
     pub fn push_text(&mut self, text: &str) -> Result<(), AllocError> {
         let start = self.text.len();
-        let text = Shown(text);
+        let text = EscapedName(text);
         write!(self.text, "{text}")?;
         self.end(start)
     }

@@ -34,7 +34,7 @@ pub fn edges_of(alloc: Global, map: &LinkMap) -> Result<Vec<Edge>, AllocError> {
     Ok(edges)
 }
 
-/// Those of some references that are calls.
+/// The calls among references.
 fn calls_among(alloc: Global, edges: &[Edge]) -> Result<Vec<Edge>, AllocError> {
     let mut calls = Vec::new(alloc);
     for edge in edges {
@@ -47,7 +47,7 @@ fn calls_among(alloc: Global, edges: &[Edge]) -> Result<Vec<Edge>, AllocError> {
 
 /// A walk over copies, each after all that refer to it.
 #[derive(Drop)]
-struct Walk {
+struct ChainWalk {
     /// How many references to each copy are still to come.
     waiting: Vec<usize>,
     /// How many functions the deepest chain to each copy has, its own too.
@@ -88,19 +88,19 @@ fn edges_from(edges: &[Edge], copy: usize) -> &[Edge] {
     rest.get(..length).unwrap_or(&[])
 }
 
-impl Walk {
-    fn new(alloc: Global, count: usize, edges: &[Edge]) -> Result<Walk, AllocError> {
+impl ChainWalk {
+    fn new(alloc: Global, count: usize, edges: &[Edge]) -> Result<ChainWalk, AllocError> {
         let waiting = counted(alloc, count, edges)?;
         let ready = without(alloc, &waiting)?;
         let depths = vec![in alloc; 1usize; count]?;
-        Ok(Walk {
+        Ok(ChainWalk {
             waiting,
             depths,
             ready,
         })
     }
 
-    /// Comes to a copy by one of its references, on a chain of so many functions.
+    /// Follows a reference to a copy, on a chain of `depth` functions.
     fn arrive(&mut self, copy: usize, depth: usize) -> Result<(), AllocError> {
         if let Some(known) = self.depths.get_mut(copy) {
             *known = depth.max(*known);
@@ -115,7 +115,7 @@ impl Walk {
         Ok(())
     }
 
-    /// Goes on from a copy by its references.
+    /// Follows the references of a copy.
     fn leave(&mut self, copy: usize, edges: &[Edge]) -> Result<(), AllocError> {
         let depth = self.depths.get(copy).copied().unwrap_or(0);
         for edge in edges {
@@ -130,9 +130,9 @@ impl Walk {
     }
 }
 
-/// How many functions the deepest chain of these references has; none where one leads back to its beginning.
+/// The number of functions in the deepest chain of these references. `None` if they form a cycle.
 fn longest(alloc: Global, count: usize, edges: &[Edge]) -> Result<Option<usize>, AllocError> {
-    let mut walk = Walk::new(alloc, count, edges)?;
+    let mut walk = ChainWalk::new(alloc, count, edges)?;
     for _ in 0..count {
         let Some(copy) = walk.ready.pop() else {
             return Ok(None);

@@ -1,4 +1,4 @@
-//! What an object's linked programs are made of, told.
+//! The command `ebpf inspect`.
 
 use crate::json::write_json;
 use crate::parts::{ProgramParts, all_parts};
@@ -12,7 +12,7 @@ use ebpf_object::Object;
 use ebpf_object::relocation::LinkMap;
 use std::io::{BufWriter, Write};
 
-/// What is told of an object.
+/// The parts of a prepared object that are printed.
 #[derive(Drop)]
 struct Told {
     /// The object as it was parsed.
@@ -44,7 +44,7 @@ impl Told {
     }
 }
 
-/// Writes what programs are made of, as text or as JSON.
+/// Writes the parts of programs, as text or as JSON.
 fn write_parts(
     rt: &HostRuntime,
     words: &PrepareWords,
@@ -80,7 +80,7 @@ fn tell(rt: &HostRuntime, words: &PrepareWords, told: &Told) -> Result<(), Stop>
     tell_parts(rt, words, told, &uses)
 }
 
-/// Does what `ebpf inspect` is asked, and gives the status.
+/// Runs `ebpf inspect`, and returns the status.
 pub fn inspect(rt: &HostRuntime, words: &PrepareWords) -> Result<u8, Stop> {
     let told = Told::of(prepare_file(rt, words)?);
     let done = tell(rt, words, &told);

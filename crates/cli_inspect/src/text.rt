@@ -2,7 +2,7 @@
 
 use crate::chain::Edge;
 use crate::parts::{CHAIN, FUNCTIONS, MAPS, ProgramParts, SLOTS};
-use cli_common::names::Shown;
+use cli_common::names::EscapedName;
 use cli_common::refuse::Stop;
 use cli_common::table::{Column, Table};
 use cli_common::types::program_type_name;
@@ -206,7 +206,7 @@ fn write_program<W: Write>(
     object: &Object,
     parts: &ProgramParts<'_>,
 ) -> Result<(), Stop> {
-    let name = Shown(parts.program.name.as_str());
+    let name = EscapedName(parts.program.name.as_str());
     let slots = parts.slots;
     let bytes = slots.saturating_mul(8);
     writeln!(out, "\n{name}: {slots} slots, {bytes} bytes")?;

@@ -11,7 +11,7 @@ ghost use Rattle.ebpf_object.specs.Prepared.{IsParsed};
 ghost use Rattle.ebpf_parts.specs.declared.reading.Reading.TheVariants.{Broad};
 ghost use Rattle.cli_common.specs.Shown.{shown};
 
-use cli_common::names::Shown;
+use cli_common::names::EscapedName;
 use cli_common::programs::ObjectProgram;
 use cli_common::slot_text::write_slots;
 use cli_prepare::{Kernel, finished_object};
@@ -34,7 +34,7 @@ pub enum BytesFailure {
 fn write_head<W: Write>(out: &mut W, name: &str, slots: &[bpf_insn]) -> io::Result<()>
     ensures { OnOk result (Appends (W.contents out.old) (W.contents out.new) (head_line (shown name.now) slots.now)) }
 {
-    let name = Shown(name);
+    let name = EscapedName(name);
     let count = slots.len();
     writeln!(out, "program {name} slots {count}")
 }

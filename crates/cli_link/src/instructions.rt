@@ -5,7 +5,7 @@ use crate::linked::{ShownProgram, ShownSlot};
 use crate::notes::Note;
 use crate::origins::Origins;
 use crate::record_words::RecordTeller;
-use cli_common::names::{Shown, last_part};
+use cli_common::names::{EscapedName, last_part};
 use cli_common::refuse::Stop;
 use cli_common::source_lines::LineNumber;
 use ebpf_btf::Btf;
@@ -33,7 +33,7 @@ fn write_target<W: Write>(
     let Some(target) = target_of(shown, operation) else {
         return Ok(());
     };
-    let name = Shown(shown.copy.name.as_str());
+    let name = EscapedName(shown.copy.name.as_str());
     if target == 0 {
         return write!(out, " <{name}>");
     }
@@ -94,7 +94,7 @@ fn write_source<W: Write>(out: &mut W, origins: &Origins<'_>, line: LineNumber) 
     let Ok(file) = types.string_at(line.file_name_off) else {
         return Ok(());
     };
-    let file = Shown(last_part(file.as_str()));
+    let file = EscapedName(last_part(file.as_str()));
     let number = line.number;
     writeln!(out, "; {file}:{number}")
 }
@@ -157,7 +157,7 @@ fn write_copy<'a, W: Write>(
     linked: &ShownProgram<'a>,
     copy: &'a CodeCopy,
 ) -> Result<(), Stop> {
-    let name = Shown(copy.name.as_str());
+    let name = EscapedName(copy.name.as_str());
     writeln!(out, "<{name}>:")?;
     let mut last = None;
     let mut is_second = false;

@@ -1,23 +1,32 @@
 //! Calls and loads of functions, maps and kernel symbols by name.
 
-use cli_common::names::Shown;
+use cli_common::names::EscapedName;
 use std::fmt;
 
 /// A function, map or kernel symbol with a name.
 #[derive(Clone, Copy)]
 pub enum Subject<'a> {
     /// A helper function: `bpf_loop#181`.
-    Helper { name: &'static str, number: u32 },
+    Helper {
+        name: &'static str,
+        number: u32,
+    },
     /// A function of the program that is called: `f`.
-    Called(Shown<'a>),
+    Called(EscapedName<'a>),
     /// A function of the program whose address is loaded: `function f`.
-    Function(Shown<'a>),
+    Function(EscapedName<'a>),
     /// A map: `map totals`.
-    Map(Shown<'a>),
+    Map(EscapedName<'a>),
     /// A place in a map's data: `map_value .bss + 8`.
-    MapValue { name: Shown<'a>, offset: i32 },
+    MapValue {
+        name: EscapedName<'a>,
+        offset: i32,
+    },
     /// A function or variable of the kernel: `ksym bpf_prog_active`.
-    Kernel { name: Shown<'a>, is_absent: bool },
+    Kernel {
+        name: EscapedName<'a>,
+        is_absent: bool,
+    },
 }
 
 /// An instruction with its named subject.

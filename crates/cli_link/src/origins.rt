@@ -4,7 +4,7 @@ use crate::linked::{ShownProgram, ShownSlot};
 use crate::names::{NamedOperation, Subject};
 use crate::notes::{Note, RecordNotes};
 use cli_common::helper_calls::helper_name;
-use cli_common::names::Shown;
+use cli_common::names::EscapedName;
 use ebpf_model::Symbol;
 use ebpf_object::Object;
 use ebpf_parts::Relocation;
@@ -65,16 +65,16 @@ impl<'a> Origins<'a> {
         };
         let known = self.object.externs.get(name.as_str())?;
         Some(Subject::Kernel {
-            name: Shown(name.as_str()),
+            name: EscapedName(name.as_str()),
             is_absent: !known.is_resolved,
         })
     }
 
     /// The name of the map that has the descriptor of a slot.
-    fn map_name(&self, instruction: bpf_insn) -> Option<Shown<'a>> {
+    fn map_name(&self, instruction: bpf_insn) -> Option<EscapedName<'a>> {
         let descriptor = instruction.imm.cast_unsigned() as usize;
         let name = self.map_names.get(descriptor.checked_sub(1)?)?;
-        Some(Shown(*name))
+        Some(EscapedName(*name))
     }
 
     /// The map to which a load refers.
@@ -104,7 +104,7 @@ impl<'a> Origins<'a> {
 
     /// The function of the program to which a slot refers.
     fn function_subject(linked: &ShownProgram<'a>, shown: ShownSlot<'_>) -> Option<Subject<'a>> {
-        let name = Shown(linked.referred(shown.place())?);
+        let name = EscapedName(linked.referred(shown.place())?);
         if shown.instruction.code == CALL {
             Some(Subject::Called(name))
         } else {

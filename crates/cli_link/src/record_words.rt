@@ -2,8 +2,8 @@
 
 use crate::notes::{Note, Written};
 use cli_common::kinds::Kind;
-use cli_common::names::{Shown, write_value};
-use cli_common::record_names::{Asked, absence_words, has_sign};
+use cli_common::names::{EscapedName, write_value};
+use cli_common::record_names::{RecordSubject, absence_words, has_sign};
 use cli_common::refuse::Stop;
 use ebpf_btf::Btf;
 use ebpf_ext::{Relocation, RelocationKind};
@@ -51,8 +51,8 @@ impl RecordQuestion {
 impl RecordWords {
     /// The words of a CO-RE relocation.
     fn of(alloc: Global, local: &Btf, relocation: &Relocation) -> Result<RecordWords, AllocError> {
-        let asked = Asked::of(alloc, local, relocation)?;
-        let name = Shown(asked.name.as_str());
+        let asked = RecordSubject::of(alloc, local, relocation)?;
+        let name = EscapedName(asked.name.as_str());
         Ok(RecordWords {
             question: RecordQuestion::of(relocation),
             name: format!(in alloc; "{name}")?,

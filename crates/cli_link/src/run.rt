@@ -6,7 +6,7 @@ use crate::linked::ShownProgram;
 use crate::notes::RecordNotes;
 use crate::origins::Origins;
 use crate::record_words::RecordTeller;
-use cli_common::names::Shown;
+use cli_common::names::EscapedName;
 use cli_common::programs::ObjectProgram;
 use cli_common::refuse::Stop;
 use cli_prepare::{Opened, PrepareWords, Prepared, open_file, prepare_file, refuse_preparing};
@@ -36,7 +36,7 @@ fn write_name<W: Write>(
     if !is_first {
         writeln!(out, "")?;
     }
-    let name = Shown(program.name.as_str());
+    let name = EscapedName(program.name.as_str());
     let slots = function.instructions.len();
     writeln!(out, "program {name} slots {slots}")
 }

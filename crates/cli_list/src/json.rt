@@ -1,7 +1,7 @@
 //! What `ebpf list --json` prints.
 
-use crate::layout::Layout;
-use crate::listing::{Extern, Listing};
+use crate::layout::ProgramLayout;
+use crate::listing::{Extern, ObjectListing};
 use crate::text::{extern_word, order_word, pinning_word};
 use cli_common::helper_calls::write_helper;
 use cli_common::json::{JsonWriter, write_document};
@@ -13,9 +13,9 @@ use std::io::{self, Write};
 /// Writes a program.
 fn write_program<W: Write>(
     json: &mut JsonWriter<'_, W>,
-    listing: &Listing<'_>,
+    listing: &ObjectListing<'_>,
     program: &ObjectProgram,
-    layout: &Layout,
+    layout: &ProgramLayout,
 ) -> io::Result<()> {
     program.write_json(json)?;
     json.member("slots", listing.slots_of(program.key))?;
@@ -26,7 +26,7 @@ fn write_program<W: Write>(
 /// Writes the names of the programs of these numbers.
 fn write_users<W: Write>(
     json: &mut JsonWriter<'_, W>,
-    listing: &Listing<'_>,
+    listing: &ObjectListing<'_>,
     numbers: &[usize],
 ) -> io::Result<()> {
     json.array("programs", |json| {
@@ -64,7 +64,7 @@ fn write_inner<W: Write>(json: &mut JsonWriter<'_, W>, map: &Map) -> io::Result<
 /// Writes a map.
 fn write_map<W: Write>(
     json: &mut JsonWriter<'_, W>,
-    listing: &Listing<'_>,
+    listing: &ObjectListing<'_>,
     name: &str,
     map: &Map,
 ) -> io::Result<()> {
@@ -91,7 +91,7 @@ fn write_extern<W: Write>(json: &mut JsonWriter<'_, W>, known: &Extern) -> io::R
 /// Writes the functions that no program reaches.
 fn write_unreached<W: Write>(
     json: &mut JsonWriter<'_, W>,
-    listing: &Listing<'_>,
+    listing: &ObjectListing<'_>,
 ) -> io::Result<()> {
     json.array("unreached", |json| {
         for key in listing.unreached.iter() {
@@ -108,7 +108,10 @@ fn write_unreached<W: Write>(
 }
 
 /// Writes the tables of what programs are made of and what they use.
-fn write_tables<W: Write>(json: &mut JsonWriter<'_, W>, listing: &Listing<'_>) -> io::Result<()> {
+fn write_tables<W: Write>(
+    json: &mut JsonWriter<'_, W>,
+    listing: &ObjectListing<'_>,
+) -> io::Result<()> {
     let programs = listing.wanted.programs.iter().zip(listing.layouts.iter());
     json.objects("programs", programs, |json, (program, layout)| {
         write_program(json, listing, program, layout)
@@ -127,7 +130,11 @@ fn write_tables<W: Write>(json: &mut JsonWriter<'_, W>, listing: &Listing<'_>) -
 }
 
 /// Writes the contents of an object as one JSON object, on one line.
-pub fn write_json<W: Write>(out: &mut W, file: &str, listing: &Listing<'_>) -> io::Result<()> {
+pub fn write_json<W: Write>(
+    out: &mut W,
+    file: &str,
+    listing: &ObjectListing<'_>,
+) -> io::Result<()> {
     let (object, wanted) = (listing.object, listing.wanted);
     write_document(out, |json| {
         json.member("file", file)?;

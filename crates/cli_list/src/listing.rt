@@ -5,11 +5,11 @@ ghost use Rattle.std.specs.Option.{option_copied};
 ghost use Rattle.cli_list.specs.Listings.{extern_row, extern_rows, is_func, is_function, AreObjectLayouts, IsListed, IsListing, IsWanted};
 ghost use Rattle.ebpf_object.specs.declared.object.Object.{Object};
 
-use crate::layout::{Layout, layouts_if, unreached, write_externs};
-use crate::records::{Asked, counted_records};
+use crate::layout::{ProgramLayout, layouts_if, unreached, write_externs};
+use crate::records::{RecordGroup, counted_records};
 use crate::users::{helper_users, map_users};
 use cli_common::map_uses::{MapUse, map_uses};
-use cli_common::names::Shown;
+use cli_common::names::EscapedName;
 use cli_common::programs::{ObjectProgram, object_programs};
 use cli_common::settings::object_settings;
 use ebpf_base::{ByKey, ByName, ByNumber, Items, Text};
@@ -37,7 +37,7 @@ fn write_byte<W: fmt::Write>(f: &mut fmt::Formatter<W>, byte: u8) -> fmt::Result
 impl fmt::Display for ShownBytes<'_> {
     fn fmt<W: fmt::Write>(&self, f: &mut fmt::Formatter<W>) -> fmt::Result {
         if let Ok(text) = str::from_utf8(self.0) {
-            let text = Shown(text);
+            let text = EscapedName(text);
             return write!(f, "{text}");
         }
         for byte in self.0 {
@@ -62,7 +62,7 @@ pub struct Extern {
 
 /// What stands in an object before its externs are written.
 #[derive(Drop)]
-pub struct Wanted {
+pub struct ObjectContents {
     /// The programs, in byte order of their names.
     pub programs: Vec<ObjectProgram>,
     /// The externs, in byte order of their names.
@@ -77,19 +77,19 @@ pub struct Wanted {
 
 /// What an object has, table by table.
 #[derive(Drop)]
-pub struct Listing<'a> {
+pub struct ObjectListing<'a> {
     /// The object.
     pub object: &'a Object,
     /// What stood in it.
-    pub wanted: &'a Wanted,
+    pub wanted: &'a ObjectContents,
     /// What each program is made of, in the order of the programs.
-    pub layouts: &'a Items<Layout>,
+    pub layouts: &'a Items<ProgramLayout>,
     /// The programs that use a map, by the map's name.
     pub map_users: ByName<Items<usize>>,
     /// The programs that call a helper function, by its number.
     pub helper_users: ByNumber<Items<usize>>,
     /// How many CO-RE records ask what of which type.
-    pub records: BTreeMap<Asked, usize>,
+    pub records: BTreeMap<RecordGroup, usize>,
     /// The functions that no program reaches.
     pub unreached: Vec<(usize, u64)>,
 }
@@ -163,7 +163,7 @@ fn file_types(alloc: Global, file: &[u8], object: &Object) -> Result<Option<usiz
 }
 
 /// What stands in an object.
-pub fn wanted_by(alloc: Global, file: &[u8], object: &Object) -> Result<Wanted, AllocError>
+pub fn wanted_by(alloc: Global, file: &[u8], object: &Object) -> Result<ObjectContents, AllocError>
     ensures { IfOk result (λ wanted. IsWanted object.now wanted) }
 {
     let programs = object_programs(alloc, file, object)?;
@@ -171,7 +171,7 @@ pub fn wanted_by(alloc: Global, file: &[u8], object: &Object) -> Result<Wanted, 
     let settings = object_settings(alloc, object)?;
     let map_uses = map_uses(alloc, object)?;
     let types = file_types(alloc, file, object)?;
-    Ok(Wanted {
+    Ok(ObjectContents {
         programs,
         externs,
         settings,
@@ -184,8 +184,8 @@ pub fn wanted_by(alloc: Global, file: &[u8], object: &Object) -> Result<Wanted, 
 pub fn layouts_of(
     alloc: Global,
     object: &mut Object,
-    wanted: &Wanted,
-) -> Result<Items<Layout>, AllocError>
+    wanted: &ObjectContents,
+) -> Result<Items<ProgramLayout>, AllocError>
     ensures { IfOk result (λ layouts. AreObjectLayouts object.old wanted.now object.new layouts) }
 {
     let is_written = write_externs(alloc, object, wanted.settings.as_slice())?;
@@ -196,9 +196,9 @@ pub fn layouts_of(
 pub fn listing_of<'a>(
     alloc: Global,
     object: &'a Object,
-    wanted: &'a Wanted,
-    layouts: &'a Items<Layout>,
-) -> Result<Listing<'a>, AllocError>
+    wanted: &'a ObjectContents,
+    layouts: &'a Items<ProgramLayout>,
+) -> Result<ObjectListing<'a>, AllocError>
     ensures tables { IfOk result (λ listing. IsListing object.now wanted.now layouts.now listing) }
     ensures listed { (parsed : Object) → IsWanted parsed wanted.now → AreObjectLayouts parsed wanted.now object.now layouts.now → IfOk result (λ listing. IsListed parsed listing) }
 {
@@ -207,7 +207,7 @@ pub fn listing_of<'a>(
     let helper_users = helper_users(alloc, object, made)?;
     let records = counted_records(alloc, object)?;
     let unreached = unreached(alloc, object, made)?;
-    Ok(Listing {
+    Ok(ObjectListing {
         object,
         wanted,
         layouts,
@@ -218,7 +218,7 @@ pub fn listing_of<'a>(
     })
 }
 
-impl<'a> Listing<'a> {
+impl<'a> ObjectListing<'a> {
     /// The license, where the file states one.
     pub fn license(&self) -> Option<&[u8]> {
         if self.object.states_license() {

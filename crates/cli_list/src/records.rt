@@ -16,7 +16,7 @@ use std::collections::BTreeMap;
 
 /// What records ask of a type of the object.
 #[derive(PartialEq, Eq, PartialOrd, Ord, Drop)]
-pub struct Asked {
+pub struct RecordGroup {
     /// The type.
     pub name: String,
     /// What is asked.
@@ -79,8 +79,8 @@ fn counts(alloc: Global, object: &Object) -> Result<ByType, AllocError>
 
 /// Adds to the count of what is asked of a type of a name.
 fn add_count(
-    all: &mut BTreeMap<Asked, usize>,
-    asked: Asked,
+    all: &mut BTreeMap<RecordGroup, usize>,
+    asked: RecordGroup,
     count: usize,
 ) -> Result<(), AllocError> {
     let before = all.get(&asked).copied().unwrap_or(0);
@@ -92,7 +92,7 @@ fn add_count(
 pub fn counted_records(
     alloc: Global,
     object: &Object,
-) -> Result<BTreeMap<Asked, usize>, AllocError> {
+) -> Result<BTreeMap<RecordGroup, usize>, AllocError> {
     let mut all = BTreeMap::new(alloc);
     let Some(local) = &object.btf else {
         return Ok(all);
@@ -100,7 +100,7 @@ pub fn counted_records(
     let counts = counts(alloc, object)?;
     for ((type_id, kind), count) in counts.iter() {
         let name = type_name(alloc, local, *type_id)?;
-        let asked = Asked { name, kind: *kind };
+        let asked = RecordGroup { name, kind: *kind };
         add_count(&mut all, asked, *count)?;
     }
     Ok(all)

@@ -1,8 +1,8 @@
-//! What an object's file has, told.
+//! The command `ebpf list`.
 
 use crate::json::write_json;
-use crate::layout::Layout;
-use crate::listing::{Wanted, layouts_of, listing_of, wanted_by};
+use crate::layout::ProgramLayout;
+use crate::listing::{ObjectContents, layouts_of, listing_of, wanted_by};
 use crate::text::write_listing;
 use cli_common::object_file::{parsed_object, read_object};
 use cli_common::refuse::Stop;
@@ -10,24 +10,24 @@ use ebpf_base::{Items, Text};
 use ebpf_object::Object;
 use std::io::{BufWriter, Write};
 
-/// What `ebpf list` is to do.
+/// The arguments of `ebpf list`.
 #[derive(Drop)]
 pub struct ListWords {
     /// The object's file.
     pub file: Text,
     /// Which of the objects in the file, where it holds several.
     pub object: Option<usize>,
-    /// Whether it is told as JSON.
+    /// Whether the output is JSON.
     pub json: bool,
 }
 
-/// Tells what an object has, as text or as JSON.
+/// Prints the contents of an object, as text or as JSON.
 fn tell(
     rt: &HostRuntime,
     words: &ListWords,
     object: &Object,
-    wanted: &Wanted,
-    layouts: &Items<Layout>,
+    wanted: &ObjectContents,
+    layouts: &Items<ProgramLayout>,
 ) -> Result<(), Stop> {
     let alloc = rt.alloc();
     let listing = listing_of(alloc, object, wanted, layouts)?;
@@ -41,7 +41,7 @@ fn tell(
     Ok(())
 }
 
-/// Tells what an object has, whose externs are written meanwhile.
+/// Prints the contents of an object, and writes its externs meanwhile.
 fn list_object(
     rt: &HostRuntime,
     words: &ListWords,
@@ -54,7 +54,7 @@ fn list_object(
     tell(rt, words, object, &wanted, &layouts)
 }
 
-/// Tells what the object of a file's bytes has.
+/// Prints the contents of the object in a file's bytes.
 fn list_bytes(rt: &HostRuntime, words: &ListWords, file: &[u8]) -> Result<(), Stop> {
     let mut object = parsed_object(rt, words.json, words.file.as_str(), file)?;
     let done = list_object(rt, words, file, &mut object);
@@ -62,7 +62,7 @@ fn list_bytes(rt: &HostRuntime, words: &ListWords, file: &[u8]) -> Result<(), St
     done
 }
 
-/// Does what `ebpf list` is asked, and gives the status.
+/// Runs `ebpf list`, and returns the status.
 pub fn list(rt: &HostRuntime, words: &ListWords) -> Result<u8, Stop> {
     let file = read_object(rt, words.json, words.file.as_str(), words.object)?;
     list_bytes(rt, words, &file)?;

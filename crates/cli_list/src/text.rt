@@ -1,8 +1,8 @@
 //! What `ebpf list` prints for people.
 
-use crate::layout::Layout;
-use crate::listing::{Extern, Listing, ShownBytes};
-use cli_common::names::Shown;
+use crate::layout::ProgramLayout;
+use crate::listing::{Extern, ObjectListing, ShownBytes};
+use cli_common::names::EscapedName;
 use cli_common::programs::ObjectProgram;
 use cli_common::refuse::Stop;
 use cli_common::table::Column::{Number, Word};
@@ -32,7 +32,7 @@ fn write_version<W: Write>(out: &mut W, version: Option<u32>) -> io::Result<()> 
 }
 
 /// Writes how many types an object has.
-fn write_types<W: Write>(out: &mut W, listing: &Listing<'_>) -> io::Result<()> {
+fn write_types<W: Write>(out: &mut W, listing: &ObjectListing<'_>) -> io::Result<()> {
     match listing.wanted.types {
         Some(types) => write!(out, ", {types} types"),
         None => write!(out, ", no types"),
@@ -48,8 +48,8 @@ pub fn order_word(order: Endianness) -> &'static str {
 }
 
 /// Writes the line of the file.
-fn write_file<W: Write>(out: &mut W, file: &str, listing: &Listing<'_>) -> io::Result<()> {
-    let file = Shown(file);
+fn write_file<W: Write>(out: &mut W, file: &str, listing: &ObjectListing<'_>) -> io::Result<()> {
+    let file = EscapedName(file);
     let order = order_word(listing.object.endianness);
     write!(out, "{file}: {order}")?;
     write_license(out, listing.license())?;
@@ -71,7 +71,7 @@ const PROGRAMS: [Column; 6] = [
 ];
 
 /// The slots of a linked program, and how many functions it reaches.
-fn push_layout(table: &mut Table<'_>, layout: &Layout) -> Result<(), AllocError> {
+fn push_layout(table: &mut Table<'_>, layout: &ProgramLayout) -> Result<(), AllocError> {
     match layout.slots {
         Some(slots) => {
             table.push_number(slots)?;
@@ -89,7 +89,7 @@ fn push_program(
     table: &mut Table<'_>,
     own: usize,
     program: &ObjectProgram,
-    layout: &Layout,
+    layout: &ProgramLayout,
 ) -> Result<(), AllocError> {
     let section = program.section.as_str();
     table.push_number(own)?;
@@ -100,7 +100,11 @@ fn push_program(
 }
 
 /// Writes the programs.
-fn write_programs<W: Write>(alloc: Global, out: &mut W, listing: &Listing<'_>) -> Result<(), Stop> {
+fn write_programs<W: Write>(
+    alloc: Global,
+    out: &mut W,
+    listing: &ObjectListing<'_>,
+) -> Result<(), Stop> {
     let mut table = Table::new(alloc, &PROGRAMS)?;
     let programs = &listing.wanted.programs;
     for (program, layout) in programs.iter().zip(listing.layouts.iter()) {
@@ -123,7 +127,7 @@ fn holds_maps(map: &Map) -> Result<bool, AllocError> {
 }
 
 /// Which columns of maps something stands in.
-fn map_columns(listing: &Listing<'_>) -> Result<MapColumns, AllocError> {
+fn map_columns(listing: &ObjectListing<'_>) -> Result<MapColumns, AllocError> {
     let mut columns = MapColumns {
         has_pinned: false,
         has_inner: false,
@@ -196,7 +200,7 @@ fn push_manner(table: &mut Table<'_>, columns: MapColumns, map: &Map) -> Result<
 /// The row of a map.
 fn push_map(
     table: &mut Table<'_>,
-    listing: &Listing<'_>,
+    listing: &ObjectListing<'_>,
     columns: MapColumns,
     name: &str,
     map: &Map,
@@ -210,7 +214,11 @@ fn push_map(
 }
 
 /// Writes the maps.
-fn write_maps<W: Write>(alloc: Global, out: &mut W, listing: &Listing<'_>) -> Result<(), Stop> {
+fn write_maps<W: Write>(
+    alloc: Global,
+    out: &mut W,
+    listing: &ObjectListing<'_>,
+) -> Result<(), Stop> {
     let columns = map_columns(listing)?;
     let heads = map_heads(alloc, columns)?;
     let mut table = Table::new(alloc, &heads)?;
@@ -247,7 +255,7 @@ fn program_names(
 fn push_names(
     alloc: Global,
     table: &mut Table<'_>,
-    listing: &Listing<'_>,
+    listing: &ObjectListing<'_>,
     numbers: &[usize],
 ) -> Result<(), AllocError> {
     let programs = &listing.wanted.programs;
@@ -262,7 +270,11 @@ fn push_names(
 const HELPERS: [Column; 3] = [Number("NUMBER"), Word("NAME"), Word("PROGRAMS")];
 
 /// Writes the helper functions.
-fn write_helpers<W: Write>(alloc: Global, out: &mut W, listing: &Listing<'_>) -> Result<(), Stop> {
+fn write_helpers<W: Write>(
+    alloc: Global,
+    out: &mut W,
+    listing: &ObjectListing<'_>,
+) -> Result<(), Stop> {
     let mut table = Table::new(alloc, &HELPERS)?;
     for (helper, programs) in listing.helper_users.iter() {
         table.push_number(*helper as usize)?;
@@ -294,7 +306,11 @@ fn push_extern(table: &mut Table<'_>, known: &Extern) -> Result<(), AllocError> 
 }
 
 /// Writes the externs.
-fn write_externs<W: Write>(alloc: Global, out: &mut W, listing: &Listing<'_>) -> Result<(), Stop> {
+fn write_externs<W: Write>(
+    alloc: Global,
+    out: &mut W,
+    listing: &ObjectListing<'_>,
+) -> Result<(), Stop> {
     let mut table = Table::new(alloc, &EXTERNS)?;
     for known in listing.wanted.externs.iter() {
         push_extern(&mut table, known)?;
@@ -307,7 +323,11 @@ fn write_externs<W: Write>(alloc: Global, out: &mut W, listing: &Listing<'_>) ->
 const SETTINGS: [Column; 1] = [Word("NAME")];
 
 /// Writes what is wanted of the kernel's configuration.
-fn write_settings<W: Write>(alloc: Global, out: &mut W, listing: &Listing<'_>) -> Result<(), Stop> {
+fn write_settings<W: Write>(
+    alloc: Global,
+    out: &mut W,
+    listing: &ObjectListing<'_>,
+) -> Result<(), Stop> {
     let mut table = Table::new(alloc, &SETTINGS)?;
     for name in listing.wanted.settings.iter() {
         table.push_text(name.as_str())?;
@@ -320,7 +340,11 @@ fn write_settings<W: Write>(alloc: Global, out: &mut W, listing: &Listing<'_>) -
 const RECORDS: [Column; 3] = [Number("COUNT"), Word("KIND"), Word("TYPE")];
 
 /// Writes the records.
-fn write_records<W: Write>(alloc: Global, out: &mut W, listing: &Listing<'_>) -> Result<(), Stop> {
+fn write_records<W: Write>(
+    alloc: Global,
+    out: &mut W,
+    listing: &ObjectListing<'_>,
+) -> Result<(), Stop> {
     let mut table = Table::new(alloc, &RECORDS)?;
     for (asked, records) in listing.records.iter() {
         table.push_number(*records)?;
@@ -338,7 +362,7 @@ const UNREACHED: [Column; 2] = [Number("SLOTS"), Word("NAME")];
 fn write_unreached<W: Write>(
     alloc: Global,
     out: &mut W,
-    listing: &Listing<'_>,
+    listing: &ObjectListing<'_>,
 ) -> Result<(), Stop> {
     let mut table = Table::new(alloc, &UNREACHED)?;
     for key in listing.unreached.iter() {
@@ -357,7 +381,7 @@ pub fn write_listing<W: Write>(
     alloc: Global,
     out: &mut W,
     file: &str,
-    listing: &Listing<'_>,
+    listing: &ObjectListing<'_>,
 ) -> Result<(), Stop> {
     write_file(out, file, listing)?;
     write_programs(alloc, out, listing)?;

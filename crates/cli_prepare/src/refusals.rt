@@ -4,7 +4,7 @@ use crate::pass_help::{GivenFiles, pass_help};
 use crate::prepared::PrepareWords;
 use crate::refused_slots::refused_slot;
 use cli_common::pass_names::pass_and_variant;
-use cli_common::refusal::{Refusal, help_of};
+use cli_common::refusal::{FileRefusal, help_of};
 use cli_common::refuse::{Stop, refused};
 use ebpf_core_relo::RelocationError as CoreError;
 use ebpf_ksyms::KsymsError;
@@ -83,9 +83,9 @@ fn refusal_of(
     object: &Object,
     error: &PrepareError,
     given: GivenFiles,
-) -> Result<Refusal, AllocError> {
+) -> Result<FileRefusal, AllocError> {
     let (pass, variant) = pass_and_variant(error);
-    Ok(Refusal {
+    Ok(FileRefusal {
         stage: if matches!(error, Ksyms(_)) {
             "externs"
         } else {

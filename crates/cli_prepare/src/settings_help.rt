@@ -2,7 +2,7 @@
 
 use crate::prepared::PrepareWords;
 use crate::settings::number_by_version;
-use cli_common::refusal::{Refusal, help_of};
+use cli_common::refusal::{FileRefusal, help_of};
 use cli_common::refuse::{Stop, refused};
 use ebpf_kconfig::KconfigError;
 use std::alloc::{AllocError, Global};
@@ -63,8 +63,8 @@ fn refusal_of(
     alloc: Global,
     error: &KconfigError,
     has_config: bool,
-) -> Result<Refusal, AllocError> {
-    Ok(Refusal {
+) -> Result<FileRefusal, AllocError> {
+    Ok(FileRefusal {
         stage: "kconfig",
         variant: error.variant_name(),
         text: sentence_of(alloc, error)?,

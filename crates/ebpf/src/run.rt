@@ -4,9 +4,9 @@ use crate::help::{
     CHECK_HELP, CHECK_USAGE, HELP, INSPECT_HELP, INSPECT_USAGE, LINK_HELP, LINK_USAGE, LIST_HELP,
     LIST_USAGE, USAGE, VERSION,
 };
-use crate::words::{Command, WordsError, read_words};
+use crate::words::{Invocation, InvocationError, Verb, read_words};
 use cli_check::check;
-use cli_common::names::Shown;
+use cli_common::names::EscapedName;
 use cli_common::object_file::gather_words;
 use cli_common::refuse::{Stop, stopped};
 use cli_inspect::inspect;
@@ -15,27 +15,36 @@ use cli_list::list;
 use std::io::ErrorKind;
 use std::process::ExitCode;
 
-/// The usage line of the command that words begin with.
-fn usage_of(words: &[String]) -> &'static str {
-    match words.first() {
-        Some(word) => match word.as_str() {
-            "check" => CHECK_USAGE,
-            "list" => LIST_USAGE,
-            "inspect" => INSPECT_USAGE,
-            "link" => LINK_USAGE,
-            _ => USAGE,
-        },
-        None => USAGE,
+/// The usage line of a command.
+fn usage_of(verb: Verb) -> &'static str {
+    match verb {
+        Verb::Check => CHECK_USAGE,
+        Verb::List => LIST_USAGE,
+        Verb::Inspect => INSPECT_USAGE,
+        Verb::Link => LINK_USAGE,
+    }
+}
+
+/// The text that `--help` of a command prints below the usage line.
+fn help_of(verb: Verb) -> &'static str {
+    match verb {
+        Verb::Check => CHECK_HELP,
+        Verb::List => LIST_HELP,
+        Verb::Inspect => INSPECT_HELP,
+        Verb::Link => LINK_HELP,
     }
 }
 
 /// Says why words can't be read, with the usage line, and gives the status.
-fn usage(rt: &HostRuntime, words: &[String], error: &WordsError<'_>) -> Result<u8, Stop> {
+fn usage(rt: &HostRuntime, words: &[String], error: &InvocationError<'_>) -> Result<u8, Stop> {
     let alloc = rt.alloc();
     let sentence = format!(in alloc; "{error}")?;
-    let sentence = Shown(sentence.as_str());
+    let sentence = EscapedName(sentence.as_str());
     let _ = eprintln!(rt; "ebpf: {sentence}");
-    let usage = usage_of(words);
+    let usage = match words.first().and_then(|word| Verb::named(word.as_str())) {
+        Some(verb) => usage_of(verb),
+        None => USAGE,
+    };
     let _ = eprintln!(rt; "{usage}");
     Ok(2)
 }
@@ -46,25 +55,19 @@ fn tell(rt: &HostRuntime, text: &str) -> Result<u8, Stop> {
     Ok(0)
 }
 
-/// Prints the usage line of a command and what it does.
-fn tell_both(rt: &HostRuntime, usage: &str, help: &str) -> Result<u8, Stop> {
-    tell(rt, usage)?;
-    tell(rt, help)
-}
-
 /// Does what a command line asks.
-fn obey(rt: &HostRuntime, command: &Command) -> Result<u8, Stop> {
+fn obey(rt: &HostRuntime, command: &Invocation) -> Result<u8, Stop> {
     match command {
-        Command::Help => tell(rt, HELP),
-        Command::CheckHelp => tell_both(rt, CHECK_USAGE, CHECK_HELP),
-        Command::ListHelp => tell_both(rt, LIST_USAGE, LIST_HELP),
-        Command::InspectHelp => tell_both(rt, INSPECT_USAGE, INSPECT_HELP),
-        Command::LinkHelp => tell_both(rt, LINK_USAGE, LINK_HELP),
-        Command::Version => tell(rt, VERSION),
-        Command::Check(words) => check(rt, words),
-        Command::List(words) => list(rt, words),
-        Command::Inspect(words) => inspect(rt, words),
-        Command::Link(words) => link(rt, words),
+        Invocation::Help => tell(rt, HELP),
+        Invocation::VerbHelp(verb) => {
+            tell(rt, usage_of(*verb))?;
+            tell(rt, help_of(*verb))
+        }
+        Invocation::Version => tell(rt, VERSION),
+        Invocation::Check(words) => check(rt, words),
+        Invocation::List(words) => list(rt, words),
+        Invocation::Inspect(words) => inspect(rt, words),
+        Invocation::Link(words) => link(rt, words),
     }
 }
 
@@ -87,7 +90,7 @@ pub fn start(rt: &HostRuntime) -> ExitCode {
     };
     let done = match read_words(rt.alloc(), &words) {
         Ok(command) => obey(rt, &command),
-        Err(WordsError::OutOfMemory) => Err(Stop::Memory),
+        Err(InvocationError::OutOfMemory) => Err(Stop::Memory),
         Err(error) => usage(rt, &words, &error),
     };
     match done {

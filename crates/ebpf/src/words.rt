@@ -8,19 +8,40 @@ use ebpf_base::{Items, Text};
 use std::alloc::{AllocError, AllocFailed, Global};
 use thiserror::Error;
 
+/// A command that reads an object.
+#[derive(Clone, Copy, PartialEq, Eq)]
+pub enum Verb {
+    Check,
+    List,
+    Inspect,
+    Link,
+}
+
+impl Verb {
+    /// The command of a name.
+    pub fn named(name: &str) -> Option<Verb> {
+        match name {
+            "check" => Some(Verb::Check),
+            "list" => Some(Verb::List),
+            "inspect" => Some(Verb::Inspect),
+            "link" => Some(Verb::Link),
+            _ => None,
+        }
+    }
+
+    /// Whether it links programs, for a kernel that options may name.
+    fn links(self) -> bool {
+        matches!(self, Verb::Inspect | Verb::Link)
+    }
+}
+
 /// What a command line asks for.
 #[derive(Drop)]
-pub enum Command {
+pub enum Invocation {
     /// What `ebpf` does, in general.
     Help,
-    /// What `ebpf check` does.
-    CheckHelp,
-    /// What `ebpf list` does.
-    ListHelp,
-    /// What `ebpf inspect` does.
-    InspectHelp,
-    /// What `ebpf link` does.
-    LinkHelp,
+    /// The options of a command.
+    VerbHelp(Verb),
     /// The program's version.
     Version,
     /// An object's programs over kernels.
@@ -35,7 +56,7 @@ pub enum Command {
 
 /// Why words can't be read.
 #[derive(Clone, Copy, Debug, Error)]
-pub enum WordsError<'a> {
+pub enum InvocationError<'a> {
     /// There is no word.
     #[error("no command")]
     NoCommand,
@@ -71,31 +92,15 @@ pub enum WordsError<'a> {
     OutOfMemory,
 }
 
-impl From<AllocError> for WordsError<'_> {
+impl From<AllocError> for InvocationError<'_> {
     fn from(_error: AllocError) -> Self {
-        WordsError::OutOfMemory
+        InvocationError::OutOfMemory
     }
 }
 
-impl<T: Drop> From<AllocFailed<T>> for WordsError<'_> {
+impl<T: Drop> From<AllocFailed<T>> for InvocationError<'_> {
     fn from(_error: AllocFailed<T>) -> Self {
-        WordsError::OutOfMemory
-    }
-}
-
-/// A command that reads an object.
-#[derive(Clone, Copy, PartialEq, Eq)]
-enum Verb {
-    Check,
-    List,
-    Inspect,
-    Link,
-}
-
-impl Verb {
-    /// Whether it links programs, for a kernel that options may name.
-    fn links(self) -> bool {
-        matches!(self, Verb::Inspect | Verb::Link)
+        InvocationError::OutOfMemory
     }
 }
 
@@ -141,7 +146,7 @@ fn is_option(word: &str) -> bool {
 }
 
 /// An option's name, and what stands behind the first `=` of a word that begins with two dashes.
-fn parted(word: &str) -> (&str, Option<&str>) {
+fn split_option(word: &str) -> (&str, Option<&str>) {
     if !word.starts_with("--") {
         return (word, None);
     }
@@ -164,7 +169,7 @@ struct Options<'a> {
 }
 
 /// Copies of words.
-fn copies(alloc: Global, words: &[&str]) -> Result<Items<Text>, AllocError> {
+fn texts_of(alloc: Global, words: &[&str]) -> Result<Items<Text>, AllocError> {
     let mut texts = Items::new(alloc);
     for word in words {
         texts.push(Text::from_str(alloc, word)?)?;
@@ -173,7 +178,7 @@ fn copies(alloc: Global, words: &[&str]) -> Result<Items<Text>, AllocError> {
 }
 
 /// A copy of a word that may be absent.
-fn copy(alloc: Global, word: Option<&str>) -> Result<Option<Text>, AllocError> {
+fn text_of(alloc: Global, word: Option<&str>) -> Result<Option<Text>, AllocError> {
     match word {
         Some(word) => Ok(Some(Text::from_str(alloc, word)?)),
         None => Ok(None),
@@ -181,18 +186,18 @@ fn copy(alloc: Global, word: Option<&str>) -> Result<Option<Text>, AllocError> {
 }
 
 /// The number that is an option's value.
-fn number_of<'a>(name: &'a str, value: &'a str) -> Result<usize, WordsError<'a>> {
+fn number_of<'a>(name: &'a str, value: &'a str) -> Result<usize, InvocationError<'a>> {
     match value.parse() {
         Ok(number) => Ok(number),
-        Err(_) => Err(WordsError::NoNumber { name, value }),
+        Err(_) => Err(InvocationError::NoNumber { name, value }),
     }
 }
 
 /// The version that is an option's value.
-fn version_of<'a>(name: &'a str, value: &'a str) -> Result<u32, WordsError<'a>> {
+fn version_of<'a>(name: &'a str, value: &'a str) -> Result<u32, InvocationError<'a>> {
     match version_number(value) {
         Some(version) => Ok(version),
-        None => Err(WordsError::NoVersion { name, value }),
+        None => Err(InvocationError::NoVersion { name, value }),
     }
 }
 
@@ -238,10 +243,10 @@ impl<'a> Options<'a> {
         choice: Choice,
         name: &'a str,
         value: &'a str,
-    ) -> Result<(), WordsError<'a>> {
+    ) -> Result<(), InvocationError<'a>> {
         match choice {
             Choice::Program => return Ok(self.programs.push(value)?),
-            _ if self.value(choice).is_some() => return Err(WordsError::SecondValue(name)),
+            _ if self.value(choice).is_some() => return Err(InvocationError::SecondValue(name)),
             Choice::Object => self.object = Some(number_of(name, value)?),
             Choice::Kernel => self.kernel = Some(version_of(name, value)?),
             _ => {}
@@ -251,35 +256,35 @@ impl<'a> Options<'a> {
     }
 
     /// The one file that is named.
-    fn one_file(&self) -> Result<&'a str, WordsError<'a>> {
+    fn one_file(&self) -> Result<&'a str, InvocationError<'a>> {
         let Some((file, others)) = self.files.split_first() else {
-            return Err(WordsError::NoFile);
+            return Err(InvocationError::NoFile);
         };
         match others.first() {
-            Some(other) => Err(WordsError::SecondFile(other)),
+            Some(other) => Err(InvocationError::SecondFile(other)),
             None => Ok(file),
         }
     }
 
     /// What `ebpf check` is asked for.
-    fn check(&self, alloc: Global) -> Result<Command, WordsError<'a>> {
+    fn check(&self, alloc: Global) -> Result<Invocation, InvocationError<'a>> {
         let Some((file, kernels)) = self.files.split_first() else {
-            return Err(WordsError::NoFile);
+            return Err(InvocationError::NoFile);
         };
-        Ok(Command::Check(CheckWords {
+        Ok(Invocation::Check(CheckWords {
             file: Text::from_str(alloc, file)?,
             object: self.object,
-            kernels: copies(alloc, kernels)?,
-            programs: copies(alloc, &self.programs)?,
+            kernels: texts_of(alloc, kernels)?,
+            programs: texts_of(alloc, &self.programs)?,
             all: self.has(Choice::All),
             json: self.has(Choice::Json),
         }))
     }
 
     /// What `ebpf list` is asked for.
-    fn list(&self, alloc: Global) -> Result<Command, WordsError<'a>> {
+    fn list(&self, alloc: Global) -> Result<Invocation, InvocationError<'a>> {
         let file = self.one_file()?;
-        Ok(Command::List(ListWords {
+        Ok(Invocation::List(ListWords {
             file: Text::from_str(alloc, file)?,
             object: self.object,
             json: self.has(Choice::Json),
@@ -287,28 +292,23 @@ impl<'a> Options<'a> {
     }
 
     /// What is to be prepared.
-    fn prepare(&self, alloc: Global) -> Result<PrepareWords, WordsError<'a>> {
+    fn prepare(&self, alloc: Global) -> Result<PrepareWords, InvocationError<'a>> {
         let file = self.one_file()?;
         Ok(PrepareWords {
             file: Text::from_str(alloc, file)?,
             object: self.object,
-            btf: copy(alloc, self.value(Choice::Btf))?,
-            kallsyms: copy(alloc, self.value(Choice::Kallsyms))?,
-            kconfig: copy(alloc, self.value(Choice::Kconfig))?,
+            btf: text_of(alloc, self.value(Choice::Btf))?,
+            kallsyms: text_of(alloc, self.value(Choice::Kallsyms))?,
+            kconfig: text_of(alloc, self.value(Choice::Kconfig))?,
             kernel: self.kernel,
-            programs: copies(alloc, &self.programs)?,
+            programs: texts_of(alloc, &self.programs)?,
             json: self.has(Choice::Json),
         })
     }
 
-    /// What `ebpf inspect` is asked for.
-    fn inspect(&self, alloc: Global) -> Result<Command, WordsError<'a>> {
-        Ok(Command::Inspect(self.prepare(alloc)?))
-    }
-
     /// What `ebpf link` is asked for.
-    fn link(&self, alloc: Global) -> Result<Command, WordsError<'a>> {
-        Ok(Command::Link(LinkWords {
+    fn link(&self, alloc: Global) -> Result<Invocation, InvocationError<'a>> {
+        Ok(Invocation::Link(LinkWords {
             prepare: self.prepare(alloc)?,
             bytes: self.has(Choice::Bytes),
             lines: self.has(Choice::Lines),
@@ -316,18 +316,15 @@ impl<'a> Options<'a> {
     }
 
     /// What a command is asked for.
-    fn command(&self, alloc: Global, verb: Verb) -> Result<Command, WordsError<'a>> {
+    fn command(&self, alloc: Global, verb: Verb) -> Result<Invocation, InvocationError<'a>> {
         if self.has(Choice::Version) && !self.has(Choice::Help) {
-            return Ok(Command::Version);
+            return Ok(Invocation::Version);
         }
         match verb {
-            Verb::Check if self.has(Choice::Help) => Ok(Command::CheckHelp),
-            Verb::List if self.has(Choice::Help) => Ok(Command::ListHelp),
-            Verb::Inspect if self.has(Choice::Help) => Ok(Command::InspectHelp),
-            Verb::Link if self.has(Choice::Help) => Ok(Command::LinkHelp),
+            _ if self.has(Choice::Help) => Ok(Invocation::VerbHelp(verb)),
             Verb::Check => self.check(alloc),
             Verb::List => self.list(alloc),
-            Verb::Inspect => self.inspect(alloc),
+            Verb::Inspect => Ok(Invocation::Inspect(self.prepare(alloc)?)),
             Verb::Link => self.link(alloc),
         }
     }
@@ -338,17 +335,17 @@ fn read_option<'a>(
     verb: Verb,
     options: &mut Options<'a>,
     word: &'a str,
-) -> Result<Option<(Choice, &'a str)>, WordsError<'a>> {
-    let (name, value) = parted(word);
+) -> Result<Option<(Choice, &'a str)>, InvocationError<'a>> {
+    let (name, value) = split_option(word);
     let Some(choice) = choice_of(verb, name) else {
-        return Err(WordsError::UnknownOption(word));
+        return Err(InvocationError::UnknownOption(word));
     };
     match value {
         Some(value) if has_value(choice) => {
             options.take(choice, name, value)?;
             Ok(None)
         }
-        Some(_) => Err(WordsError::NeedlessValue(name)),
+        Some(_) => Err(InvocationError::NeedlessValue(name)),
         None if has_value(choice) => Ok(Some((choice, name))),
         None => {
             options.chosen.push(choice)?;
@@ -362,7 +359,7 @@ fn read_options<'a>(
     alloc: Global,
     verb: Verb,
     words: &'a [String],
-) -> Result<Command, WordsError<'a>> {
+) -> Result<Invocation, InvocationError<'a>> {
     let mut options = Options::new(alloc);
     let mut waits = None;
     let mut only_files = false;
@@ -380,7 +377,7 @@ fn read_options<'a>(
         }
     }
     match waits {
-        Some((_, name)) => Err(WordsError::NoValue(name)),
+        Some((_, name)) => Err(InvocationError::NoValue(name)),
         None => options.command(alloc, verb),
     }
 }
@@ -392,18 +389,20 @@ fn read_options<'a>(
 ///
 /// `NoCommand`, `UnknownCommand`, and of a command the first word that can't be read, in their order, also a second value; `NoValue`
 /// where the last option lacks its value; `NoFile`, `SecondFile`. `OutOfMemory` where memory is refused.
-pub fn read_words<'a>(alloc: Global, words: &'a [String]) -> Result<Command, WordsError<'a>> {
+pub fn read_words<'a>(
+    alloc: Global,
+    words: &'a [String],
+) -> Result<Invocation, InvocationError<'a>> {
     let Some((first, rest)) = words.split_first() else {
-        return Err(WordsError::NoCommand);
+        return Err(InvocationError::NoCommand);
     };
     match first.as_str() {
-        "check" => read_options(alloc, Verb::Check, rest),
-        "list" => read_options(alloc, Verb::List, rest),
-        "inspect" => read_options(alloc, Verb::Inspect, rest),
-        "link" => read_options(alloc, Verb::Link, rest),
-        "-h" | "--help" | "help" => Ok(Command::Help),
-        "-V" | "--version" => Ok(Command::Version),
-        word if is_option(word) => Err(WordsError::UnknownOption(word)),
-        word => Err(WordsError::UnknownCommand(word)),
+        "-h" | "--help" | "help" => Ok(Invocation::Help),
+        "-V" | "--version" => Ok(Invocation::Version),
+        word if is_option(word) => Err(InvocationError::UnknownOption(word)),
+        word => match Verb::named(word) {
+            Some(verb) => read_options(alloc, verb, rest),
+            None => Err(InvocationError::UnknownCommand(word)),
+        },
     }
 }

@@ -3,7 +3,7 @@
 use crate::verdict::findings::SourceLocation;
 use crate::verdict::loaded::Loaded;
 use cli_common::programs::ObjectProgram;
-use cli_common::source_lines::{Lines, Span};
+use cli_common::source_lines::{LineSpan, Lines};
 use ebpf_base::{ByKey, ByName, Items};
 use ebpf_btf::Btf;
 use ebpf_core_relo::put_slots;
@@ -203,7 +203,7 @@ impl SlotRef<'_> {
         } else {
             Some((self.copy.name.clone()?, self.slot))
         };
-        let span = Span {
+        let span = LineSpan {
             begin: self.copy.base,
             end: self.copy.base.saturating_add(self.copy.slots),
             slot: self.place(),
