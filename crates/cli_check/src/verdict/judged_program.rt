@@ -3,7 +3,7 @@
 use crate::verdict::findings::SourceLocation;
 use crate::verdict::loaded::Loaded;
 use cli_common::programs::ObjectProgram;
-use cli_common::source_lines::{Lines, LineSpan};
+use cli_common::source_lines::{LineSpan, Lines};
 use ebpf_base::{ByKey, ByName, Items};
 use ebpf_btf::Btf;
 use ebpf_core_relo::put_slots;
