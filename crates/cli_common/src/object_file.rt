@@ -44,7 +44,7 @@ fn choices(alloc: Global, found: &[ObjectRange]) -> Result<String, AllocError> {
     let mut text = String::new(alloc);
     for (at, range) in found.iter().enumerate() {
         let front = if at == 0 { "" } else { ", " };
-        let number = at.saturating_add(1);
+        let number = at + 1;
         let bytes = range.end.saturating_sub(range.start);
         write!(
             text,
@@ -170,7 +170,7 @@ pub fn gather_words(rt: &HostRuntime) -> io::Result<Vec<String>> {
 pub fn read_file(rt: &HostRuntime, path: &str) -> io::Result<Vec<u8>> {
     let mut file = fs::open(rt, path)?;
     let size = file.metadata()?.len().min(1 << 40) as usize;
-    let mut bytes = Vec::with_capacity(rt.alloc(), size.saturating_add(1))?;
+    let mut bytes = Vec::with_capacity(rt.alloc(), size + 1)?;
     file.read_to_end(&mut bytes)?;
     Ok(bytes)
 }
