@@ -23,7 +23,7 @@ fn machine_text(alloc: Global, machine: u16) -> Result<String, AllocError> {
 }
 
 /// A refusal of a choice among the objects of a file.
-fn no_choice(variant: &'static str, text: String, help: Option<String>) -> FileRefusal {
+fn choice_refusal(variant: &'static str, text: String, help: Option<String>) -> FileRefusal {
     FileRefusal {
         stage: READING,
         variant,
@@ -33,10 +33,10 @@ fn no_choice(variant: &'static str, text: String, help: Option<String>) -> FileR
 }
 
 /// The refusal of a file for another machine that holds no object.
-fn without_object(alloc: Global, machine: u16) -> Result<FileRefusal, AllocError> {
+fn no_object_refusal(alloc: Global, machine: u16) -> Result<FileRefusal, AllocError> {
     let mut text = machine_text(alloc, machine)?;
     text.push_str(" and holds no eBPF object")?;
-    Ok(no_choice("NoObject", text, None))
+    Ok(choice_refusal("NoObject", text, None))
 }
 
 /// The objects that can be chosen, with their sizes and offsets.
@@ -44,7 +44,7 @@ fn choices(alloc: Global, found: &[ObjectRange]) -> Result<String, AllocError> {
     let mut text = String::new(alloc);
     for (at, range) in found.iter().enumerate() {
         let front = if at == 0 { "" } else { ", " };
-        let number = at.saturating_add(1);
+        let number = at + 1;
         let bytes = range.end.saturating_sub(range.start);
         write!(
             text,
@@ -56,7 +56,7 @@ fn choices(alloc: Global, found: &[ObjectRange]) -> Result<String, AllocError> {
 }
 
 /// The refusal of a choice that selects none of several objects.
-fn without_choice(
+fn no_choice_refusal(
     alloc: Global,
     machine: u16,
     found: &[ObjectRange],
@@ -73,17 +73,17 @@ fn without_choice(
     } else {
         "SeveralObjects"
     };
-    Ok(no_choice(variant, text, Some(choices(alloc, found)?)))
+    Ok(choice_refusal(variant, text, Some(choices(alloc, found)?)))
 }
 
 /// The refusal of a second object in a file that is one object.
-fn without_other(alloc: Global, number: usize) -> Result<FileRefusal, AllocError> {
+fn no_other_refusal(alloc: Global, number: usize) -> Result<FileRefusal, AllocError> {
     let text = format!(in alloc; "is one eBPF object, no object {number}")?;
-    Ok(no_choice("NoObject", text, None))
+    Ok(choice_refusal("NoObject", text, None))
 }
 
 /// The range of the object that is chosen among several, the first of which has the number 1; of one alone that one.
-fn chosen(found: &[ObjectRange], number: Option<usize>) -> Option<ObjectRange> {
+fn chosen_range(found: &[ObjectRange], number: Option<usize>) -> Option<ObjectRange> {
     match (number, found) {
         (None, [only]) => Some(*only),
         (Some(number), _) if number > 0 => found.get(number - 1).copied(),
@@ -92,7 +92,7 @@ fn chosen(found: &[ObjectRange], number: Option<usize>) -> Option<ObjectRange> {
 }
 
 /// The bytes of the object in a file for another machine, or why there are none, with the status.
-fn taken(
+fn object_bytes(
     alloc: Global,
     file: &[u8],
     machine: u16,
@@ -100,15 +100,15 @@ fn taken(
 ) -> Result<Result<Vec<u8>, (FileRefusal, u8)>, AllocError> {
     let found = embedded_objects(alloc, file)?;
     if found.is_empty() {
-        return Ok(Err((without_object(alloc, machine)?, 1)));
+        return Ok(Err((no_object_refusal(alloc, machine)?, 1)));
     }
-    let bytes = match chosen(&found, number) {
+    let bytes = match chosen_range(&found, number) {
         Some(range) => file.get(range.start..range.end),
         None => None,
     };
     match bytes {
         Some(bytes) => Ok(Ok(bytes.to_vec(alloc)?)),
-        None => Ok(Err((without_choice(alloc, machine, &found, number)?, 2))),
+        None => Ok(Err((no_choice_refusal(alloc, machine, &found, number)?, 2))),
     }
 }
 
@@ -126,10 +126,10 @@ pub fn read_object(
         let Some(number) = number.filter(|number| *number != 1) else {
             return Ok(file);
         };
-        let refusal = without_other(alloc, number)?;
+        let refusal = no_other_refusal(alloc, number)?;
         return Err(refused(rt, json, path, &refusal, 2));
     };
-    match taken(alloc, &file, machine, number)? {
+    match object_bytes(alloc, &file, machine, number)? {
         Ok(bytes) => Ok(bytes),
         Err((refusal, status)) => Err(refused(rt, json, path, &refusal, status)),
     }
@@ -170,7 +170,7 @@ pub fn gather_words(rt: &HostRuntime) -> io::Result<Vec<String>> {
 pub fn read_file(rt: &HostRuntime, path: &str) -> io::Result<Vec<u8>> {
     let mut file = fs::open(rt, path)?;
     let size = file.metadata()?.len().min(1 << 40) as usize;
-    let mut bytes = Vec::with_capacity(rt.alloc(), size.saturating_add(1))?;
+    let mut bytes = Vec::with_capacity(rt.alloc(), size + 1)?;
     file.read_to_end(&mut bytes)?;
     Ok(bytes)
 }

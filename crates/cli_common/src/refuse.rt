@@ -45,7 +45,7 @@ pub fn refused(
 }
 
 /// The refusal of a file that the system can't read.
-fn unreadable(alloc: Global, error: &io::Error) -> Result<FileRefusal, AllocError> {
+fn unreadable_refusal(alloc: Global, error: &io::Error) -> Result<FileRefusal, AllocError> {
     if matches!(error.kind(), ErrorKind::OutOfMemory) {
         return Err(AllocError);
     }
@@ -58,7 +58,11 @@ fn unreadable(alloc: Global, error: &io::Error) -> Result<FileRefusal, AllocErro
 }
 
 /// The refusal of a compressed file.
-fn compressed(alloc: Global, path: &str, by: Compression) -> Result<FileRefusal, AllocError> {
+fn compressed_refusal(
+    alloc: Global,
+    path: &str,
+    by: Compression,
+) -> Result<FileRefusal, AllocError> {
     let program = by.program();
     Ok(FileRefusal {
         stage: READING,
@@ -80,10 +84,10 @@ pub fn read_plain(
     let alloc = rt.alloc();
     let bytes = match read_file(rt, path) {
         Ok(bytes) => bytes,
-        Err(error) => return Ok(Err(unreadable(alloc, &error)?)),
+        Err(error) => return Ok(Err(unreadable_refusal(alloc, &error)?)),
     };
     match Compression::of(&bytes) {
-        Some(by) => Ok(Err(compressed(alloc, path, by)?)),
+        Some(by) => Ok(Err(compressed_refusal(alloc, path, by)?)),
         None => Ok(Ok(bytes)),
     }
 }
@@ -97,7 +101,11 @@ pub fn read_given(rt: &HostRuntime, json: bool, path: &str) -> Result<Vec<u8>, S
 }
 
 /// The refusal of an object that can't be parsed.
-fn unparsed(alloc: Global, file: &[u8], error: &ParseError) -> Result<FileRefusal, AllocError> {
+fn parse_refusal(
+    alloc: Global,
+    file: &[u8],
+    error: &ParseError,
+) -> Result<FileRefusal, AllocError> {
     let explained = ExplainedParse::new(file, error);
     Ok(FileRefusal {
         stage: "parse",
@@ -118,7 +126,7 @@ pub fn refuse_parsing(
     if matches!(error, ParseError::OutOfMemory) {
         return Stop::Memory;
     }
-    match unparsed(rt.alloc(), file, error) {
+    match parse_refusal(rt.alloc(), file, error) {
         Ok(refusal) => refused(rt, json, path, &refusal, 1),
         Err(_) => Stop::Memory,
     }
@@ -137,7 +145,7 @@ fn known_names(alloc: Global, programs: &[ObjectProgram]) -> Result<String, Allo
 }
 
 /// The refusal of a program name that the object lacks.
-fn no_program(
+fn no_program_refusal(
     alloc: Global,
     programs: &[ObjectProgram],
     name: &str,
@@ -174,14 +182,14 @@ fn check_names(
         if has_name(programs, name) {
             continue;
         }
-        let refusal = no_program(rt.alloc(), programs, name.as_str())?;
+        let refusal = no_program_refusal(rt.alloc(), programs, name.as_str())?;
         return Err(refused(rt, json, path, &refusal, 2));
     }
     Ok(())
 }
 
 /// The programs that have one of these names.
-fn of_names(
+fn programs_of_names(
     alloc: Global,
     programs: Vec<ObjectProgram>,
     names: &[Text],
@@ -210,7 +218,7 @@ pub fn chosen_programs(
         return Ok(programs);
     }
     check_names(rt, json, path, &programs, names)?;
-    Ok(of_names(rt.alloc(), programs, names)?)
+    Ok(programs_of_names(rt.alloc(), programs, names)?)
 }
 
 /// Why a command stops early.

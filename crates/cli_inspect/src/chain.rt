@@ -57,7 +57,7 @@ struct ChainWalk {
 }
 
 /// How many references lead to each copy.
-fn counted(alloc: Global, count: usize, edges: &[Edge]) -> Result<Vec<usize>, AllocError> {
+fn reference_counts(alloc: Global, count: usize, edges: &[Edge]) -> Result<Vec<usize>, AllocError> {
     let mut counts = vec![in alloc; 0usize; count]?;
     for edge in edges {
         if let Some(number) = counts.get_mut(edge.to) {
@@ -68,7 +68,7 @@ fn counted(alloc: Global, count: usize, edges: &[Edge]) -> Result<Vec<usize>, Al
 }
 
 /// The copies that no reference leads to.
-fn without(alloc: Global, counts: &[usize]) -> Result<Vec<usize>, AllocError> {
+fn unreferenced_copies(alloc: Global, counts: &[usize]) -> Result<Vec<usize>, AllocError> {
     let mut copies = Vec::with_capacity(alloc, counts.len())?;
     for (copy, count) in counts.iter().enumerate() {
         if *count == 0 {
@@ -90,8 +90,8 @@ fn edges_from(edges: &[Edge], copy: usize) -> &[Edge] {
 
 impl ChainWalk {
     fn new(alloc: Global, count: usize, edges: &[Edge]) -> Result<ChainWalk, AllocError> {
-        let waiting = counted(alloc, count, edges)?;
-        let ready = without(alloc, &waiting)?;
+        let waiting = reference_counts(alloc, count, edges)?;
+        let ready = unreferenced_copies(alloc, &waiting)?;
         let depths = vec![in alloc; 1usize; count]?;
         Ok(ChainWalk {
             waiting,
@@ -131,7 +131,7 @@ impl ChainWalk {
 }
 
 /// The number of functions in the deepest chain of these references. `None` if they form a cycle.
-fn longest(alloc: Global, count: usize, edges: &[Edge]) -> Result<Option<usize>, AllocError> {
+fn longest_chain(alloc: Global, count: usize, edges: &[Edge]) -> Result<Option<usize>, AllocError> {
     let mut walk = ChainWalk::new(alloc, count, edges)?;
     for _ in 0..count {
         let Some(copy) = walk.ready.pop() else {
@@ -150,9 +150,9 @@ pub fn deepest_chain(
     count: usize,
     edges: &[Edge],
 ) -> Result<Option<usize>, AllocError> {
-    if let Some(chain) = longest(alloc, count, edges)? {
+    if let Some(chain) = longest_chain(alloc, count, edges)? {
         return Ok(Some(chain));
     }
     let calls = calls_among(alloc, edges)?;
-    longest(alloc, count, &calls)
+    longest_chain(alloc, count, &calls)
 }

@@ -57,7 +57,7 @@ fn calls_of<'a>(
 }
 
 /// Copies of names.
-fn copied(alloc: Global, names: &BTreeSet<&str>) -> Result<Items<Text>, AllocError> {
+fn texts_of(alloc: Global, names: &BTreeSet<&str>) -> Result<Items<Text>, AllocError> {
     let mut texts = Items::new(alloc);
     for name in names.iter() {
         texts.push(Text::from_str(alloc, name)?)?;
@@ -73,7 +73,7 @@ pub fn kernel_calls(alloc: Global, object: &Object) -> Result<ByKey<Items<Text>>
         if names.is_empty() {
             continue;
         }
-        all.insert(*key, copied(alloc, &names)?)?;
+        all.insert(*key, texts_of(alloc, &names)?)?;
     }
     Ok(all)
 }

@@ -25,11 +25,9 @@ pub struct ProgramParts<'a> {
 
 /// The slots of a linked program.
 fn slots_of(map: &LinkMap) -> usize {
-    let mut slots: usize = 0;
-    for copy in map.copies.iter() {
-        slots = slots.saturating_add(copy.slots);
-    }
-    slots
+    map.copies
+        .iter()
+        .fold(0_usize, |slots, copy| slots.saturating_add(copy.slots))
 }
 
 /// What a program is made of.

@@ -28,48 +28,6 @@ pub struct ProgramUses<'a> {
     pub kernel_functions: BTreeSet<&'a str>,
 }
 
-/// Adds the names of maps.
-fn add_maps<'a>(
-    names: &mut BTreeSet<&'a str>,
-    uses: Option<&'a Items<MapUse>>,
-) -> Result<(), AllocError> {
-    let Some(uses) = uses else {
-        return Ok(());
-    };
-    for used in uses.iter() {
-        names.insert(used.name.as_str())?;
-    }
-    Ok(())
-}
-
-/// Adds numbers.
-fn add_numbers(
-    numbers: &mut BTreeSet<u32>,
-    added: Option<&BTreeSet<u32>>,
-) -> Result<(), AllocError> {
-    let Some(added) = added else {
-        return Ok(());
-    };
-    for number in added.iter() {
-        numbers.insert(*number)?;
-    }
-    Ok(())
-}
-
-/// Adds names.
-fn add_names<'a>(
-    names: &mut BTreeSet<&'a str>,
-    added: Option<&'a Items<Text>>,
-) -> Result<(), AllocError> {
-    let Some(added) = added else {
-        return Ok(());
-    };
-    for name in added.iter() {
-        names.insert(name.as_str())?;
-    }
-    Ok(())
-}
-
 impl FunctionUses {
     /// What the functions of an object use, as it was parsed.
     pub fn of(alloc: Global, parsed: &Object) -> Result<FunctionUses, AllocError> {
@@ -85,9 +43,22 @@ impl FunctionUses {
 
     /// Adds what the function of a key uses.
     fn add<'a>(&'a self, uses: &mut ProgramUses<'a>, key: (usize, u64)) -> Result<(), AllocError> {
-        add_maps(&mut uses.maps, self.maps.get(key))?;
-        add_numbers(&mut uses.helpers, self.helpers.get(key))?;
-        add_names(&mut uses.kernel_functions, self.kernel_functions.get(key))
+        if let Some(maps) = self.maps.get(key) {
+            for used in maps.iter() {
+                uses.maps.insert(used.name.as_str())?;
+            }
+        }
+        if let Some(helpers) = self.helpers.get(key) {
+            for number in helpers.iter() {
+                uses.helpers.insert(*number)?;
+            }
+        }
+        if let Some(names) = self.kernel_functions.get(key) {
+            for name in names.iter() {
+                uses.kernel_functions.insert(name.as_str())?;
+            }
+        }
+        Ok(())
     }
 
     /// What a program of these copies uses.

@@ -230,11 +230,9 @@ impl<'a> ObjectListing<'a> {
 
     /// How many CO-RE records there are.
     pub fn record_count(&self) -> usize {
-        let mut all: usize = 0;
-        for (_, count) in self.records.iter() {
-            all = all.saturating_add(*count);
-        }
-        all
+        self.records
+            .iter()
+            .fold(0_usize, |all, (_, count)| all.saturating_add(*count))
     }
 
     /// How many slots the function of a key has.
