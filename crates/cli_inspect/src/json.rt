@@ -6,7 +6,7 @@ use cli_common::helper_calls::helper_name;
 use cli_common::names::{Quoted, separate};
 use cli_common::programs::ObjectProgram;
 use cli_common::types::program_type_name;
-use ebpf_object::relocation::{CodeCopy, Reference};
+use ebpf_object::relocation::{CodeCopy, PlacedReference};
 use std::collections::BTreeSet;
 use std::io::{self, Write};
 
@@ -64,7 +64,7 @@ fn write_copies<W: Write>(out: &mut W, copies: &[CodeCopy]) -> io::Result<()> {
 }
 
 /// Writes references.
-fn write_references<W: Write>(out: &mut W, references: &[Reference]) -> io::Result<()> {
+fn write_references<W: Write>(out: &mut W, references: &[PlacedReference]) -> io::Result<()> {
     let mut is_first = true;
     write!(out, ",\"references\":[")?;
     for reference in references {

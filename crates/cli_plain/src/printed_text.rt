@@ -7,7 +7,7 @@ ghost use Rattle.cli_plain.specs.Printed.{hex_digit, slot_line, head_line, progr
 
 use ebpf_inspect::ProgramReport;
 use ebpf_object::insn::bpf_insn;
-use ebpf_object::relocation::{CodeCopy, Reference};
+use ebpf_object::relocation::{CodeCopy, PlacedReference};
 use std::io::{self, Write};
 
 /// The digit of a number below 16.
@@ -103,7 +103,7 @@ fn write_copy<W: Write>(out: &mut W, copy: &CodeCopy) -> io::Result<()>
 }
 
 /// Writes the line of a reference.
-fn write_reference<W: Write>(out: &mut W, reference: &Reference) -> io::Result<()>
+fn write_reference<W: Write>(out: &mut W, reference: &PlacedReference) -> io::Result<()>
     ensures { OnOk result (Appends (W.contents out.old) (W.contents out.new) (reference_line reference.now)) }
 {
     let place = reference.place;
@@ -123,7 +123,7 @@ fn write_copies<W: Write>(out: &mut W, copies: &[CodeCopy]) -> io::Result<()>
 }
 
 /// Writes the lines of references.
-fn write_references<W: Write>(out: &mut W, references: &[Reference]) -> io::Result<()>
+fn write_references<W: Write>(out: &mut W, references: &[PlacedReference]) -> io::Result<()>
     ensures { OnOk result (Appends (W.contents out.old) (W.contents out.new) (flat_map reference_line references.now)) }
 {
     for reference in references {

@@ -43,7 +43,7 @@ pub enum Target {
 
 /// A reference of a function.
 #[derive(Clone, Copy, Debug, PartialEq, Eq)]
-pub struct Call {
+pub struct Reference {
     /// The number of the slot that refers.
     pub slot: usize,
     /// Where it leads.

@@ -5,7 +5,7 @@ ghost use Rattle.std.specs.List.{list_all};
 ghost use Rattle.ebpf_linker.specs.Numbered.{Sound};
 ghost use Rattle.ebpf_linker.specs.PrivateContracts.{is_within, is_above, is_list_sound};
 
-use crate::reference::{Call, Target};
+use crate::reference::{Reference, Target};
 
 // Whether a reference leads to one of so many functions, or nowhere.
 fn is_within(count: usize, target: Target) -> bool
@@ -28,7 +28,7 @@ fn is_above(before: Option<usize>, slot: usize) -> bool
 }
 
 // Whether the slots of references rise, and each leads to one of so many functions or nowhere.
-fn is_list_sound(calls: &[Call], count: usize) -> bool
+fn is_list_sound(calls: &[Reference], count: usize) -> bool
     ensures { result ≡ is_list_sound count None calls.now }
 {
     let mut before = None;
@@ -42,7 +42,7 @@ fn is_list_sound(calls: &[Call], count: usize) -> bool
 }
 
 // Whether this holds of each list.
-fn are_lists_sound(calls: &[Vec<Call>], count: usize) -> bool
+fn are_lists_sound(calls: &[Vec<Reference>], count: usize) -> bool
     ensures { result ≡ list_all (λ v. is_list_sound count None v.items) calls.now }
 {
     for list in calls {
@@ -56,7 +56,7 @@ fn are_lists_sound(calls: &[Vec<Call>], count: usize) -> bool
 /// Whether the references of functions may be linked: the slots of each list rise, and each leads to one of `count`
 /// functions or nowhere.
 #[tactic(auto, using(crate::proofs::Soundly::sound_tests))]
-pub fn is_sound(calls: &[Vec<Call>], count: usize) -> bool
+pub fn is_sound(calls: &[Vec<Reference>], count: usize) -> bool
     ensures { IsTrue result ↔ Sound count calls.now }
 {
     are_lists_sound(calls, count)
