@@ -13,7 +13,7 @@ use Rattle.ebpf_core_relo.specs.declared.outcomes.RecordOutcome.{RecordOutcome}
 use Rattle.ebpf_core_relo.specs.declared.outcomes.RecordResult.{RecordResult}
 use Rattle.ebpf_core_relo.specs.declared.outcomes.RecordResult.TheVariants.{Value, Absent, Refused}
 use Rattle.ebpf_core_relo.specs.declared.outcomes.RecordSlot.{RecordSlot}
-use Rattle.ebpf_linker.specs.declared.link_map.Reference.{Reference}
+use Rattle.ebpf_linker.specs.declared.link_map.PlacedReference.{PlacedReference}
 use Rattle.ebpf_object.specs.WrittenSlots.{outcomes_by}
 use Rattle.ebpf_object.specs.declared.object.Object.{Object}
 use Rattle.ebpf_reloc.specs.declared.link_map.CodeCopy.{CodeCopy}
@@ -122,9 +122,9 @@ copy_row c name_at = record {
 abbrev pub copy_list : List CodeCopy → Listed ebpf_code_copy
 copy_list copies = listed_by (λ c name_at. copy_row c name_at ∷ []) (λ c. zero_terminated c.name) copies
 
-abbrev pub reference_row : Reference → ebpf_code_reference
+abbrev pub reference_row : PlacedReference → ebpf_code_reference
 reference_row r = record { slot = r.place; base = r.base; is_call = flag r.is_call }
 
 -- references in their order
-abbrev pub reference_rows : List Reference → List ebpf_code_reference
+abbrev pub reference_rows : List PlacedReference → List ebpf_code_reference
 reference_rows references = map reference_row references

@@ -10,7 +10,7 @@ use crate::refusals::record_fault;
 use ebpf_base::{Items, Text};
 use ebpf_btf::{Btf, BtfError};
 use ebpf_core_relo::{Absence, RecordOutcome, RecordResult, RecordSlot};
-use ebpf_reloc::{CodeCopy, Reference};
+use ebpf_reloc::{CodeCopy, PlacedReference};
 use std::alloc::{AllocError, Global};
 
 /// What a CO-RE record comes to over a kernel's types.
@@ -215,7 +215,7 @@ impl Rows<CodeCopy, ()> for ebpf_code_copy {
 }
 
 /// The row of a reference.
-fn reference_row(reference: Reference) -> ebpf_code_reference
+fn reference_row(reference: PlacedReference) -> ebpf_code_reference
     ensures { result ≡ reference_row reference }
 {
     ebpf_code_reference {
@@ -228,7 +228,7 @@ fn reference_row(reference: Reference) -> ebpf_code_reference
 /// The rows of references, in their order.
 pub fn list_references(
     alloc: Global,
-    references: &[Reference],
+    references: &[PlacedReference],
 ) -> Result<Items<ebpf_code_reference>, AllocError>
     ensures { IfOk result (λ rows. rows ≡ reference_rows references.now) }
 {

@@ -4,7 +4,7 @@ use crate::parts::{CHAIN, FUNCTIONS, MAPS, ProgramParts, SLOTS};
 use crate::text::reference_word;
 use cli_common::helper_calls::write_helper;
 use cli_common::json::{JsonWriter, write_document};
-use ebpf_object::relocation::{CodeCopy, Reference};
+use ebpf_object::relocation::{CodeCopy, PlacedReference};
 use std::io::{self, Write};
 
 /// Writes the kernel's limits.
@@ -28,7 +28,7 @@ fn write_copy<W: Write>(json: &mut JsonWriter<'_, W>, copy: &CodeCopy) -> io::Re
 }
 
 /// Writes a reference between two copies.
-fn write_reference<W: Write>(json: &mut JsonWriter<'_, W>, to: &Reference) -> io::Result<()> {
+fn write_reference<W: Write>(json: &mut JsonWriter<'_, W>, to: &PlacedReference) -> io::Result<()> {
     json.member("slot", to.place)?;
     json.member("base", to.base)?;
     json.member("kind", reference_word(to.is_call))

@@ -7,7 +7,7 @@ use cli_common::refuse::Stop;
 use cli_common::table::{Column, Table};
 use cli_common::types::program_type_name;
 use ebpf_object::Object;
-use ebpf_object::relocation::{CodeCopy, Reference};
+use ebpf_object::relocation::{CodeCopy, PlacedReference};
 use std::alloc::{AllocError, Global};
 use std::collections::BTreeSet;
 use std::io::Write;
@@ -115,7 +115,7 @@ fn copy_name(copies: &[CodeCopy], number: usize) -> &str {
 fn push_reference(
     table: &mut Table<'_>,
     copies: &[CodeCopy],
-    reference: &Reference,
+    reference: &PlacedReference,
     edge: Edge,
 ) -> Result<(), AllocError> {
     table.push_number(reference.place)?;

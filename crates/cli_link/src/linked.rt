@@ -3,7 +3,7 @@
 use cli_common::source_lines::Lines;
 use ebpf_model::Function;
 use ebpf_parts::insn::bpf_insn;
-use ebpf_reloc::{CodeCopy, LinkMap, Reference};
+use ebpf_reloc::{CodeCopy, LinkMap, PlacedReference};
 use std::alloc::{AllocError, Global};
 use std::collections::BTreeMap;
 
@@ -54,7 +54,7 @@ fn names_of(alloc: Global, copies: &[CodeCopy]) -> Result<BTreeMap<usize, &str>,
 /// The targets of references.
 fn targets_of(
     alloc: Global,
-    references: &[Reference],
+    references: &[PlacedReference],
 ) -> Result<BTreeMap<usize, usize>, AllocError> {
     let mut targets = BTreeMap::new(alloc);
     for reference in references {

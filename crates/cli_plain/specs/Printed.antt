@@ -16,7 +16,7 @@ use Rattle.ebpf_ksyms.specs.Sources.{Source}
 use Rattle.ebpf_model.specs.Symbols.{key_address, key_section}
 use Rattle.ebpf_object.specs.Objects.{object_of}
 use Rattle.ebpf_reloc.specs.declared.link_map.CodeCopy.{CodeCopy}
-use Rattle.ebpf_linker.specs.declared.link_map.Reference.{Reference}
+use Rattle.ebpf_linker.specs.declared.link_map.PlacedReference.{PlacedReference}
 use Rattle.ebpf_parts.specs.declared.reading.Reading.TheVariants.{Stated}
 use Rattle.cli_common.specs.DefaultPasses.{default_passes}
 use Rattle.cli_common.specs.SlotText.{head_line, program_text}
@@ -54,7 +54,7 @@ word_of true = codes "call"
 word_of false = codes "load"
 
 -- `ref PLACE BASE call` or `ref PLACE BASE load`
-abbrev pub reference_line : Reference → List ℕ
+abbrev pub reference_line : PlacedReference → List ℕ
 reference_line r = codes "ref " ++ decimal r.place ++ codes " " ++ decimal r.base ++ codes " " ++ word_of r.is_call ++ 10 ∷ []
 
 -- `program NAME slots N`, and a line for each copy and for each reference

@@ -9,7 +9,7 @@ ghost use Rattle.cli_plain.specs.Printed.{address_text, copy_line, reference_lin
 use cli_common::slot_text::write_slots;
 use ebpf_inspect::ProgramReport;
 use ebpf_object::insn::bpf_insn;
-use ebpf_object::relocation::{CodeCopy, Reference};
+use ebpf_object::relocation::{CodeCopy, PlacedReference};
 use std::io::{self, Write};
 
 /// Writes the line of a program: its name and the number of its slots.
@@ -50,7 +50,7 @@ fn write_copy<W: Write>(out: &mut W, copy: &CodeCopy) -> io::Result<()>
 }
 
 /// Writes the line of a reference.
-fn write_reference<W: Write>(out: &mut W, reference: &Reference) -> io::Result<()>
+fn write_reference<W: Write>(out: &mut W, reference: &PlacedReference) -> io::Result<()>
     ensures { OnOk result (Appends (W.contents out.old) (W.contents out.new) (reference_line reference.now)) }
 {
     let place = reference.place;
@@ -70,7 +70,7 @@ fn write_copies<W: Write>(out: &mut W, copies: &[CodeCopy]) -> io::Result<()>
 }
 
 /// Writes the lines of references.
-fn write_references<W: Write>(out: &mut W, references: &[Reference]) -> io::Result<()>
+fn write_references<W: Write>(out: &mut W, references: &[PlacedReference]) -> io::Result<()>
     ensures { OnOk result (Appends (W.contents out.old) (W.contents out.new) (flat_map reference_line references.now)) }
 {
     for reference in references {

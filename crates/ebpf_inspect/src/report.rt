@@ -12,7 +12,9 @@ ghost use Rattle.ebpf_reloc.specs.SlotTargets.{read};
 use ebpf_base::{Items, Text};
 use ebpf_object::insn::bpf_insn;
 use ebpf_object::prepare::PrepareError;
-use ebpf_object::relocation::{CodeCopy, LinkedFunction, NumberedFunctions, ProgramKey, Reference};
+use ebpf_object::relocation::{
+    CodeCopy, LinkedFunction, NumberedFunctions, PlacedReference, ProgramKey,
+};
 use std::alloc::Global;
 
 /// A linked program: its slots, the copies of functions that they are, and the references between these.
@@ -25,7 +27,7 @@ pub struct ProgramReport {
     /// The copies of functions in it, its own function first.
     pub copies: Items<CodeCopy>,
     /// The references between them, by the slots that hold them.
-    pub references: Items<Reference>,
+    pub references: Items<PlacedReference>,
 }
 
 /// The report of a program.

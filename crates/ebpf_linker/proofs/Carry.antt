@@ -15,7 +15,7 @@ use Rattle.ebpf_linker.specs.Order.{KeyPath}
 use Rattle.ebpf_linker.specs.PrivateContracts.{key_copy}
 use Rattle.ebpf_linker.specs.Result.{func_moved, line_moved, func_records, line_records, linked_func_info, linked_line_info, has_lines, count_if, IsOrder, IsLayout, IsProgram}
 use Rattle.ebpf_linker.specs.declared.body.LinkedProgram.{LinkedProgram}
-use Rattle.ebpf_linker.specs.declared.link_map.Reference.{Reference}
+use Rattle.ebpf_linker.specs.declared.link_map.PlacedReference.{PlacedReference}
 use Rattle.ebpf_parts.specs.declared.insn.bpf_insn.{bpf_insn}
 
 -- ---- what linking gives, from functions by their numbers to functions by their keys
@@ -299,7 +299,7 @@ module _ {M D K E : Type 0} (G : Functions M D) (F : Functions K E) (IsNumber : 
       ∙ ap (λ (s : List bpf_insn). record { key = key m; base = base; slots = length s } ∷ copies_from F (base + length s) (map key ms)) (sym (body_to G F IsNumber key name num m all.0))
 
   module _ (p : M) (ms : List M) (is : IsNumber p) (all : AllNumbers IsNumber ms) where
-    reference_to : (r : Reference) → IsReference G p ms r → IsReference F (key p) (map key ms) r
+    reference_to : (r : PlacedReference) → IsReference G p ms r → IsReference F (key p) (map key ms) r
     reference_to r h =
         let ik : IsNumber h.k = number_at IsNumber key (p ∷ ms) h.k (is, all) (begins_among G (p ∷ ms) h.k h.b h.begins) in
         record {
@@ -318,7 +318,7 @@ module _ {M D K E : Type 0} (G : Functions M D) (F : Functions K E) (IsNumber : 
           is_call = h.is_call;
         }
 
-    reference_from : (r : Reference) → IsReference F (key p) (map key ms) r → IsReference G p ms r
+    reference_from : (r : PlacedReference) → IsReference F (key p) (map key ms) r → IsReference G p ms r
     reference_from r h =
         let (k, ik, e, begins) = begins_from G F IsNumber key name num (p ∷ ms) h.k h.b (is, all) h.begins in
         let (n, in_n, f, reaches) = begins_from G F IsNumber key name num ms h.m h.c all h.reaches in
@@ -341,7 +341,7 @@ module _ {M D K E : Type 0} (G : Functions M D) (F : Functions K E) (IsNumber : 
           is_call = h.is_call;
         }
 
-    references_to : (rs : List Reference) → AreReferences G p ms rs → AreReferences F (key p) (map key ms) rs
+    references_to : (rs : List PlacedReference) → AreReferences G p ms rs → AreReferences F (key p) (map key ms) rs
     references_to rs h = record {
       sound = λ r a. reference_to r (h.sound r a);
       complete = λ r f. h.complete r (reference_from r f);
@@ -349,7 +349,7 @@ module _ {M D K E : Type 0} (G : Functions M D) (F : Functions K E) (IsNumber : 
     }
 
   -- what is said of a program by numbers holds by keys
-  pub map_to : (p : M) (ms : List M) (cs : List (CopyOf M)) (rs : List Reference) → IsNumber p → IsLinkMap G p ms cs rs → IsLinkMap F (key p) (map key ms) (map (key_copy key) cs) rs
+  pub map_to : (p : M) (ms : List M) (cs : List (CopyOf M)) (rs : List PlacedReference) → IsNumber p → IsLinkMap G p ms cs rs → IsLinkMap F (key p) (map key ms) (map (key_copy key) cs) rs
   map_to p ms cs rs is h =
       let all = layout_numbers G F IsNumber key name num p ms is h.layout in
       record {

@@ -16,12 +16,12 @@ use Rattle.ebpf_linker.specs.Numbered.{of_target}
 use Rattle.ebpf_linker.specs.Order.{Before, KeyPath, InKeyPathOrder}
 use Rattle.ebpf_linker.specs.Result.{IsOrder}
 use Rattle.ebpf_linker.specs.Search.{IsFound, Search}
-use Rattle.ebpf_linker.specs.declared.reference.Call.{Call}
+use Rattle.ebpf_linker.specs.declared.reference.Reference.{Reference}
 use Rattle.ebpf_linker.specs.declared.reference.Fault.{Fault}
 use Rattle.ebpf_linker.specs.declared.reference.Target.TheVariants.{Function, Nowhere}
-use Rattle.ebpf_linker.specs.declared.search.Open.{Open}
+use Rattle.ebpf_linker.specs.declared.search.Frame.{Frame}
 
-module _ (F : Functions ℕ Fault) (N : ℕ) (C : ℕ → List Call) (p : ℕ) where
+module _ (F : Functions ℕ Fault) (N : ℕ) (C : ℕ → List Reference) (p : ℕ) where
   -- what was found so far is in order
   pub so_far : (ks : List ℕ) → Apart (p ∷ ks) → ((j k : ℕ) → 0 < j → slice_get (p ∷ ks) j ≡ Some k → First C p (p ∷ ks) j k) → InKeyPathOrder (refs C) p ks
   so_far ks apart firsts = (
@@ -67,7 +67,7 @@ module _ (F : Functions ℕ Fault) where
   total_more [] k = omega arith
   total_more (m ∷ o) k = omega (arith, total_more o k)
 
-module _ (F : Functions ℕ Fault) (N : ℕ) (C : ℕ → List Call) (p : ℕ) where
+module _ (F : Functions ℕ Fault) (N : ℕ) (C : ℕ → List Reference) (p : ℕ) where
   counted_more : (o : List ℕ) (u k : ℕ) → Counted F o u → append_fault F k u ≡ None → Counted F (o ++ k ∷ []) (u + length (body F k))
   counted_more o u k h fit =
       let lt = ltb-false 2147483647 (u + length (body F k)) (first_none _ _ _ _ fit) in
@@ -85,7 +85,7 @@ module _ (F : Functions ℕ Fault) (N : ℕ) (C : ℕ → List Call) (p : ℕ) w
             ];
       }
 
-  pub counted : (s t : Search) (top : Open) → Counted F s.order s.used → Step F C top s t None → Counted F t.order t.used
+  pub counted : (s t : Search) (top : Frame) → Counted F s.order s.used → Step F C top s t None → Counted F t.order t.used
   counted s t top h (Ended past same is) = subst (λ (u : Search). Counted F u.order u.used) (sym same) h
   counted s t top h (Unresolved c e at to same is) = cc (is)
   counted s t top h (Passes c k at to flag same is) = subst (λ (u : Search). Counted F u.order u.used) (sym same) h
@@ -97,7 +97,7 @@ module _ (F : Functions ℕ Fault) (N : ℕ) (C : ℕ → List Call) (p : ℕ) w
   not_here ks zero path e apart firsts fits h pos at = omega arith
   not_here ks (suc j) path e apart firsts fits h pos at = fits_at F N C p ks j path e apart firsts h at (fits (suc j) h.key (omega arith) at)
 
-  no_copy_fault : (o path : List ℕ) (f : List Bool) (s : List Open) (u : ℕ) (e : Fault) → State N C p o f s → Counted F o u → (h : CopyFault F (refs C) p path e) → Found o (length o) (Names h.key) → ⊥
+  no_copy_fault : (o path : List ℕ) (f : List Bool) (s : List Frame) (u : ℕ) (e : Fault) → State N C p o f s → Counted F o u → (h : CopyFault F (refs C) p path e) → Found o (length o) (Names h.key) → ⊥
   no_copy_fault o path f s u e st n h is_found =
       let (ks, is) = begins_with N C p o p st.start in
       let (j, pos, lt, at) = is_found in
@@ -107,7 +107,7 @@ module _ (F : Functions ℕ Fault) (N : ℕ) (C : ℕ → List Call) (p : ℕ) w
       not_here ks j path e apart firsts fits h pos (ap (λ (v : List ℕ). slice_get v j) (sym is) ∙ at)
 
   -- no fault of any kind before the cursor
-  none_before : AreSorted N C → (o : List ℕ) (f : List Bool) (s : List Open) (top : Open) (r : Call) (u : ℕ) → State N C p o f (s ++ top ∷ []) → Counted F o u → slice_get (C top.function) top.next ≡ Some r → (other : List ℕ) (y : ℕ) (d : Fault) → FaultStandsAt F (refs C) p other y d → Before (other ++ y ∷ []) (path_of C p (top ∷ reverse s) ++ r.slot ∷ []) → ⊥
+  none_before : AreSorted N C → (o : List ℕ) (f : List Bool) (s : List Frame) (top : Frame) (r : Reference) (u : ℕ) → State N C p o f (s ++ top ∷ []) → Counted F o u → slice_get (C top.function) top.next ≡ Some r → (other : List ℕ) (y : ℕ) (d : Fault) → FaultStandsAt F (refs C) p other y d → Before (other ++ y ∷ []) (path_of C p (top ∷ reverse s) ++ r.slot ∷ []) → ⊥
   none_before sound o f s top r u h n at other y d (inl g) b = plain_before N C p sound o top (reverse s) r h.start (held_top N C p o s top h.held) at other y d g b
   none_before sound o f s top r u h n at other y d (inr g) b =
       let is_found = before_found N C p sound o top (reverse s) r h.start (held_top N C p o s top h.held) at (other ++ y ∷ []) g.path_is.keys g.path_is.simple g.path_is.some b in
@@ -147,7 +147,7 @@ module _ (F : Functions ℕ Fault) (N : ℕ) (C : ℕ → List Call) (p : ℕ) w
       }
 
   -- the function that can't have a copy
-  past_now : AreSorted N C → (o : List ℕ) (f : List Bool) (s : List Open) (top : Open) (r : Call) (k u : ℕ) (e : Fault) → State N C p o f (s ++ top ∷ []) → Counted F o u → slice_get (C top.function) top.next ≡ Some r → r.target ≡ Function k → slice_index_or f k false ≡ false → append_fault F k u ≡ Some e → CopyFault F (refs C) p (path_of C p (top ∷ reverse s) ++ r.slot ∷ []) e
+  past_now : AreSorted N C → (o : List ℕ) (f : List Bool) (s : List Frame) (top : Frame) (r : Reference) (k u : ℕ) (e : Fault) → State N C p o f (s ++ top ∷ []) → Counted F o u → slice_get (C top.function) top.next ≡ Some r → r.target ≡ Function k → slice_index_or f k false ≡ false → append_fault F k u ≡ Some e → CopyFault F (refs C) p (path_of C p (top ∷ reverse s) ++ r.slot ∷ []) e
   past_now sound o f s top r k u e h n at to flag bad =
       let held = held_top N C p o s top h.held in
       let fresh = h.unmarked k flag in
@@ -175,7 +175,7 @@ module _ (F : Functions ℕ Fault) (N : ℕ) (C : ℕ → List Call) (p : ℕ) w
         fault = ap (append_fault F k) (sym n.used) ∙ bad;
       }
 
-  pub refused : AreSorted N C → (s t : Search) (top : Open) (d : Fault) → State N C p s.order s.is_found (s.work_list ++ top ∷ []) → Counted F s.order s.used → Step F C top s t (Some d) → LeastFault F (refs C) p d
+  pub refused : AreSorted N C → (s t : Search) (top : Frame) (d : Fault) → State N C p s.order s.is_found (s.work_list ++ top ∷ []) → Counted F s.order s.used → Step F C top s t (Some d) → LeastFault F (refs C) p d
   refused sound s t top d h n (Ended past same is) = cc (is)
   refused sound s t top d h n (Unresolved c e at to same is) =
       let fault : c.target ≡ Nowhere d = cc (to, is) in
@@ -223,7 +223,7 @@ module _ (F : Functions ℕ Fault) (N : ℕ) (C : ℕ → List Call) (p : ℕ) w
       let z = n.room (suc j) k (omega arith) at in
       omega (arith, z, n.used)
 
-  pub found_all : (o : List ℕ) (f : List Bool) (s : List Open) (u : ℕ) → length s ≡ 0 → State N C p o f s → Counted F o u → (ks : List ℕ) × (o ≡ p ∷ ks) × IsFound F (refs C) p ks
+  pub found_all : (o : List ℕ) (f : List Bool) (s : List Frame) (u : ℕ) → length s ≡ 0 → State N C p o f s → Counted F o u → (ks : List ℕ) × (o ≡ p ∷ ks) × IsFound F (refs C) p ks
   found_all o f s u e h n =
       let (ks, is, order) = ended N C p o f s e h in
       let st = subst (λ (v : List ℕ). State N C p v f []) is (subst (State N C p o f) (nil_length s e) h) in

@@ -1,15 +1,15 @@
 -- Each reference before the one that the search has come to leads to a function that was found.
 use Rattle.std.proofs.Common.{◌≡◌, ◌≢◌, ℕ, ◌<◌, List, [], ◌∷◌, ◌++◌, Option, Some, None, refl, sym, ap, ◌∙◌, subst, inl, inr, arith}
 use Rattle.std.specs.Prelude.{slice_get}
-use Rattle.ebpf_linker.specs.declared.reference.Call.{Call}
-use Rattle.ebpf_linker.specs.declared.search.Open.{Open}
+use Rattle.ebpf_linker.specs.declared.reference.Reference.{Reference}
+use Rattle.ebpf_linker.specs.declared.search.Frame.{Frame}
 use Rattle.ebpf_linker.specs.Functions.{Nothing, Names, Among, Distinct, Walk, last_key_or}
 use Rattle.ebpf_linker.specs.Order.{Before}
 use Rattle.ebpf_linker.specs.Numbered.{of_target}
 use Rattle.ebpf_linker.proofs.Held.{refs, Rising, at_index, indexed, rises_index, Found, found_up, copies, Done, AreDone, Leads, Held, held_done, held_entry}
 use Rattle.ebpf_linker.proofs.Paths.{before_last, last_same, last_cut, among_left, among_right, among_cases, distinct_apart, distinct_more, last_of_last, walk_more, walk_same, walk_parts}
 
-abbrev pub slot_or : Option Call → ℕ
+abbrev pub slot_or : Option Reference → ℕ
 slot_or None = 0
 slot_or (Some r) = r.slot
 
@@ -25,30 +25,30 @@ last_key_or_append : (p : ℕ) (ks : List ℕ) (k : ℕ) (ms : List ℕ) → las
 last_key_or_append p [] k ms = refl
 last_key_or_append p (m ∷ ks) k ms = last_key_or_append m ks k ms
 
-module _ (C : ℕ → List Call) (p : ℕ) where
+module _ (C : ℕ → List Reference) (p : ℕ) where
   -- the slot of the next reference
-  abbrev pub slot_of : Open → ℕ
+  abbrev pub slot_of : Frame → ℕ
   slot_of e = slot_or (slice_get (C e.function) e.next)
 
   -- the path to the function that was opened last, and the keys on it
-  abbrev pub path_of : List Open → List ℕ
+  abbrev pub path_of : List Frame → List ℕ
   path_of [] = []
   path_of (e ∷ []) = []
   path_of (e ∷ f ∷ es) = path_of (f ∷ es) ++ slot_of f ∷ []
 
-  abbrev pub keys_of : List Open → List ℕ
+  abbrev pub keys_of : List Frame → List ℕ
   keys_of [] = []
   keys_of (e ∷ []) = []
   keys_of (e ∷ f ∷ es) = keys_of (f ∷ es) ++ e.function ∷ []
 
-  reference_is : Rising C → (f i : ℕ) (r : Call) → slice_get (C f) i ≡ Some r → refs C f r.slot ≡ of_target r.target
+  reference_is : Rising C → (f i : ℕ) (r : Reference) → slice_get (C f) i ≡ Some r → refs C f r.slot ≡ of_target r.target
   reference_is sound f i r at = (at_index (C f) 0 i r (sound.rises f) at).1
 
-  leads_is : Rising C → (f e : Open) → Leads C f e → refs C f.function (slot_of f) ≡ Names e.function
+  leads_is : Rising C → (f e : Frame) → Leads C f e → refs C f.function (slot_of f) ≡ Names e.function
   leads_is sound f e l =
-      ap (λ (u : Option Call). refs C f.function (slot_or u)) l.at ∙ reference_is sound f.function f.next l.call l.at ∙ ap of_target l.to
+      ap (λ (u : Option Reference). refs C f.function (slot_or u)) l.at ∙ reference_is sound f.function f.next l.call l.at ∙ ap of_target l.to
 
-  pub walk_of : Rising C → (o : List ℕ) (n : ℕ) (e : Open) (es : List Open) → slice_get o 0 ≡ Some p → Held C o n (e ∷ es) → Walk (refs C) p (path_of (e ∷ es)) (keys_of (e ∷ es)) × (last_key_or p (keys_of (e ∷ es)) ≡ e.function)
+  pub walk_of : Rising C → (o : List ℕ) (n : ℕ) (e : Frame) (es : List Frame) → slice_get o 0 ≡ Some p → Held C o n (e ∷ es) → Walk (refs C) p (path_of (e ∷ es)) (keys_of (e ∷ es)) × (last_key_or p (keys_of (e ∷ es)) ≡ e.function)
   walk_of sound o n e [] start h =
       let same : slice_get o e.copy ≡ slice_get o 0 = ap (slice_get o) h.2 in
       (tt, cc (h.1.function))
@@ -58,7 +58,7 @@ module _ (C : ℕ → List Call) (p : ℕ) where
       (walk_more (refs C) p (path_of (f ∷ es)) (keys_of (f ∷ es)) (slot_of f) e.function r.0 to, last_of_last p (keys_of (f ∷ es)) e.function)
 
   -- the keys on the path were found
-  pub keys_found : (o : List ℕ) (n : ℕ) (e : Open) (es : List Open) (k : ℕ) → Held C o n (e ∷ es) → Among (keys_of (e ∷ es)) k → Found o n (Names k)
+  pub keys_found : (o : List ℕ) (n : ℕ) (e : Frame) (es : List Frame) (k : ℕ) → Held C o n (e ∷ es) → Among (keys_of (e ∷ es)) k → Found o n (Names k)
   keys_found o n e [] k h a = absurd a
   keys_found o n e (f ∷ es) k h a =
       elim (among_cases (keys_of (f ∷ es)) (e.function ∷ []) k a) [
@@ -67,7 +67,7 @@ module _ (C : ℕ → List Call) (p : ℕ) where
         | inr (inr b) ↦ absurd b
       ]
 
-  pub keys_distinct : (o : List ℕ) (n : ℕ) (e : Open) (es : List Open) → Apart o → Held C o n (e ∷ es) → Distinct (keys_of (e ∷ es))
+  pub keys_distinct : (o : List ℕ) (n : ℕ) (e : Frame) (es : List Frame) → Apart o → Held C o n (e ∷ es) → Distinct (keys_of (e ∷ es))
   keys_distinct o n e [] apart h = tt
   keys_distinct o n e (f ∷ es) apart h =
       distinct_more (keys_of (f ∷ es)) e.function (keys_distinct o e.copy f es apart h.3)
@@ -77,7 +77,7 @@ module _ (C : ℕ → List Call) (p : ℕ) where
       omega (arith, same))
 
   -- an open function other than the first is on the path
-  open_among : (o : List ℕ) (n : ℕ) (es : List Open) (c f : ℕ) → Held C o n es → Among (copies es) c → 0 < c → slice_get o c ≡ Some f → Among (keys_of es) f
+  open_among : (o : List ℕ) (n : ℕ) (es : List Frame) (c f : ℕ) → Held C o n es → Among (copies es) c → 0 < c → slice_get o c ≡ Some f → Among (keys_of es) f
   open_among o n [] c f h a pos at = absurd a
   open_among o n (e ∷ []) c f h (inl a) pos at = absurd (omega (arith, a, h.2))
   open_among o n (e ∷ []) c f h (inr a) pos at = absurd a
@@ -87,13 +87,13 @@ module _ (C : ℕ → List Call) (p : ℕ) where
   open_among o n (e ∷ d ∷ es) c f h (inr a) pos at = among_left (keys_of (d ∷ es)) (e.function ∷ []) f (open_among o e.copy (d ∷ es) c f h.3 a pos at)
 
   -- from a function that was found and isn't open each reference leads to one that was found
-  found_on : Rising C → (o : List ℕ) (n : ℕ) (es : List Open) → Held C o n es → AreDone C o n es → (k x : ℕ) → Found o n (Names k) → (Among (keys_of es) k → ⊥) → refs C k x ≢ Nothing → Found o n (refs C k x)
+  found_on : Rising C → (o : List ℕ) (n : ℕ) (es : List Frame) → Held C o n es → AreDone C o n es → (k x : ℕ) → Found o n (Names k) → (Among (keys_of es) k → ⊥) → refs C k x ≢ Nothing → Found o n (refs C k x)
   found_on sound o n es held s k x (j, pos, lt, at) apart some =
       let r = indexed (C k) x some in
       subst (Found o n) (sym r.is) (s.leads j k r.index r.call lt at (λ a. apart (open_among o n es j k held a pos at)) r.at)
 
   -- the same along a walk that meets no open function
-  onwards : Rising C → (o : List ℕ) (n : ℕ) (es : List Open) → Held C o n es → AreDone C o n es → (k : ℕ) (q ks : List ℕ) (x : ℕ) → Found o n (Names k) → Walk (refs C) k q ks → ((m : ℕ) → Among (keys_of es) m → Among (k ∷ ks) m → ⊥) → refs C (last_key_or k ks) x ≢ Nothing → Found o n (refs C (last_key_or k ks) x)
+  onwards : Rising C → (o : List ℕ) (n : ℕ) (es : List Frame) → Held C o n es → AreDone C o n es → (k : ℕ) (q ks : List ℕ) (x : ℕ) → Found o n (Names k) → Walk (refs C) k q ks → ((m : ℕ) → Among (keys_of es) m → Among (k ∷ ks) m → ⊥) → refs C (last_key_or k ks) x ≢ Nothing → Found o n (refs C (last_key_or k ks) x)
   onwards sound o n es held s k [] [] x found walk apart some = found_on sound o n es held s k x found (λ a. apart k a (inl refl)) some
   onwards sound o n es held s k [] (m ∷ ks) x found walk apart some = absurd walk
   onwards sound o n es held s k (y ∷ q) [] x found walk apart some = absurd walk
@@ -103,12 +103,12 @@ module _ (C : ℕ → List Call) (p : ℕ) where
       onwards sound o n es held s m q ks x (subst (Found o n) walk.0 next) walk.1 (λ d a b. apart d a (inr b)) some
 
   -- a reference of the open function on top, below slot s
-  done_at : Rising C → (o : List ℕ) (n f next s y : ℕ) → Done C o n f next → ((i : ℕ) (r : Call) → slice_get (C f) i ≡ Some r → r.slot < s → i < next) → y < s → refs C f y ≢ Nothing → Found o n (refs C f y)
+  done_at : Rising C → (o : List ℕ) (n f next s y : ℕ) → Done C o n f next → ((i : ℕ) (r : Reference) → slice_get (C f) i ≡ Some r → r.slot < s → i < next) → y < s → refs C f y ≢ Nothing → Found o n (refs C f y)
   done_at sound o n f next s y d upto lt some =
       let r = indexed (C f) y some in
       subst (Found o n) (sym r.is) (d.leads r.index r.call (upto r.index r.call r.at (omega (arith, r.slot))) r.at)
 
-  beside : Rising C → (o : List ℕ) (n : ℕ) (e : Open) (es : List Open) (s : ℕ) → Held C o n (e ∷ es) → ((i : ℕ) (r : Call) → slice_get (C e.function) i ≡ Some r → r.slot < s → i < e.next) → (y : ℕ) (more back qs : List ℕ) (x : ℕ) → Walk (refs C) e.function (y ∷ more) back → qs ≡ keys_of (e ∷ es) ++ back → Distinct qs → refs C (last_key_or p qs) x ≢ Nothing → y < s → Found o n (refs C (last_key_or p qs) x)
+  beside : Rising C → (o : List ℕ) (n : ℕ) (e : Frame) (es : List Frame) (s : ℕ) → Held C o n (e ∷ es) → ((i : ℕ) (r : Reference) → slice_get (C e.function) i ≡ Some r → r.slot < s → i < e.next) → (y : ℕ) (more back qs : List ℕ) (x : ℕ) → Walk (refs C) e.function (y ∷ more) back → qs ≡ keys_of (e ∷ es) ++ back → Distinct qs → refs C (last_key_or p qs) x ≢ Nothing → y < s → Found o n (refs C (last_key_or p qs) x)
   beside sound o n e es s held upto y more [] qs x walk whole once some lt = absurd walk
   beside sound o n e es s held upto y more (k ∷ back) qs x walk whole once some lt =
       let ne : refs C e.function y ≢ Nothing = λ (z : refs C e.function y ≡ Nothing). cc (walk.0) in
@@ -119,7 +119,7 @@ module _ (C : ℕ → List Call) (p : ℕ) where
       rw end (onwards sound o n (e ∷ es) held (held_done C o n e es held) k more back x found walk.1 (λ m a b. distinct_apart (keys_of (e ∷ es)) (k ∷ back) m once' a b) some')
 
   -- .. where the place is beside the path, below slot s
-  pub at_cursor : Rising C → (o : List ℕ) (n : ℕ) (e : Open) (es : List Open) (s : ℕ) → slice_get o 0 ≡ Some p → Held C o n (e ∷ es) → ((i : ℕ) (r : Call) → slice_get (C e.function) i ≡ Some r → r.slot < s → i < e.next) → (q qs : List ℕ) (x y : ℕ) (rest : List ℕ) → Walk (refs C) p q qs → Distinct qs → refs C (last_key_or p qs) x ≢ Nothing → q ++ x ∷ [] ≡ path_of (e ∷ es) ++ y ∷ rest → y < s → Found o n (refs C (last_key_or p qs) x)
+  pub at_cursor : Rising C → (o : List ℕ) (n : ℕ) (e : Frame) (es : List Frame) (s : ℕ) → slice_get o 0 ≡ Some p → Held C o n (e ∷ es) → ((i : ℕ) (r : Reference) → slice_get (C e.function) i ≡ Some r → r.slot < s → i < e.next) → (q qs : List ℕ) (x y : ℕ) (rest : List ℕ) → Walk (refs C) p q qs → Distinct qs → refs C (last_key_or p qs) x ≢ Nothing → q ++ x ∷ [] ≡ path_of (e ∷ es) ++ y ∷ rest → y < s → Found o n (refs C (last_key_or p qs) x)
   at_cursor sound o n e es s start held upto q qs x y rest walk once some is lt =
       let w = walk_of sound o n e es start held in
       elim (last_cut q (path_of (e ∷ es)) x y rest is) [
@@ -136,7 +136,7 @@ module _ (C : ℕ → List Call) (p : ℕ) where
       ]
 
   -- a reference whose place is before the path to the top followed by slot s leads to a function that was found
-  pub cursor : Rising C → (o : List ℕ) (n : ℕ) (e : Open) (es : List Open) (s : ℕ) → slice_get o 0 ≡ Some p → Held C o n (e ∷ es) → ((i : ℕ) (r : Call) → slice_get (C e.function) i ≡ Some r → r.slot < s → i < e.next) → (q qs : List ℕ) (x : ℕ) → Walk (refs C) p q qs → Distinct qs → refs C (last_key_or p qs) x ≢ Nothing → Before (q ++ x ∷ []) (path_of (e ∷ es) ++ s ∷ []) → Found o n (refs C (last_key_or p qs) x)
+  pub cursor : Rising C → (o : List ℕ) (n : ℕ) (e : Frame) (es : List Frame) (s : ℕ) → slice_get o 0 ≡ Some p → Held C o n (e ∷ es) → ((i : ℕ) (r : Reference) → slice_get (C e.function) i ≡ Some r → r.slot < s → i < e.next) → (q qs : List ℕ) (x : ℕ) → Walk (refs C) p q qs → Distinct qs → refs C (last_key_or p qs) x ≢ Nothing → Before (q ++ x ∷ []) (path_of (e ∷ es) ++ s ∷ []) → Found o n (refs C (last_key_or p qs) x)
   cursor sound o n e [] s start held upto q qs x walk once some before =
       elim (before_last (q ++ x ∷ []) [] s before) [
         | inl h ↦ absurd h
@@ -145,7 +145,7 @@ module _ (C : ℕ → List Call) (p : ℕ) where
       ]
   cursor sound o n e (f ∷ es) s start held upto q qs x walk once some before =
       let low = held.1.below in
-      let up : (i : ℕ) (r : Call) → slice_get (C f.function) i ≡ Some r → r.slot < slot_of f → i < f.next = λ i r at lt. rises_index (C f.function) 0 i f.next r held.2.call (sound.rises f.function) at held.2.at (let e : slot_of f ≡ held.2.call.slot = ap slot_or held.2.at in omega (arith, e)) in
+      let up : (i : ℕ) (r : Reference) → slice_get (C f.function) i ≡ Some r → r.slot < slot_of f → i < f.next = λ i r at lt. rises_index (C f.function) 0 i f.next r held.2.call (sound.rises f.function) at held.2.at (let e : slot_of f ≡ held.2.call.slot = ap slot_or held.2.at in omega (arith, e)) in
       elim (before_last (q ++ x ∷ []) (path_of (e ∷ f ∷ es)) s before) [
         | inl h ↦ found_up o e.copy n (refs C (last_key_or p qs) x) (omega (arith, low)) (cursor sound o e.copy f es (slot_of f) start held.3 up q qs x walk once some h)
         | inr (inl h) ↦

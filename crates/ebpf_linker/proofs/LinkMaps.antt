@@ -7,8 +7,8 @@ use Rattle.std.proofs.lemmas.Option.{slice_get_within}
 use Rattle.ebpf_parts.specs.declared.insn.bpf_insn.{bpf_insn}
 use Rattle.ebpf_linker.specs.declared.body.Body.{Body}
 use Rattle.ebpf_linker.specs.declared.link_map.NumberedCopy.{NumberedCopy}
-use Rattle.ebpf_linker.specs.declared.link_map.Reference.{Reference}
-use Rattle.ebpf_linker.specs.declared.reference.Call.{Call}
+use Rattle.ebpf_linker.specs.declared.link_map.PlacedReference.{PlacedReference}
+use Rattle.ebpf_linker.specs.declared.reference.Reference.{Reference}
 use Rattle.ebpf_linker.specs.declared.reference.Target.{Target}
 use Rattle.ebpf_linker.specs.declared.reference.Target.TheVariants.{Function, Nowhere}
 use Rattle.ebpf_parts.specs.Slots.{is_pseudo_call}
@@ -25,12 +25,12 @@ use Rattle.ebpf_linker.proofs.Whole.{base_of_index}
 
 -- ---- lists of references
 
-rise_lower : (low high : ℕ) (rs : List Reference) → low ≤ high → PlacesRise high rs → PlacesRise low rs
+rise_lower : (low high : ℕ) (rs : List PlacedReference) → low ≤ high → PlacesRise high rs → PlacesRise low rs
 rise_lower low high [] le h = tt
 rise_lower low high (r ∷ rs) le h = (omega (arith, h.0), h.1)
 
 -- one list after another, which begins where the first one ends
-rise_append : (low mid : ℕ) (xs ys : List Reference) → low ≤ mid → PlacesRise low xs → ((r : Reference) → Among xs r → r.place < mid) → PlacesRise mid ys → PlacesRise low (xs ++ ys)
+rise_append : (low mid : ℕ) (xs ys : List PlacedReference) → low ≤ mid → PlacesRise low xs → ((r : PlacedReference) → Among xs r → r.place < mid) → PlacesRise mid ys → PlacesRise low (xs ++ ys)
 rise_append low mid [] ys le h below g = rise_lower low mid ys le g
 rise_append low mid (x ∷ xs) ys le h below g = (h.0, rise_append (x.place + 1) mid xs ys (let lt = below x (inl refl) in omega (arith, lt)) h.1 (λ r a. below r (inr a)) g)
 
@@ -38,8 +38,8 @@ rise_append low mid (x ∷ xs) ys le h below g = (h.0, rise_append (x.place + 1)
 
 module _ (bases : List ℕ) (base : ℕ) (code : List bpf_insn) where
   -- where one of these calls gives a reference
-  record LinkedReferences (cs : List Call) (r : Reference) : Type 0 where
-    call : Call
+  record LinkedReferences (cs : List Reference) (r : PlacedReference) : Type 0 where
+    call : Reference
     index : ℕ
     at : slice_get cs index ≡ Some call
     function : ℕ
@@ -48,10 +48,10 @@ module _ (bases : List ℕ) (base : ℕ) (code : List bpf_insn) where
     stands : slice_get code call.slot ≡ Some slot
     is : r ≡ record { place = base + call.slot; base = slice_index bases function; is_call = is_pseudo_call slot }
 
-  later : (c : Call) (cs : List Call) (r : Reference) → LinkedReferences cs r → LinkedReferences (c ∷ cs) r
+  later : (c : Reference) (cs : List Reference) (r : PlacedReference) → LinkedReferences cs r → LinkedReferences (c ∷ cs) r
   later c cs r h = record { call = h.call; index = suc h.index; at = h.at; function = h.function; leads = h.leads; slot = h.slot; stands = h.stands; is = h.is }
 
-  references_from : (cs : List Call) (r : Reference) → Among (references_of_copy bases base code cs) r → LinkedReferences cs r
+  references_from : (cs : List Reference) (r : PlacedReference) → Among (references_of_copy bases base code cs) r → LinkedReferences cs r
   references_from [] r a = absurd a
   references_from (c ∷ cs) r a = at_slot (slice_get code c.slot) c.target refl refl (λ b. later c cs r (references_from cs r b)) a
     where
@@ -61,7 +61,7 @@ module _ (bases : List ℕ) (base : ℕ) (code : List bpf_insn) where
       at_slot (Some s) (Function k) es et rest (inl e) = record { call = c; index = 0; at = refl; function = k; leads = et; slot = s; stands = es; is = sym e }
       at_slot (Some s) (Function k) es et rest (inr b) = rest b
 
-  with_later : (o : Option Reference) (rs : List Reference) (r : Reference) → Among rs r → Among (with_linked_reference o rs) r
+  with_later : (o : Option PlacedReference) (rs : List PlacedReference) (r : PlacedReference) → Among rs r → Among (with_linked_reference o rs) r
   with_later None rs r a = a
   with_later (Some x) rs r a = inr a
 
@@ -69,7 +69,7 @@ module _ (bases : List ℕ) (base : ℕ) (code : List bpf_insn) where
   named_by (Function m) k e = let z : m ≡ k = cc in ap Function z
   named_by (Nowhere d) k e = cc
 
-  references_within : (cs : List Call) (i k : ℕ) (s : bpf_insn) → slice_get code i ≡ Some s → referred cs i ≡ Names k → Among (references_of_copy bases base code cs) (record { place = base + i; base = slice_index bases k; is_call = is_pseudo_call s })
+  references_within : (cs : List Reference) (i k : ℕ) (s : bpf_insn) → slice_get code i ≡ Some s → referred cs i ≡ Names k → Among (references_of_copy bases base code cs) (record { place = base + i; base = slice_index bases k; is_call = is_pseudo_call s })
   references_within [] i k s at names = cc
   references_within (c ∷ cs) i k s at names =
       elim (cases_Bool (c.slot == i)) [
@@ -77,11 +77,11 @@ module _ (bases : List ℕ) (base : ℕ) (code : List bpf_insn) where
             let same : c.slot ≡ i = eqb-true c.slot i e in
             let leads : c.target ≡ Function k = named_by c.target k (rw e at names) in
             let here : linked_reference bases base code c ≡ Some (record { place = base + i; base = slice_index bases k; is_call = is_pseudo_call s }) = (λ j. linked_reference_at bases (base + same j) (leads j) (slice_get code (same j))) ∙ ap (linked_reference_at bases (base + i) (Function k)) at in
-            subst (λ (o : Option Reference). Among (with_linked_reference o (references_of_copy bases base code cs)) (record { place = base + i; base = slice_index bases k; is_call = is_pseudo_call s })) (sym here) (inl refl)
+            subst (λ (o : Option PlacedReference). Among (with_linked_reference o (references_of_copy bases base code cs)) (record { place = base + i; base = slice_index bases k; is_call = is_pseudo_call s })) (sym here) (inl refl)
         | inr e ↦ with_later (linked_reference bases base code c) (references_of_copy bases base code cs) _ (references_within cs i k s at (rw e at names))
       ]
 
-  references_rise : (low : ℕ) (cs : List Call) → Rises low cs → PlacesRise (base + low) (references_of_copy bases base code cs)
+  references_rise : (low : ℕ) (cs : List Reference) → Rises low cs → PlacesRise (base + low) (references_of_copy bases base code cs)
   references_rise low [] h = tt
   references_rise low (c ∷ cs) h =
       let z : base + (c.slot + 1) ≡ base + c.slot + 1 = omega arith in
@@ -95,18 +95,18 @@ module _ (bases : List ℕ) (base : ℕ) (code : List bpf_insn) where
       at_slot (Some s) (Nowhere e) rest = lower rest
       at_slot (Some s) (Function k) rest = (omega (arith, h.0), rest)
 
-  references_below : (cs : List Call) (r : Reference) → Among (references_of_copy bases base code cs) r → r.place < base + length code
+  references_below : (cs : List Reference) (r : PlacedReference) → Among (references_of_copy bases base code cs) r → r.place < base + length code
   references_below cs r a =
       let h = references_from cs r a in
       let lt = slice_get_within code h.call.slot h.slot h.stands in
-      let place = ap (λ (u : Reference). u.place) h.is in
+      let place = ap (λ (u : PlacedReference). u.place) h.is in
       omega (arith, lt, place)
 
 -- ---- those of copies one after the other
 
-module _ (B : List Body) (C : List (Vec Call Global)) (bases : List ℕ) (sound : (k : ℕ) → Rises 0 (calls_at C k)) where
+module _ (B : List Body) (C : List (Vec Reference Global)) (bases : List ℕ) (sound : (k : ℕ) → Rises 0 (calls_at C k)) where
   -- where a copy of one of these functions, the first at a base, has a reference
-  record From (base : ℕ) (ks : List ℕ) (r : Reference) : Type 0 where
+  record From (base : ℕ) (ks : List ℕ) (r : PlacedReference) : Type 0 where
     k : ℕ
     b : ℕ
     begins : BeginsAt (functions_by_number B C) ks k b
@@ -119,7 +119,7 @@ module _ (B : List Body) (C : List (Vec Call Global)) (bases : List ℕ) (sound 
     reaches : r.base ≡ slice_index bases m
     is_call : r.is_call ≡ is_pseudo_call s
 
-  from_copy : (base k : ℕ) (ks : List ℕ) (r : Reference) → LinkedReferences bases base (body_at B k) (calls_at C k) r → From base (k ∷ ks) r
+  from_copy : (base k : ℕ) (ks : List ℕ) (r : PlacedReference) → LinkedReferences bases base (body_at B k) (calls_at C k) r → From base (k ∷ ks) r
   from_copy base k ks r h = record {
     k = k;
     b = 0;
@@ -129,12 +129,12 @@ module _ (B : List Body) (C : List (Vec Call Global)) (bases : List ℕ) (sound 
     slot = h.stands;
     m = h.function;
     names = (at_index (calls_at C k) 0 h.index h.call (sound k) h.at).1 ∙ ap of_target h.leads;
-    place = (let z = ap (λ (u : Reference). u.place) h.is in omega (arith, z));
-    reaches = ap (λ (u : Reference). u.base) h.is;
-    is_call = ap (λ (u : Reference). u.is_call) h.is;
+    place = (let z = ap (λ (u : PlacedReference). u.place) h.is in omega (arith, z));
+    reaches = ap (λ (u : PlacedReference). u.base) h.is;
+    is_call = ap (λ (u : PlacedReference). u.is_call) h.is;
   }
 
-  from_later : (base k : ℕ) (ks : List ℕ) (r : Reference) → From (base + length (body_at B k)) ks r → From base (k ∷ ks) r
+  from_later : (base k : ℕ) (ks : List ℕ) (r : PlacedReference) → From (base + length (body_at B k)) ks r → From base (k ∷ ks) r
   from_later base k ks r h = record {
     k = h.k;
     b = length (body_at B k) + h.b;
@@ -149,7 +149,7 @@ module _ (B : List Body) (C : List (Vec Call Global)) (bases : List ℕ) (sound 
     is_call = h.is_call;
   }
 
-  all_from : (base : ℕ) (ks : List ℕ) (r : Reference) → Among (references_of_copies B C bases base ks) r → From base ks r
+  all_from : (base : ℕ) (ks : List ℕ) (r : PlacedReference) → Among (references_of_copies B C bases base ks) r → From base ks r
   all_from base [] r a = absurd a
   all_from base (k ∷ ks) r a =
       elim (among_cases (references_of_copy bases base (body_at B k) (calls_at C k)) (references_of_copies B C bases (base + length (body_at B k)) ks) r a) [
@@ -179,7 +179,7 @@ module _ (B : List Body) (C : List (Vec Call Global)) (bases : List ℕ) (sound 
 
 -- ---- the map
 
-module _ (B : List Body) (C : List (Vec Call Global)) where
+module _ (B : List Body) (C : List (Vec Reference Global)) where
   -- the copies don't depend on the references
   same_copies : (base : ℕ) (ks : List ℕ) → copies_from (functions_by_number B []) base ks ≡ copies_from (functions_by_number B C) base ks
   same_copies base [] = refl
@@ -193,7 +193,7 @@ module _ (B : List Body) (C : List (Vec Call Global)) where
         let (c, begins, e) = base_of_index B C (length (body_at B p)) before ks m ready.layout.order.once within a in
         (c, begins, ap (λ (u : List ℕ). slice_index u m) places ∙ e)
 
-    is_reference : (r : Reference) → From B C bases sound.rises 0 (p ∷ ks) r → IsReference (functions_by_number B C) p ks r
+    is_reference : (r : PlacedReference) → From B C bases sound.rises 0 (p ∷ ks) r → IsReference (functions_by_number B C) p ks r
     is_reference r h =
         let some : referred (calls_at C h.k) h.i ≢ Nothing = λ (z : referred (calls_at C h.k) h.i ≡ Nothing). let names = h.names in cc in
         let (m, names, a) = ready.layout.order.resolved h.k h.i (begins_among (functions_by_number B C) (p ∷ ks) h.k h.b h.begins) some in
@@ -215,7 +215,7 @@ module _ (B : List Body) (C : List (Vec Call Global)) where
           is_call = h.is_call;
         }
 
-    is_linked_reference : (r : Reference) → IsReference (functions_by_number B C) p ks r → Among (references_of_copies B C bases 0 (p ∷ ks)) r
+    is_linked_reference : (r : PlacedReference) → IsReference (functions_by_number B C) p ks r → Among (references_of_copies B C bases 0 (p ∷ ks)) r
     is_linked_reference r h =
         let (c, reaches, e) = begins_there h.m (begins_among (functions_by_number B C) ks h.m h.c h.reaches) in
         let same : c ≡ h.c = one_begin (functions_by_number B C) ks h.m c h.c ready.layout.order.once reaches h.reaches in
@@ -232,7 +232,7 @@ module _ (B : List Body) (C : List (Vec Call Global)) where
     }
 
     -- the link map
-    pub is_link_map : (copies : List NumberedCopy) (references : List Reference) → copies ≡ map numbered_copy (copies_from (functions_by_number B []) 0 (p ∷ ks)) → references ≡ references_of_copies B C bases 0 (p ∷ ks) → (x : List ℕ) × (cs : List (CopyOf ℕ)) × IsLinkMap (functions_by_number B C) p x cs references × (copies ≡ map numbered_copy cs)
+    pub is_link_map : (copies : List NumberedCopy) (references : List PlacedReference) → copies ≡ map numbered_copy (copies_from (functions_by_number B []) 0 (p ∷ ks)) → references ≡ references_of_copies B C bases 0 (p ∷ ks) → (x : List ℕ) × (cs : List (CopyOf ℕ)) × IsLinkMap (functions_by_number B C) p x cs references × (copies ≡ map numbered_copy cs)
     is_link_map copies references are_copies are_linked_references = (
       ks,
       copies_from (functions_by_number B C) 0 (p ∷ ks),

@@ -11,7 +11,7 @@ use Rattle.ebpf_linker.specs.LinkMap.{CopyOf, copies_from, AreReferences, IsLink
 use Rattle.ebpf_linker.specs.Order.{Before, KeyPath, InKeyPathOrder, HasReferenceFault}
 use Rattle.ebpf_linker.specs.Result.{IsLayout, has_lines, count_if, IsProgram}
 use Rattle.ebpf_linker.specs.declared.body.LinkedProgram.{LinkedProgram}
-use Rattle.ebpf_linker.specs.declared.link_map.Reference.{Reference}
+use Rattle.ebpf_linker.specs.declared.link_map.PlacedReference.{PlacedReference}
 use Rattle.ebpf_parts.specs.declared.insn.bpf_insn.{bpf_insn}
 
 -- ---- a function has one base, and it is what the search counts
@@ -270,13 +270,13 @@ not_linked F p ks e h g = h.faultless g.path g.slot e g.stands
 -- ---- one list of references
 
 -- those at a place are not above it
-not_below : (low : ℕ) (rs : List Reference) (r : Reference) → PlacesRise low rs → Among rs r → low ≤ r.place
+not_below : (low : ℕ) (rs : List PlacedReference) (r : PlacedReference) → PlacesRise low rs → Among rs r → low ≤ r.place
 not_below low [] r h a = absurd a
-not_below low (s ∷ rs) r h (inl e) = let z = ap (λ (u : Reference). u.place) e in omega (arith, h.0, z)
+not_below low (s ∷ rs) r h (inl e) = let z = ap (λ (u : PlacedReference). u.place) e in omega (arith, h.0, z)
 not_below low (s ∷ rs) r h (inr a) = let le = not_below (s.place + 1) rs r h.1 a in omega (arith, h.0, le)
 
 -- the first of two lists of the same references
-same_reference : (low high : ℕ) (r s : Reference) (rs ss : List Reference) → PlacesRise low (r ∷ rs) → PlacesRise high (s ∷ ss) → Among (s ∷ ss) r → Among (r ∷ rs) s → r ≡ s
+same_reference : (low high : ℕ) (r s : PlacedReference) (rs ss : List PlacedReference) → PlacesRise low (r ∷ rs) → PlacesRise high (s ∷ ss) → Among (s ∷ ss) r → Among (r ∷ rs) s → r ≡ s
 same_reference low high r s rs ss h g (inl e) b = sym e
 same_reference low high r s rs ss h g (inr a) (inl e) = e
 same_reference low high r s rs ss h g (inr a) (inr b) =
@@ -284,10 +284,10 @@ same_reference low high r s rs ss h g (inr a) (inr b) =
     let y = not_below (r.place + 1) rs s h.1 b in
     absurd (omega (arith, x, y))
 
-not_again : (low : ℕ) (r : Reference) (rs : List Reference) → PlacesRise low (r ∷ rs) → Among rs r → ⊥
+not_again : (low : ℕ) (r : PlacedReference) (rs : List PlacedReference) → PlacesRise low (r ∷ rs) → Among rs r → ⊥
 not_again low r rs h a = let le = not_below (r.place + 1) rs r h.1 a in omega (arith, le)
 
-pub same_references : (low high : ℕ) (rs ss : List Reference) → PlacesRise low rs → PlacesRise high ss → ((r : Reference) → Among rs r → Among ss r) → ((r : Reference) → Among ss r → Among rs r) → rs ≡ ss
+pub same_references : (low high : ℕ) (rs ss : List PlacedReference) → PlacesRise low rs → PlacesRise high ss → ((r : PlacedReference) → Among rs r → Among ss r) → ((r : PlacedReference) → Among ss r → Among rs r) → rs ≡ ss
 same_references low high [] [] h g to from = refl
 same_references low high [] (s ∷ ss) h g to from = absurd (from s (inl refl))
 same_references low high (r ∷ rs) [] h g to from = absurd (to r (inl refl))
@@ -300,11 +300,11 @@ same_references low high (r ∷ rs) (s ∷ ss) h g to from =
     λ i. same i ∷ rest i
 
 module _ {K E : Type 0} (F : Functions K E) (p : K) where
-  one_references : (ks : List K) (rs ss : List Reference) → AreReferences F p ks rs → AreReferences F p ks ss → rs ≡ ss
+  one_references : (ks : List K) (rs ss : List PlacedReference) → AreReferences F p ks rs → AreReferences F p ks ss → rs ≡ ss
   one_references ks rs ss h g = same_references 0 0 rs ss h.rises g.rises (λ r a. g.complete r (h.sound r a)) (λ r a. h.complete r (g.sound r a))
 
   -- a program has one map
-  pub one_link_map : (ks ms : List K) (cs ds : List (CopyOf K)) (rs ss : List Reference) → IsLinkMap F p ks cs rs → IsLinkMap F p ms ds ss → (ks ≡ ms) × (cs ≡ ds) × (rs ≡ ss)
+  pub one_link_map : (ks ms : List K) (cs ds : List (CopyOf K)) (rs ss : List PlacedReference) → IsLinkMap F p ks cs rs → IsLinkMap F p ms ds ss → (ks ≡ ms) × (cs ≡ ds) × (rs ≡ ss)
   one_link_map ks ms cs ds rs ss h g =
       let order : ks ≡ ms = one_layout F p ks ms h.layout g.layout in (
         order,
@@ -319,7 +319,7 @@ module _ {K E : Type 0} (F : Functions K E) (p : K) where
   count_slots base (k ∷ ks) = ap (λ (n : ℕ). length (body F k) + n) (count_slots (base + length (body F k)) ks)
 
   -- the copies have the slots of the linked program
-  pub same_size : (ks ms : List K) (cs : List (CopyOf K)) (rs : List Reference) (l : LinkedProgram) → IsLinkMap F p ks cs rs → IsProgram F p ms l → copied_slot_count cs ≡ length l.slots
+  pub same_size : (ks ms : List K) (cs : List (CopyOf K)) (rs : List PlacedReference) (l : LinkedProgram) → IsLinkMap F p ks cs rs → IsProgram F p ms l → copied_slot_count cs ≡ length l.slots
   same_size ks ms cs rs l h g = ap copied_slot_count h.copies ∙ count_slots 0 (p ∷ ks) ∙ ap (λ (os : List K). total F (p ∷ os)) (one_layout F p ks ms h.layout g.layout) ∙ sym g.linked.size
 
   -- a copy that begins somewhere is listed
@@ -331,7 +331,7 @@ module _ {K E : Type 0} (F : Functions K E) (p : K) where
   copy_listed low base (m ∷ ks) k b (inr (c, is, h)) e = inr (copy_listed (low + length (body F m)) base ks k c h (omega (arith, is, e)))
 
   -- the slot at a reference's place names the distance to its base
-  pub lands : (ks ms : List K) (cs : List (CopyOf K)) (rs : List Reference) (l : LinkedProgram) → IsLinkMap F p ks cs rs → IsProgram F p ms l → (r : Reference) → Among rs r → Lands F cs l.slots r
+  pub lands : (ks ms : List K) (cs : List (CopyOf K)) (rs : List PlacedReference) (l : LinkedProgram) → IsLinkMap F p ks cs rs → IsProgram F p ms l → (r : PlacedReference) → Among rs r → Lands F cs l.slots r
   lands ks ms cs rs l h g r a =
       let n = h.references.sound r a in
       let linked = subst (λ (os : List K). IsProgram F p os l) (sym (one_layout F p ks ms h.layout g.layout)) g in

@@ -8,7 +8,7 @@ use Rattle.ebpf_linker.specs.declared.body.LinkedProgram.{LinkedProgram}
 use Rattle.ebpf_linker.specs.declared.reference.Fault.{Fault}
 use Rattle.ebpf_linker.specs.declared.reference.Target.{Target}
 use Rattle.ebpf_linker.specs.declared.reference.Target.TheVariants.{Function, Nowhere}
-use Rattle.ebpf_linker.specs.declared.reference.Call.{Call}
+use Rattle.ebpf_linker.specs.declared.reference.Reference.{Reference}
 use Rattle.ebpf_linker.specs.Functions.{Nothing, Names, FunctionContent, Among, last_key_or, total}
 use Rattle.ebpf_linker.specs.Faults.{checked_references, append_fault, has_some}
 use Rattle.ebpf_linker.specs.Result.{IsOrder, linked_func_info, linked_line_info, has_lines, count_if, IsProgram}
@@ -33,7 +33,7 @@ pub all_within : (n : ℕ) (ks : List ℕ) → ((k : ℕ) → Among ks k → k <
 all_within n [] h = All-nil (λ (k : ℕ). k < n)
 all_within n (k ∷ ks) h = All-cons (λ (m : ℕ). m < n) k ks (h k (inl refl)) (all_within n ks (λ m a. h m (inr a)))
 
-some_at : (cs : List Call) → 0 < length cs → (c : Call) × (slice_get cs 0 ≡ Some c)
+some_at : (cs : List Reference) → 0 < length cs → (c : Reference) × (slice_get cs 0 ≡ Some c)
 some_at [] lt = absurd (omega arith)
 some_at (c ∷ cs) lt = (c, refl)
 
@@ -52,7 +52,7 @@ take_whole (suc n) (k ∷ ks) e = let f : n ≡ length ks = omega arith in ap (�
 tail_is : (l : List ℕ) (p : ℕ) (ks : List ℕ) → l ≡ p ∷ ks → take (length l - 1) (drop 1 l) ≡ ks
 tail_is l p ks e = rw e (take_whole (length (p ∷ ks) - 1) ks (omega arith))
 
-module _ (B : List Body) (C : List (Vec Call Global)) (p : ℕ) where
+module _ (B : List Body) (C : List (Vec Reference Global)) (p : ℕ) where
   pub all_in : (ks : List ℕ) (k : ℕ) → All (λ m. m < length B) ks → Among ks k → k < length B
   all_in [] k h a = absurd a
   all_in (m ∷ ks) k h (inl e) = subst (λ (u : ℕ). u < length B) e (All-get_or (λ (u : ℕ). u < length B) (m ∷ ks) 0 0 (omega arith) h)
@@ -122,13 +122,13 @@ module _ (B : List Body) (C : List (Vec Call Global)) (p : ℕ) where
       }
 
 -- the functions that were found, as the search answers them
-pub laid_out : (B : List Body) (C : List (Vec Call Global)) (p : ℕ) (answer : Result (Vec ℕ Global) Fault) (v : Vec ℕ Global) → Sound (length B) C → p < length B → Finds (functions_by_number B C) (checked_references (functions_by_number B C) p) p answer → answer ≡ Ok v → (ks : List ℕ) × (v.items ≡ p ∷ ks) × IsReady B C p ks
+pub laid_out : (B : List Body) (C : List (Vec Reference Global)) (p : ℕ) (answer : Result (Vec ℕ Global) Fault) (v : Vec ℕ Global) → Sound (length B) C → p < length B → Finds (functions_by_number B C) (checked_references (functions_by_number B C) p) p answer → answer ≡ Ok v → (ks : List ℕ) × (v.items ≡ p ∷ ks) × IsReady B C p ks
 laid_out B C p answer v sound lt found is =
     let (ks, e, h) = subst (Finds (functions_by_number B C) (checked_references (functions_by_number B C) p) p) is found in
     (ks, e, ready B C p ks sound lt h)
 
 -- those after the program
-pub ready_of : (B : List Body) (C : List (Vec Call Global)) (p : ℕ) (order o : List ℕ) → (ks : List ℕ) × (order ≡ p ∷ ks) × IsReady B C p ks → o ≡ order → IsReady B C p (take (length o - 1) (drop 1 o)) × (o ≡ p ∷ take (length o - 1) (drop 1 o))
+pub ready_of : (B : List Body) (C : List (Vec Reference Global)) (p : ℕ) (order o : List ℕ) → (ks : List ℕ) × (order ≡ p ∷ ks) × IsReady B C p ks → o ≡ order → IsReady B C p (take (length o - 1) (drop 1 o)) × (o ≡ p ∷ take (length o - 1) (drop 1 o))
 ready_of B C p order o (ks, e, h) same =
     let t = tail_is o p ks (same ∙ e) in
     (subst (IsReady B C p) (sym t) h, same ∙ e ∙ ap (λ (u : List ℕ). p ∷ u) (sym t))

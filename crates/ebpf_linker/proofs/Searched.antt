@@ -15,39 +15,39 @@ use Rattle.ebpf_linker.specs.Numbered.{IsWithin, of_target}
 use Rattle.ebpf_linker.specs.Order.{Before, Simple, KeyPath, HasReferenceFault}
 use Rattle.ebpf_linker.specs.Result.{IsOrder}
 use Rattle.ebpf_linker.specs.Search.{Search, passed, opened, Entered, StepTo, call_target, Advanced}
-use Rattle.ebpf_linker.specs.declared.reference.Call.{Call}
+use Rattle.ebpf_linker.specs.declared.reference.Reference.{Reference}
 use Rattle.ebpf_linker.specs.declared.reference.Fault.{Fault}
 use Rattle.ebpf_linker.specs.declared.reference.Target.{Target}
 use Rattle.ebpf_linker.specs.declared.reference.Target.TheVariants.{Function, Nowhere}
-use Rattle.ebpf_linker.specs.declared.search.Open.{Open}
+use Rattle.ebpf_linker.specs.declared.search.Frame.{Frame}
 
-not_within : (cs : List Call) (i : ℕ) → slice_get cs i ≡ None → length cs ≤ i
+not_within : (cs : List Reference) (i : ℕ) → slice_get cs i ≡ None → length cs ≤ i
 not_within cs i e =
     elim (slice_get_cases cs i).1 [ inl x ↦ cc (x.2) | inr x ↦ x.0 ]
 
 -- what one step does: it comes to the end of the function on top; or its next reference leads nowhere, to a function that
 -- was found, to one that is opened, or to one that can't have a copy
-pub data Step (F : Functions ℕ Fault) (C : ℕ → List Call) (top : Open) (s t : Search) (r : Option Fault) : Type 0 where
+pub data Step (F : Functions ℕ Fault) (C : ℕ → List Reference) (top : Frame) (s t : Search) (r : Option Fault) : Type 0 where
   Ended : length (C top.function) ≤ top.next → t ≡ s → r ≡ None → Step F C top s t r
-  Unresolved : (c : Call) (e : Fault) → slice_get (C top.function) top.next ≡ Some c → c.target ≡ Nowhere e → t ≡ s → r ≡ Some e → Step F C top s t r
-  Passes : (c : Call) (k : ℕ) → slice_get (C top.function) top.next ≡ Some c → c.target ≡ Function k → slice_index_or s.is_found k false ≡ true → t ≡ passed top s → r ≡ None → Step F C top s t r
-  Opens : (c : Call) (k : ℕ) → slice_get (C top.function) top.next ≡ Some c → c.target ≡ Function k → slice_index_or s.is_found k false ≡ false → append_fault F k s.used ≡ None → t ≡ opened F top s k → r ≡ None → Step F C top s t r
-  NoCopy : (c : Call) (k : ℕ) (e : Fault) → slice_get (C top.function) top.next ≡ Some c → c.target ≡ Function k → slice_index_or s.is_found k false ≡ false → append_fault F k s.used ≡ Some e → t ≡ s → r ≡ Some e → Step F C top s t r
+  Unresolved : (c : Reference) (e : Fault) → slice_get (C top.function) top.next ≡ Some c → c.target ≡ Nowhere e → t ≡ s → r ≡ Some e → Step F C top s t r
+  Passes : (c : Reference) (k : ℕ) → slice_get (C top.function) top.next ≡ Some c → c.target ≡ Function k → slice_index_or s.is_found k false ≡ true → t ≡ passed top s → r ≡ None → Step F C top s t r
+  Opens : (c : Reference) (k : ℕ) → slice_get (C top.function) top.next ≡ Some c → c.target ≡ Function k → slice_index_or s.is_found k false ≡ false → append_fault F k s.used ≡ None → t ≡ opened F top s k → r ≡ None → Step F C top s t r
+  NoCopy : (c : Reference) (k : ℕ) (e : Fault) → slice_get (C top.function) top.next ≡ Some c → c.target ≡ Function k → slice_index_or s.is_found k false ≡ false → append_fault F k s.used ≡ Some e → t ≡ s → r ≡ Some e → Step F C top s t r
 
-module _ (F : Functions ℕ Fault) (C : ℕ → List Call) (top : Open) (s t : Search) (r : Option Fault) where
-  by_copy : (c : Call) (k : ℕ) → slice_get (C top.function) top.next ≡ Some c → c.target ≡ Function k → slice_index_or s.is_found k false ≡ false → (o : Option Fault) → append_fault F k s.used ≡ o → MatchOption o ((t ≡ opened F top s k) × (r ≡ None)) (λ e. (t ≡ s) × (r ≡ Some e)) → Step F C top s t r
+module _ (F : Functions ℕ Fault) (C : ℕ → List Reference) (top : Frame) (s t : Search) (r : Option Fault) where
+  by_copy : (c : Reference) (k : ℕ) → slice_get (C top.function) top.next ≡ Some c → c.target ≡ Function k → slice_index_or s.is_found k false ≡ false → (o : Option Fault) → append_fault F k s.used ≡ o → MatchOption o ((t ≡ opened F top s k) × (r ≡ None)) (λ e. (t ≡ s) × (r ≡ Some e)) → Step F C top s t r
   by_copy c k at to flag None fits a = Opens c k at to flag fits a.0 a.1
   by_copy c k at to flag (Some e) fits a = NoCopy c k e at to flag fits a.0 a.1
 
-  by_flag : (c : Call) (k : ℕ) → slice_get (C top.function) top.next ≡ Some c → c.target ≡ Function k → (b : Bool) → slice_index_or s.is_found k false ≡ b → MatchBool b ((t ≡ passed top s) × (r ≡ None)) (Entered F top s t r k) → Step F C top s t r
+  by_flag : (c : Reference) (k : ℕ) → slice_get (C top.function) top.next ≡ Some c → c.target ≡ Function k → (b : Bool) → slice_index_or s.is_found k false ≡ b → MatchBool b ((t ≡ passed top s) × (r ≡ None)) (Entered F top s t r k) → Step F C top s t r
   by_flag c k at to true flag a = Passes c k at to flag a.0 a.1
   by_flag c k at to false flag a = by_copy c k at to flag (append_fault F k s.used) refl a
 
-  by_target : (c : Call) → slice_get (C top.function) top.next ≡ Some c → (g : Target) → c.target ≡ g → StepTo F top s t r (Some g) → Step F C top s t r
+  by_target : (c : Reference) → slice_get (C top.function) top.next ≡ Some c → (g : Target) → c.target ≡ g → StepTo F top s t r (Some g) → Step F C top s t r
   by_target c at (Nowhere e) to a = Unresolved c e at to a.0 a.1
   by_target c at (Function k) to a = by_flag c k at to (slice_index_or s.is_found k false) refl a
 
-  by_call : (o : Option Call) → slice_get (C top.function) top.next ≡ o → StepTo F top s t r (call_target o) → Step F C top s t r
+  by_call : (o : Option Reference) → slice_get (C top.function) top.next ≡ o → StepTo F top s t r (call_target o) → Step F C top s t r
   by_call None at a = Ended (not_within (C top.function) top.next at) a.0 a.1
   by_call (Some c) at a = by_target c at c.target refl a
 
@@ -57,20 +57,20 @@ module _ (F : Functions ℕ Fault) (C : ℕ → List Call) (top : Open) (s t : S
 -- ---- what is left to follow
 
 -- what is left to follow in the open functions
-abbrev pub left_in : (ℕ → List Call) → List Open → ℕ
+abbrev pub left_in : (ℕ → List Reference) → List Frame → ℕ
 left_in C [] = 0
 left_in C (e ∷ es) = (length (C e.function) - e.next + 1) + left_in C es
 
 -- and in those from i on that were not found
-abbrev pub unfound : List Bool → (ℕ → List Call) → ℕ → ℕ
+abbrev pub unfound : List Bool → (ℕ → List Reference) → ℕ → ℕ
 unfound [] C i = 0
 unfound (b ∷ f) C i = cond b 0 (length (C i) + 2) + unfound f C (i + 1)
 
-left_more : (C : ℕ → List Call) (s t : List Open) → left_in C (s ++ t) ≡ left_in C s + left_in C t
+left_more : (C : ℕ → List Reference) (s t : List Frame) → left_in C (s ++ t) ≡ left_in C s + left_in C t
 left_more C [] t = omega arith
 left_more C (e ∷ s) t = omega (arith, left_more C s t)
 
-unfound_set : (f : List Bool) (C : ℕ → List Call) (i j k : ℕ) → j ≡ i + k → slice_index_or f k false ≡ false → k < length f → unfound (slice_set f k true) C i + (length (C j) + 2) ≡ unfound f C i
+unfound_set : (f : List Bool) (C : ℕ → List Reference) (i j k : ℕ) → j ≡ i + k → slice_index_or f k false ≡ false → k < length f → unfound (slice_set f k true) C i + (length (C j) + 2) ≡ unfound f C i
 unfound_set [] C i j k is flag lt = absurd (omega arith)
 unfound_set (b ∷ f) C i j zero is flag lt =
     let same : j ≡ i = omega arith in
@@ -79,20 +79,20 @@ unfound_set (b ∷ f) C i j zero is flag lt =
 unfound_set (b ∷ f) C i j (suc k) is flag lt = omega (arith, unfound_set f C (i + 1) j k (omega arith) flag (omega arith))
 
 -- what is left to follow in all
-abbrev pub left_of : (ℕ → List Call) → Search → ℕ
+abbrev pub left_of : (ℕ → List Reference) → Search → ℕ
 left_of C s = unfound s.is_found C 0 + left_in C s.work_list
 
 -- it falls in each step
-pub less_left : (F : Functions ℕ Fault) (N : ℕ) (C : ℕ → List Call) (top : Open) (s t : Search) → AreSorted N C → length s.is_found ≡ N → Step F C top s t None → left_of C t < unfound s.is_found C 0 + left_in C (s.work_list ++ top ∷ [])
+pub less_left : (F : Functions ℕ Fault) (N : ℕ) (C : ℕ → List Reference) (top : Frame) (s t : Search) → AreSorted N C → length s.is_found ≡ N → Step F C top s t None → left_of C t < unfound s.is_found C 0 + left_in C (s.work_list ++ top ∷ [])
 less_left F N C top s t sound size (Ended past same is) = let z = ap (left_of C) same in omega (arith, z, left_more C s.work_list (top ∷ []))
 less_left F N C top s t sound size (Unresolved c e at to same is) = cc (is)
 less_left F N C top s t sound size (Passes c k at to flag same is) =
-    let next : Open = record top { next = top.next + 1 } in
+    let next : Frame = record top { next = top.next + 1 } in
     let z = ap (left_of C) same in
     let lt = slice_get_within (C top.function) top.next c at in
     omega (arith, z, lt, left_more C s.work_list (next ∷ []), left_more C s.work_list (top ∷ []))
 less_left F N C top s t sound size (Opens c k at to flag fits same is) =
-    let new : Open = record { copy = length s.order; function = k; next = 0 } in
+    let new : Frame = record { copy = length s.order; function = k; next = 0 } in
     let inside : k < N = subst (IsWithin N) to (sound.within top.function top.next c at) in
     let e = unfound_set s.is_found C 0 k k (omega arith) flag (omega (arith, size, inside)) in
     let z = ap (left_of C) same in
@@ -102,7 +102,7 @@ less_left F N C top s t sound size (NoCopy c k e at to flag full same is) = cc (
 -- ---- the state of the search, its steps, and what holds when it ends
 
 -- k, at place j of the order, is reached by a walk before which each walk leads to an earlier function
-pub record First (C : ℕ → List Call) (p : ℕ) (o : List ℕ) (j k : ℕ) : Type 0 where
+pub record First (C : ℕ → List Reference) (p : ℕ) (o : List ℕ) (j k : ℕ) : Type 0 where
   pub path : List ℕ
   pub keys : List ℕ
   pub simple : Simple (refs C) p path keys
@@ -110,7 +110,7 @@ pub record First (C : ℕ → List Call) (p : ℕ) (o : List ℕ) (j k : ℕ) : 
   pub ends : last_key_or p keys ≡ k
   pub least : (q qs : List ℕ) → Simple (refs C) p q qs → q ≢ [] → Before q path → (i : ℕ) × (0 < i) × (i < j) × (slice_get o i ≡ Some (last_key_or p qs))
 
-pub record State (N : ℕ) (C : ℕ → List Call) (p : ℕ) (o : List ℕ) (f : List Bool) (s : List Open) : Type 0 where
+pub record State (N : ℕ) (C : ℕ → List Reference) (p : ℕ) (o : List ℕ) (f : List Bool) (s : List Frame) : Type 0 where
   pub held : Held C o (length o) (reverse s)
   pub start : slice_get o 0 ≡ Some p
   pub flags : length f ≡ N
@@ -120,7 +120,7 @@ pub record State (N : ℕ) (C : ℕ → List Call) (p : ℕ) (o : List ℕ) (f :
   pub firsts : (j k : ℕ) → 0 < j → slice_get o j ≡ Some k → First C p o j k
   pub within : (j k : ℕ) → slice_get o j ≡ Some k → k < N
 
-module _ (N : ℕ) (C : ℕ → List Call) (p : ℕ) where
+module _ (N : ℕ) (C : ℕ → List Reference) (p : ℕ) where
   pub first_more : (o ys : List ℕ) (j k : ℕ) → First C p o j k → First C p (o ++ ys) j k
   first_more o ys j k h =
       record {
@@ -132,11 +132,11 @@ module _ (N : ℕ) (C : ℕ → List Call) (p : ℕ) where
         least = λ q qs w ne b. let (i, pos, lt, at) = h.least q qs w ne b in (i, pos, lt, get_more o ys i (last_key_or p qs) at);
       }
 
-  pub upto_next : AreSorted N C → (e : Open) (r : Call) → slice_get (C e.function) e.next ≡ Some r → (i : ℕ) (s : Call) → slice_get (C e.function) i ≡ Some s → s.slot < r.slot → i < e.next
+  pub upto_next : AreSorted N C → (e : Frame) (r : Reference) → slice_get (C e.function) e.next ≡ Some r → (i : ℕ) (s : Reference) → slice_get (C e.function) i ≡ Some s → s.slot < r.slot → i < e.next
   upto_next sound e r at i s at' lt = rises_index (C e.function) 0 i e.next s r (sound.rises e.function) at' at lt
 
   -- the last reference of a simple walk before the cursor
-  pub before_found : AreSorted N C → (o : List ℕ) (e : Open) (es : List Open) (r : Call) → slice_get o 0 ≡ Some p → Held C o (length o) (e ∷ es) → slice_get (C e.function) e.next ≡ Some r → (q qs : List ℕ) → Simple (refs C) p q qs → q ≢ [] → Before q (path_of C p (e ∷ es) ++ r.slot ∷ []) → Found o (length o) (Names (last_key_or p qs))
+  pub before_found : AreSorted N C → (o : List ℕ) (e : Frame) (es : List Frame) (r : Reference) → slice_get o 0 ≡ Some p → Held C o (length o) (e ∷ es) → slice_get (C e.function) e.next ≡ Some r → (q qs : List ℕ) → Simple (refs C) p q qs → q ≢ [] → Before q (path_of C p (e ∷ es) ++ r.slot ∷ []) → Found o (length o) (Names (last_key_or p qs))
   before_found sound o e es r start held at [] qs w ne b = absurd (ne refl)
   before_found sound o e es r start held at (x ∷ q) qs w ne b =
       let l = walk_last (refs C) p x q qs w.walk in
@@ -148,7 +148,7 @@ module _ (N : ℕ) (C : ℕ → List Call) (p : ℕ) where
       rw end (subst (Found o (length o)) l.leads is_found)
 
   -- the function that is opened now
-  pub first_now : AreSorted N C → (o : List ℕ) (k : ℕ) (e : Open) (es : List Open) (r : Call) → slice_get o 0 ≡ Some p → Apart o → Held C o (length o) (e ∷ es) → slice_get (C e.function) e.next ≡ Some r → r.target ≡ Function k → (Found o (length o) (Names k) → ⊥) → First C p (o ++ k ∷ []) (length o) k
+  pub first_now : AreSorted N C → (o : List ℕ) (k : ℕ) (e : Frame) (es : List Frame) (r : Reference) → slice_get o 0 ≡ Some p → Apart o → Held C o (length o) (e ∷ es) → slice_get (C e.function) e.next ≡ Some r → r.target ≡ Function k → (Found o (length o) (Names k) → ⊥) → First C p (o ++ k ∷ []) (length o) k
   first_now sound o k e es r start apart held at to fresh =
       let w = walk_of C p (rising sound) o (length o) e es start held in
       let leads : refs C (last_key_or p (keys_of C p (e ∷ es))) r.slot ≡ Names k = rw w.1 ((at_index (C e.function) 0 e.next r (sound.rises e.function) at).1 ∙ ap of_target to) in
@@ -167,7 +167,7 @@ module _ (N : ℕ) (C : ℕ → List Call) (p : ℕ) where
       }
 
   -- no reference before the cursor leads nowhere
-  pub plain_before : AreSorted N C → (o : List ℕ) (e : Open) (es : List Open) (r : Call) → slice_get o 0 ≡ Some p → Held C o (length o) (e ∷ es) → slice_get (C e.function) e.next ≡ Some r → (other : List ℕ) (y : ℕ) (g : Fault) → HasReferenceFault (refs C) p other y g → Before (other ++ y ∷ []) (path_of C p (e ∷ es) ++ r.slot ∷ []) → ⊥
+  pub plain_before : AreSorted N C → (o : List ℕ) (e : Frame) (es : List Frame) (r : Reference) → slice_get o 0 ≡ Some p → Held C o (length o) (e ∷ es) → slice_get (C e.function) e.next ≡ Some r → (other : List ℕ) (y : ℕ) (g : Fault) → HasReferenceFault (refs C) p other y g → Before (other ++ y ∷ []) (path_of C p (e ∷ es) ++ r.slot ∷ []) → ⊥
   plain_before sound o e es r start held at other y g h b =
       let some : refs C (last_key_or p h.keys) y ≢ Nothing = λ (z : refs C (last_key_or p h.keys) y ≡ Nothing). cc (h.fault) in
       let is_found = cursor C p (rising sound) o (length o) e es r.slot start held (upto_next sound e r at) other h.keys y h.simple.walk h.simple.once some b in
@@ -175,7 +175,7 @@ module _ (N : ℕ) (C : ℕ → List Call) (p : ℕ) where
       no_
 
   -- a reference that leads nowhere
-  pub fault_here : AreSorted N C → (o : List ℕ) (e : Open) (es : List Open) (r : Call) (d : Fault) → slice_get o 0 ≡ Some p → Apart o → Held C o (length o) (e ∷ es) → slice_get (C e.function) e.next ≡ Some r → r.target ≡ Nowhere d → HasReferenceFault (refs C) p (path_of C p (e ∷ es)) r.slot d
+  pub fault_here : AreSorted N C → (o : List ℕ) (e : Frame) (es : List Frame) (r : Reference) (d : Fault) → slice_get o 0 ≡ Some p → Apart o → Held C o (length o) (e ∷ es) → slice_get (C e.function) e.next ≡ Some r → r.target ≡ Nowhere d → HasReferenceFault (refs C) p (path_of C p (e ∷ es)) r.slot d
   fault_here sound o e es r d start apart held at to =
       let w = walk_of C p (rising sound) o (length o) e es start held in
       let is : refs C (last_key_or p (keys_of C p (e ∷ es))) r.slot ≡ Faulty d = rw w.1 ((at_index (C e.function) 0 e.next r (sound.rises e.function) at).1 ∙ ap of_target to) in
@@ -208,25 +208,25 @@ module _ (N : ℕ) (C : ℕ → List Call) (p : ℕ) where
 
   -- the steps
 
-  pub held_top : (o : List ℕ) (s : List Open) (top : Open) → Held C o (length o) (reverse (s ++ top ∷ [])) → Held C o (length o) (top ∷ reverse s)
+  pub held_top : (o : List ℕ) (s : List Frame) (top : Frame) → Held C o (length o) (reverse (s ++ top ∷ [])) → Held C o (length o) (top ∷ reverse s)
   held_top o s top h = subst (Held C o (length o)) (reverse-append s (top ∷ [])) h
 
-  top_held : (o : List ℕ) (s : List Open) (top : Open) → Held C o (length o) (top ∷ reverse s) → Held C o (length o) (reverse (s ++ top ∷ []))
+  top_held : (o : List ℕ) (s : List Frame) (top : Frame) → Held C o (length o) (top ∷ reverse s) → Held C o (length o) (reverse (s ++ top ∷ []))
   top_held o s top h = subst (Held C o (length o)) (sym (reverse-append s (top ∷ []))) h
 
-  step_over : (o : List ℕ) (f : List Bool) (s : List Open) (top : Open) → State N C p o f (s ++ top ∷ []) → length (C top.function) ≤ top.next → State N C p o f s
+  step_over : (o : List ℕ) (f : List Bool) (s : List Frame) (top : Frame) → State N C p o f (s ++ top ∷ []) → length (C top.function) ≤ top.next → State N C p o f s
   step_over o f s top h over =
       record { held = held_pop C o (length o) top (reverse s) over (held_top o s top h.held); start = h.start; flags = h.flags; marked = h.marked; unmarked = h.unmarked; apart = h.apart; firsts = h.firsts; within = h.within }
 
-  step_next : (o : List ℕ) (f : List Bool) (s : List Open) (top : Open) (r : Call) (k : ℕ) → State N C p o f (s ++ top ∷ []) → slice_get (C top.function) top.next ≡ Some r → r.target ≡ Function k → slice_index_or f k false ≡ true → State N C p o f (s ++ record top { next = top.next + 1 } ∷ [])
+  step_next : (o : List ℕ) (f : List Bool) (s : List Frame) (top : Frame) (r : Reference) (k : ℕ) → State N C p o f (s ++ top ∷ []) → slice_get (C top.function) top.next ≡ Some r → r.target ≡ Function k → slice_index_or f k false ≡ true → State N C p o f (s ++ record top { next = top.next + 1 } ∷ [])
   step_next o f s top r k h at to flag =
       let is_found : Found o (length o) (of_target r.target) = rw to (h.marked k flag) in
       record { held = top_held o s (record top { next = top.next + 1 }) (held_next C o (length o) top (reverse s) r at is_found (held_top o s top h.held)); start = h.start; flags = h.flags; marked = h.marked; unmarked = h.unmarked; apart = h.apart; firsts = h.firsts; within = h.within }
 
-  step_push : AreSorted N C → (o : List ℕ) (f : List Bool) (s : List Open) (top : Open) (r : Call) (k : ℕ) → State N C p o f (s ++ top ∷ []) → slice_get (C top.function) top.next ≡ Some r → r.target ≡ Function k → slice_index_or f k false ≡ false → State N C p (o ++ k ∷ []) (slice_set f k true) ((s ++ top ∷ []) ++ record { copy = length o; function = k; next = 0 } ∷ [])
+  step_push : AreSorted N C → (o : List ℕ) (f : List Bool) (s : List Frame) (top : Frame) (r : Reference) (k : ℕ) → State N C p o f (s ++ top ∷ []) → slice_get (C top.function) top.next ≡ Some r → r.target ≡ Function k → slice_index_or f k false ≡ false → State N C p (o ++ k ∷ []) (slice_set f k true) ((s ++ top ∷ []) ++ record { copy = length o; function = k; next = 0 } ∷ [])
   step_push sound o f s top r k h at to flag =
       let held = held_top o s top h.held in
-      let new : Open = record { copy = length o; function = k; next = 0 } in
+      let new : Frame = record { copy = length o; function = k; next = 0 } in
       let size : length (o ++ k ∷ []) ≡ length o + 1 = omega (arith, length-append o (k ∷ [])) in
       let pushed = held_push C o k top (reverse s) r at to held in
       let fresh = h.unmarked k flag in
@@ -236,7 +236,7 @@ module _ (N : ℕ) (C : ℕ → List Call) (p : ℕ) where
       let inside' : k < length f = omega (arith, h.flags) in
       let first = first_now sound o k top (reverse s) r h.start h.apart held at to fresh in
       record {
-        held = subst (Held C (o ++ k ∷ []) (length (o ++ k ∷ []))) (sym (reverse-append (s ++ top ∷ []) (new ∷ []) ∙ ap (λ (u : List Open). new ∷ u) (reverse-append s (top ∷ [])))) (subst (λ (u : ℕ). Held C (o ++ k ∷ []) u (new ∷ top ∷ reverse s)) (sym size) pushed);
+        held = subst (Held C (o ++ k ∷ []) (length (o ++ k ∷ []))) (sym (reverse-append (s ++ top ∷ []) (new ∷ []) ∙ ap (λ (u : List Frame). new ∷ u) (reverse-append s (top ∷ [])))) (subst (λ (u : ℕ). Held C (o ++ k ∷ []) u (new ∷ top ∷ reverse s)) (sym size) pushed);
         start = get_more o (k ∷ []) 0 p h.start;
         flags = length-set f k true ∙ h.flags;
         marked = λ m flag'.
@@ -263,11 +263,11 @@ module _ (N : ℕ) (C : ℕ → List Call) (p : ℕ) where
             elim (push_at o k j m at') [ inl x ↦ h.within j m x.1 | inr x ↦ subst (λ (u : ℕ). u < N) x.1 inside ];
       }
 
-  to_state : (o o' : List ℕ) (f f' : List Bool) (s s' : List Open) → o' ≡ o → f' ≡ f → s' ≡ s → State N C p o f s → State N C p o' f' s'
+  to_state : (o o' : List ℕ) (f f' : List Bool) (s s' : List Frame) → o' ≡ o → f' ≡ f → s' ≡ s → State N C p o f s → State N C p o' f' s'
   to_state o o' f f' s s' e g h st = subst (λ (u : List ℕ). State N C p u f' s') (sym e) (subst (λ (u : List Bool). State N C p o u s') (sym g) (subst (State N C p o f) (sym h) st))
 
   -- one step of the search
-  pub advanced : (F : Functions ℕ Fault) → AreSorted N C → (s t : Search) (top : Open) → State N C p s.order s.is_found (s.work_list ++ top ∷ []) → Step F C top s t None → State N C p t.order t.is_found t.work_list
+  pub advanced : (F : Functions ℕ Fault) → AreSorted N C → (s t : Search) (top : Frame) → State N C p s.order s.is_found (s.work_list ++ top ∷ []) → Step F C top s t None → State N C p t.order t.is_found t.work_list
   advanced F sound s t top h (Ended past same is) = subst (λ (u : Search). State N C p u.order u.is_found u.work_list) (sym same) (step_over s.order s.is_found s.work_list top h past)
   advanced F sound s t top h (Unresolved c e at to same is) = cc (is)
   advanced F sound s t top h (Passes c k at to flag same is) = subst (λ (u : Search). State N C p u.order u.is_found u.work_list) (sym same) (step_next s.order s.is_found s.work_list top c k h at to flag)
@@ -370,7 +370,7 @@ module _ (N : ℕ) (C : ℕ → List Call) (p : ℕ) where
   begins_with [] k e = cc
   begins_with (m ∷ ks) k e = (ks, cc)
 
-  pub ended : (o : List ℕ) (f : List Bool) (s : List Open) → length s ≡ 0 → State N C p o f s → (ks : List ℕ) × (o ≡ p ∷ ks) × IsOrder (refs C) p ks
+  pub ended : (o : List ℕ) (f : List Bool) (s : List Frame) → length s ≡ 0 → State N C p o f s → (ks : List ℕ) × (o ≡ p ∷ ks) × IsOrder (refs C) p ks
   ended o f s e h =
       let (ks, is) = begins_with o p h.start in
       (ks, is, finished ks f (subst (λ (u : List ℕ). State N C p u f []) is (subst (State N C p o f) (nil_length s e) h)))
@@ -407,7 +407,7 @@ module _ (N : ℕ) (C : ℕ → List Call) (p : ℕ) where
       }
 
   -- the state at the start
-  pub started : (o : List ℕ) (f : List Bool) (s : List Open) → p < N → o ≡ p ∷ [] → f ≡ replicate N false → s ≡ record { copy = 0; function = p; next = 0 } ∷ [] → State N C p o f s
+  pub started : (o : List ℕ) (f : List Bool) (s : List Frame) → p < N → o ≡ p ∷ [] → f ≡ replicate N false → s ≡ record { copy = 0; function = p; next = 0 } ∷ [] → State N C p o f s
   started o f s within eo ef es =
-      let first : Open = record { copy = 0; function = p; next = 0 } in
+      let first : Frame = record { copy = 0; function = p; next = 0 } in
       to_state (p ∷ []) o (replicate N false) f (first ∷ []) s eo ef es (started_so within)

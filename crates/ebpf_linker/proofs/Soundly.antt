@@ -7,7 +7,7 @@ use Rattle.std.proofs.lemmas.Bool.{ltb-true, lt-ltb, and_parts, and_from}
 use Rattle.std.proofs.lemmas.List.Elements.{All-nil, All-cons, All-head, All-tail}
 use Rattle.ebpf_linker.specs.declared.reference.Target.{Target}
 use Rattle.ebpf_linker.specs.declared.reference.Target.TheVariants.{Function, Nowhere}
-use Rattle.ebpf_linker.specs.declared.reference.Call.{Call}
+use Rattle.ebpf_linker.specs.declared.reference.Reference.{Reference}
 use Rattle.ebpf_linker.specs.Numbered.{IsWithin, Rises, Sound, calls_at}
 use Rattle.ebpf_linker.specs.PrivateContracts.{is_within, is_above, is_list_sound}
 
@@ -35,42 +35,42 @@ of_above None slot h = refl
 of_above (Some before) slot h = lt-ltb before slot (omega arith)
 
 module _ (n : ℕ) where
-  abbrev Within : List Call → Type 0
-  Within cs = All (λ (c : Call). IsWithin n c.target) cs
+  abbrev Within : List Reference → Type 0
+  Within cs = All (λ (c : Reference). IsWithin n c.target) cs
 
-  rises : (before : Option ℕ) (cs : List Call) → is_list_sound n before cs ≡ true → Rises (next before) cs
+  rises : (before : Option ℕ) (cs : List Reference) → is_list_sound n before cs ≡ true → Rises (next before) cs
   rises before [] e = tt
   rises before (c ∷ cs) e =
       let both = and_parts (is_above before c.slot && is_within n c.target) (is_list_sound n (Some c.slot) cs) e in
       (above_of before c.slot (and_parts (is_above before c.slot) (is_within n c.target) both.0).0, rises (Some c.slot) cs both.1)
 
-  within : (before : Option ℕ) (cs : List Call) → is_list_sound n before cs ≡ true → Within cs
-  within before [] e = All-nil (λ (c : Call). IsWithin n c.target)
+  within : (before : Option ℕ) (cs : List Reference) → is_list_sound n before cs ≡ true → Within cs
+  within before [] e = All-nil (λ (c : Reference). IsWithin n c.target)
   within before (c ∷ cs) e =
       let both = and_parts (is_above before c.slot && is_within n c.target) (is_list_sound n (Some c.slot) cs) e in
-      All-cons (λ (c : Call). IsWithin n c.target) c cs (in_of n c.target (and_parts (is_above before c.slot) (is_within n c.target) both.0).1) (within (Some c.slot) cs both.1)
+      All-cons (λ (c : Reference). IsWithin n c.target) c cs (in_of n c.target (and_parts (is_above before c.slot) (is_within n c.target) both.0).1) (within (Some c.slot) cs both.1)
 
-  tested : (before : Option ℕ) (cs : List Call) → Rises (next before) cs → Within cs → is_list_sound n before cs ≡ true
+  tested : (before : Option ℕ) (cs : List Reference) → Rises (next before) cs → Within cs → is_list_sound n before cs ≡ true
   tested before [] r w = refl
   tested before (c ∷ cs) r w =
       and_from (is_above before c.slot && is_within n c.target) (is_list_sound n (Some c.slot) cs)
-      (and_from (is_above before c.slot) (is_within n c.target) (of_above before c.slot r.0) (of_in n c.target (All-head (λ (c : Call). IsWithin n c.target) c cs w)))
-      (tested (Some c.slot) cs r.1 (All-tail (λ (c : Call). IsWithin n c.target) c cs w))
+      (and_from (is_above before c.slot) (is_within n c.target) (of_above before c.slot r.0) (of_in n c.target (All-head (λ (c : Reference). IsWithin n c.target) c cs w)))
+      (tested (Some c.slot) cs r.1 (All-tail (λ (c : Reference). IsWithin n c.target) c cs w))
 
-  abbrev are_sound : List (Vec Call Global) → Bool
+  abbrev are_sound : List (Vec Reference Global) → Bool
   are_sound C = list_all (λ v. is_list_sound n None v.items) C
 
-  at_each : (C : List (Vec Call Global)) → are_sound C ≡ true → (k : ℕ) → is_list_sound n None (calls_at C k) ≡ true
+  at_each : (C : List (Vec Reference Global)) → are_sound C ≡ true → (k : ℕ) → is_list_sound n None (calls_at C k) ≡ true
   at_each [] e k = refl
   at_each (v ∷ C) e zero = (and_parts (is_list_sound n None v.items) (are_sound C) e).0
   at_each (v ∷ C) e (suc k) = at_each C (and_parts (is_list_sound n None v.items) (are_sound C) e).1 k
 
-  from_each : (C : List (Vec Call Global)) → ((k : ℕ) → is_list_sound n None (calls_at C k) ≡ true) → are_sound C ≡ true
+  from_each : (C : List (Vec Reference Global)) → ((k : ℕ) → is_list_sound n None (calls_at C k) ≡ true) → are_sound C ≡ true
   from_each [] h = refl
   from_each (v ∷ C) h = and_from (is_list_sound n None v.items) (are_sound C) (h 0) (from_each C (λ k. h (suc k)))
 
 -- the tests hold exactly of sound references
-pub sound_tests : (n : ℕ) (C : List (Vec Call Global)) (b : Bool) → b ≡ list_all (λ v. is_list_sound n None v.items) C → IsTrue b ↔ Sound n C
+pub sound_tests : (n : ℕ) (C : List (Vec Reference Global)) (b : Bool) → b ≡ list_all (λ v. is_list_sound n None v.items) C → IsTrue b ↔ Sound n C
 sound_tests n C b is = (
   λ e.
       let each = at_each n C (sym is ∙ e) in

@@ -4,14 +4,14 @@ use Rattle.std.specs.Prelude.{slice_index_or, slice_set, All}
 use Rattle.std.proofs.lemmas.Bool.{cases_eq}
 use Rattle.std.proofs.lemmas.List.{drop_all}
 use Rattle.ebpf_linker.specs.declared.reference.Fault.{Fault}
-use Rattle.ebpf_linker.specs.declared.reference.Call.{Call}
-use Rattle.ebpf_linker.specs.declared.search.Open.{Open}
+use Rattle.ebpf_linker.specs.declared.reference.Reference.{Reference}
+use Rattle.ebpf_linker.specs.declared.search.Frame.{Frame}
 use Rattle.ebpf_linker.specs.Functions.{Functions, Among}
 use Rattle.ebpf_linker.specs.Search.{Search}
 use Rattle.ebpf_linker.proofs.Readying.{all_within}
 use Rattle.ebpf_linker.proofs.Paths.{among_get, get_among}
 use Rattle.ebpf_linker.proofs.Searched.{State, Step, Ended, Unresolved, Passes, Opens, NoCopy}
-use Rattle.ebpf_linker.specs.declared.reference.Call.{Call}
+use Rattle.ebpf_linker.specs.declared.reference.Reference.{Reference}
 
 -- of n flags, those of the functions from place i on are left
 pub record Unmarking (n : ℕ) (ks : List ℕ) (flags : List Bool) (i : ℕ) : Type 0 where
@@ -48,7 +48,7 @@ module _ (n : ℕ) (ks : List ℕ) (flags : List Bool) (i : ℕ) where
       let none : (k : ℕ) → slice_index_or flags k false ≡ true → ⊥ = λ k e. subst (λ (u : List ℕ). Among u k) (drop_all i ks past) (h.left k e) in
       none_set flags none ∙ ap (λ (m : ℕ). replicate m false) h.size
 
-module _ {N : ℕ} {C : ℕ → List Call} {p : ℕ} {o : List ℕ} {f : List Bool} {s : List Open} (h : State N C p o f s) where
+module _ {N : ℕ} {C : ℕ → List Reference} {p : ℕ} {o : List ℕ} {f : List Bool} {s : List Frame} (h : State N C p o f s) where
   -- what the search found are functions with flags, and no other has its flag set
   pub found_within : All (λ k. k < length f) o
   found_within = all_within (length f) o (λ k a. let (j, at) = among_get o k a in let lt = h.within j k at in omega (arith, lt, h.flags))
@@ -57,7 +57,7 @@ module _ {N : ℕ} {C : ℕ → List Call} {p : ℕ} {o : List ℕ} {f : List Bo
   set_among k e = let (j, pos, lt, at) = h.marked k e in get_among o j k at
 
 -- a fault leaves the search as it was
-pub stands_still : (F : Functions ℕ Fault) (C : ℕ → List Call) (top : Open) (s t : Search) (d : Fault) → Step F C top s t (Some d) → t ≡ s
+pub stands_still : (F : Functions ℕ Fault) (C : ℕ → List Reference) (top : Frame) (s t : Search) (d : Fault) → Step F C top s t (Some d) → t ≡ s
 stands_still F C top s t d (Ended past same is) = same
 stands_still F C top s t d (Unresolved c e at to same is) = same
 stands_still F C top s t d (Passes c k at to flag same is) = cc (is)

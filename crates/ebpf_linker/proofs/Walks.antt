@@ -20,8 +20,8 @@ use Rattle.ebpf_linker.specs.PrivateContracts.{content_in}
 use Rattle.ebpf_linker.specs.Result.{func_moved, line_moved, func_records, line_records, has_lines}
 use Rattle.ebpf_linker.specs.declared.body.Body.{Body}
 use Rattle.ebpf_linker.specs.declared.link_map.NumberedCopy.{NumberedCopy}
-use Rattle.ebpf_linker.specs.declared.link_map.Reference.{Reference}
-use Rattle.ebpf_linker.specs.declared.reference.Call.{Call}
+use Rattle.ebpf_linker.specs.declared.link_map.PlacedReference.{PlacedReference}
+use Rattle.ebpf_linker.specs.declared.reference.Reference.{Reference}
 use Rattle.ebpf_linker.specs.declared.reference.Fault.TheVariants.{ProgramTooLong, InvalidLineInfo}
 use Rattle.ebpf_parts.specs.declared.insn.bpf_insn.{bpf_insn}
 
@@ -71,12 +71,12 @@ length-with_bases B end bases [] = refl
 length-with_bases B end bases (k ∷ ks) = length-with_bases B (end + length (body_at B k)) (slice_set bases k end) ks ∙ length-set bases k end
 
 -- the copies so far, and those to come
-pub record Laying (B : List Body) (C : List (Vec Call Global)) (bases order : List ℕ) (out : List bpf_insn) (i : ℕ) : Type 0 where
+pub record Laying (B : List Body) (C : List (Vec Reference Global)) (bases order : List ℕ) (out : List bpf_insn) (i : ℕ) : Type 0 where
   pub whole : out ++ linked_copies B C bases (length out) (drop i order) ≡ linked_copies B C bases 0 order
   pub room : length out + bodies_slot_count B (drop i order) ≡ bodies_slot_count B order
 
-module _ (B : List Body) (C : List (Vec Call Global)) (bases order : List ℕ) (out : List bpf_insn) (i : ℕ) where
-  pub linked_copies_next : (k : ℕ) (body out' : List bpf_insn) (cs : List Call) → Laying B C bases order out i → i < length order → k ≡ get_or order i 0 → body_at B k ≡ body → calls_at C k ≡ cs → out' ≡ out ++ copied_slots bases cs (length out) 0 body → Laying B C bases order out' (i + 1)
+module _ (B : List Body) (C : List (Vec Reference Global)) (bases order : List ℕ) (out : List bpf_insn) (i : ℕ) where
+  pub linked_copies_next : (k : ℕ) (body out' : List bpf_insn) (cs : List Reference) → Laying B C bases order out i → i < length order → k ≡ get_or order i 0 → body_at B k ≡ body → calls_at C k ≡ cs → out' ≡ out ++ copied_slots bases cs (length out) 0 body → Laying B C bases order out' (i + 1)
   linked_copies_next k body out' cs h lt e b f is =
       let d = next_is order i k lt e in
       let is' : out' ≡ out ++ copied_slots bases (calls_at C k) (length out) 0 (body_at B k) = rw (b, f) is in
@@ -94,7 +94,7 @@ module _ (B : List Body) (C : List (Vec Call Global)) (bases order : List ℕ) (
   fits_next k body h lt e b = let z = ap (bodies_slot_count B) (next_is order i k lt e) in let y = ap length b in omega (arith, z, h.room, y)
 
 -- the references of function k, read from its list
-pub calls_read : (C : List (Vec Call Global)) (k : ℕ) (x : Vec Call Global) → k < length C → x ≡ get_or C k x → calls_at C k ≡ x.items
+pub calls_read : (C : List (Vec Reference Global)) (k : ℕ) (x : Vec Reference Global) → k < length C → x ≡ get_or C k x → calls_at C k ≡ x.items
 calls_read C k x lt e = ap calls_or_empty (slice_get_read C (length C) k x refl lt e)
 
 -- what stands at a place past the end
@@ -141,10 +141,10 @@ module _ (B : List Body) (ks : List ℕ) (base i : ℕ) (inside : i < length ks)
   pub copies_more : (out more whole : List NumberedCopy) → out ++ map numbered_copy (copies_from (functions_by_number B []) base (drop i ks)) ≡ whole → more ≡ out ++ record { function = next; base = base; slots = length here.slots.now } ∷ [] → more ++ map numbered_copy (copies_from (functions_by_number B []) (base + length here.slots.now) rest) ≡ whole
   copies_more out more whole = more_of out more _ _ _ whole (here_next (λ us. map numbered_copy (copies_from (functions_by_number B []) base us)) (λ c. record { function = next; base = base; slots = length c.slots } ∷ map numbered_copy (copies_from (functions_by_number B []) (base + length c.slots) rest)) refl)
 
-  pub references_more : (C : List (Vec Call Global)) (bases : List ℕ) (cs : List Call) → calls_at C next ≡ cs → (out more whole : List Reference) → out ++ references_of_copies B C bases base (drop i ks) ≡ whole → more ≡ out ++ references_of_copy bases base here.slots.now cs → more ++ references_of_copies B C bases (base + length here.slots.now) rest ≡ whole
+  pub references_more : (C : List (Vec Reference Global)) (bases : List ℕ) (cs : List Reference) → calls_at C next ≡ cs → (out more whole : List PlacedReference) → out ++ references_of_copies B C bases base (drop i ks) ≡ whole → more ≡ out ++ references_of_copy bases base here.slots.now cs → more ++ references_of_copies B C bases (base + length here.slots.now) rest ≡ whole
   references_more C bases cs calls out more whole h is =
       more_of out more _ _ _ whole (here_next (references_of_copies B C bases base) (λ c. references_of_copy bases base c.slots (calls_at C next) ++ references_of_copies B C bases (base + length c.slots) rest) refl) h
-      (is ∙ ap (λ (u : List Call). out ++ references_of_copy bases base here.slots.now u) (sym calls))
+      (is ∙ ap (λ (u : List Reference). out ++ references_of_copy bases base here.slots.now u) (sym calls))
 
   pub fit_more : Fit B base (drop i ks) → Fit B (base + length here.slots.now) rest
   fit_more h = subst (λ (c : FunctionContent). Fit B (base + length c.slots) rest) (content_read B next no_body known) (fit_next B ks base i next h inside refl).1
@@ -179,21 +179,21 @@ not_stray first base line e =
 
 -- the references of one function
 
-module _ (bases : List ℕ) (base : ℕ) (body : List bpf_insn) (cs : List Call) (i : ℕ) (c : Call) (inside : i < length cs) (here : c ≡ get_or cs i c) (out whole : List Reference) (so_far : out ++ references_of_copy bases base body (drop i cs) ≡ whole) where
+module _ (bases : List ℕ) (base : ℕ) (body : List bpf_insn) (cs : List Reference) (i : ℕ) (c : Reference) (inside : i < length cs) (here : c ≡ get_or cs i c) (out whole : List PlacedReference) (so_far : out ++ references_of_copy bases base body (drop i cs) ≡ whole) where
   next_call : out ++ with_linked_reference (linked_reference bases base body c) (references_of_copy bases base body (drop (i + 1) cs)) ≡ whole
-  next_call = sym (ap (λ (u : List Call). out ++ references_of_copy bases base body u) (rest_more cs i c inside here)) ∙ so_far
+  next_call = sym (ap (λ (u : List Reference). out ++ references_of_copy bases base body u) (rest_more cs i c inside here)) ∙ so_far
 
   -- a slot that refers
-  pub reference_here : (r : Reference) (more : List Reference) → linked_reference bases base body c ≡ Some r → more ≡ out ++ r ∷ [] → more ++ references_of_copy bases base body (drop (i + 1) cs) ≡ whole
+  pub reference_here : (r : PlacedReference) (more : List PlacedReference) → linked_reference bases base body c ≡ Some r → more ≡ out ++ r ∷ [] → more ++ references_of_copy bases base body (drop (i + 1) cs) ≡ whole
   reference_here r more is new =
-      ap (λ (u : List Reference). u ++ references_of_copy bases base body (drop (i + 1) cs)) new
+      ap (λ (u : List PlacedReference). u ++ references_of_copy bases base body (drop (i + 1) cs)) new
       ∙ append_assoc out (r ∷ []) (references_of_copy bases base body (drop (i + 1) cs))
-      ∙ ap (λ (o : Option Reference). out ++ with_linked_reference o (references_of_copy bases base body (drop (i + 1) cs))) (sym is)
+      ∙ ap (λ (o : Option PlacedReference). out ++ with_linked_reference o (references_of_copy bases base body (drop (i + 1) cs))) (sym is)
       ∙ next_call
 
   -- one that does not
   pub no_linked_reference : linked_reference bases base body c ≡ None → out ++ references_of_copy bases base body (drop (i + 1) cs) ≡ whole
-  no_linked_reference is = ap (λ (o : Option Reference). out ++ with_linked_reference o (references_of_copy bases base body (drop (i + 1) cs))) (sym is) ∙ next_call
+  no_linked_reference is = ap (λ (o : Option PlacedReference). out ++ with_linked_reference o (references_of_copy bases base body (drop (i + 1) cs))) (sym is) ∙ next_call
 
 -- the first function, whose copy begins at 0
 
@@ -205,10 +205,10 @@ module _ (B : List Body) where
       ∙ ap (λ (s : List bpf_insn). record { function = p; base = 0; slots = length s } ∷ map numbered_copy (copies_from (functions_by_number B []) (length s) ks)) (sym is)
       ∙ ap (λ (n : ℕ). record { function = p; base = 0; slots = length (body_at B p) } ∷ map numbered_copy (copies_from (functions_by_number B []) n ks)) (sym zero_base)
 
-  pub references_first : (C : List (Vec Call Global)) (bases : List ℕ) (p : ℕ) (ks : List ℕ) (body : List bpf_insn) (cs : List Call) (none first : List Reference) → body_at B p ≡ body → calls_at C p ≡ cs → none ≡ [] → first ≡ none ++ references_of_copy bases 0 body cs → first ++ references_of_copies B C bases (length body) ks ≡ references_of_copies B C bases 0 (p ∷ ks)
+  pub references_first : (C : List (Vec Reference Global)) (bases : List ℕ) (p : ℕ) (ks : List ℕ) (body : List bpf_insn) (cs : List Reference) (none first : List PlacedReference) → body_at B p ≡ body → calls_at C p ≡ cs → none ≡ [] → first ≡ none ++ references_of_copy bases 0 body cs → first ++ references_of_copies B C bases (length body) ks ≡ references_of_copies B C bases 0 (p ∷ ks)
   references_first C bases p ks body cs none first is calls empty new =
       let zero_base : 0 + length (body_at B p) ≡ length (body_at B p) = omega arith in
-      ap (λ (u : List Reference). u ++ references_of_copies B C bases (length body) ks) (new ∙ ap (λ (u : List Reference). u ++ references_of_copy bases 0 body cs) empty)
+      ap (λ (u : List PlacedReference). u ++ references_of_copies B C bases (length body) ks) (new ∙ ap (λ (u : List PlacedReference). u ++ references_of_copy bases 0 body cs) empty)
       ∙ ap (λ (s : List bpf_insn). references_of_copy bases 0 s cs ++ references_of_copies B C bases (length s) ks) (sym is)
-      ∙ ap (λ (u : List Call). references_of_copy bases 0 (body_at B p) u ++ references_of_copies B C bases (length (body_at B p)) ks) (sym calls)
+      ∙ ap (λ (u : List Reference). references_of_copy bases 0 (body_at B p) u ++ references_of_copies B C bases (length (body_at B p)) ks) (sym calls)
       ∙ ap (λ (n : ℕ). references_of_copy bases 0 (body_at B p) (calls_at C p) ++ references_of_copies B C bases n ks) (sym zero_base)

@@ -14,8 +14,8 @@ use Rattle.ebpf_linker.specs.Numbered.{of_target, referred, Rises, calls_at, fun
 use Rattle.ebpf_linker.specs.Result.{IsOrder, linked_func_info, linked_line_info, has_lines, count_if, IsProgram}
 use Rattle.ebpf_linker.specs.declared.body.Body.{Body}
 use Rattle.ebpf_linker.specs.declared.body.LinkedProgram.{LinkedProgram}
-use Rattle.ebpf_linker.specs.declared.link_map.Reference.{Reference}
-use Rattle.ebpf_linker.specs.declared.reference.Call.{Call}
+use Rattle.ebpf_linker.specs.declared.link_map.PlacedReference.{PlacedReference}
+use Rattle.ebpf_linker.specs.declared.reference.Reference.{Reference}
 use Rattle.ebpf_linker.specs.declared.reference.Fault.{Fault}
 use Rattle.ebpf_parts.specs.declared.insn.bpf_insn.{bpf_insn}
 
@@ -23,7 +23,7 @@ use Rattle.ebpf_parts.specs.declared.insn.bpf_insn.{bpf_insn}
 
 -- ---- appending a copy, one slot after another
 
-pub record Copying (old out body : List bpf_insn) (cs : List Call) (bases : List ℕ) (i next : ℕ) : Type 0 where
+pub record Copying (old out body : List bpf_insn) (cs : List Reference) (bases : List ℕ) (i next : ℕ) : Type 0 where
   pub whole : out ++ copied_slots bases cs (length out) i (drop i body) ≡ old ++ copied_slots bases cs (length old) 0 body
   pub size : length out ≡ length old + i
   pub same : (x : ℕ) → i ≤ x → referred (drop next cs) x ≡ referred cs x
@@ -43,17 +43,17 @@ head_get [] (suc i) x ys e = cc
 head_get (y ∷ xs) zero x ys e = cc
 head_get (y ∷ xs) (suc i) x ys e = head_get xs i x ys e
 
-nothing_below : (cs : List Call) (low x : ℕ) → Rises low cs → x < low → referred cs x ≡ Nothing
+nothing_below : (cs : List Reference) (low x : ℕ) → Rises low cs → x < low → referred cs x ≡ Nothing
 nothing_below [] low x h lt = refl
 nothing_below (c ∷ cs) low x h lt =
     let ne : c.slot ≡ x → ⊥ = λ (e : c.slot ≡ x). omega (arith, h.0) in
     rw (ne_eqb c.slot x ne) (nothing_below cs (c.slot + 1) x h.1 (omega (arith, h.0)))
 
-rises_more : (cs : List Call) (low : ℕ) → Rises low cs → ((c : Call) (more : List Call) → cs ≡ c ∷ more → c.slot ≡ low → ⊥) → Rises (low + 1) cs
+rises_more : (cs : List Reference) (low : ℕ) → Rises low cs → ((c : Reference) (more : List Reference) → cs ≡ c ∷ more → c.slot ≡ low → ⊥) → Rises (low + 1) cs
 rises_more [] low h ne = tt
 rises_more (c ∷ cs) low h ne = let z = ne c cs refl in (omega (arith, h.0, z), h.1)
 
-module _ (old out body : List bpf_insn) (cs : List Call) (bases : List ℕ) (i next : ℕ) where
+module _ (old out body : List bpf_insn) (cs : List Reference) (bases : List ℕ) (i next : ℕ) where
   more_whole : (s t : bpf_insn) → Copying old out body cs bases i next → slice_get body i ≡ Some s → t ≡ linked_slot bases (length out) (referred cs i) s → (out ++ t ∷ []) ++ copied_slots bases cs (length (out ++ t ∷ [])) (i + 1) (drop (i + 1) body) ≡ old ++ copied_slots bases cs (length old) 0 body
   more_whole s t h at is =
       let size : length (out ++ t ∷ []) ≡ length out + 1 = length-append out (t ∷ []) in
@@ -64,11 +64,11 @@ module _ (old out body : List bpf_insn) (cs : List Call) (bases : List ℕ) (i n
       ∙ h.whole
 
   -- at a reference
-  pub refers : (s t : bpf_insn) (c : Call) (n : ℕ) → Copying old out body cs bases i next → slice_get body i ≡ Some s → slice_get cs next ≡ Some c → c.slot ≡ i → n ≡ length out → t ≡ linked_slot bases n (of_target c.target) s → Copying old (out ++ t ∷ []) body cs bases (i + 1) (next + 1)
+  pub refers : (s t : bpf_insn) (c : Reference) (n : ℕ) → Copying old out body cs bases i next → slice_get body i ≡ Some s → slice_get cs next ≡ Some c → c.slot ≡ i → n ≡ length out → t ≡ linked_slot bases n (of_target c.target) s → Copying old (out ++ t ∷ []) body cs bases (i + 1) (next + 1)
   refers s t c n h at call slot size is' =
       let is : t ≡ linked_slot bases (length out) (of_target c.target) s = is' ∙ ap (λ (m : ℕ). linked_slot bases m (of_target c.target) s) size in
       let rest = drop_get cs next c call in
-      let here : referred cs i ≡ of_target c.target = sym (h.same i (omega arith)) ∙ ap (λ (u : List Call). referred u i) rest ∙ rw (eq-eqb c.slot i slot) refl in
+      let here : referred cs i ≡ of_target c.target = sym (h.same i (omega arith)) ∙ ap (λ (u : List Reference). referred u i) rest ∙ rw (eq-eqb c.slot i slot) refl in
       let rises = subst (Rises i) rest h.rises in
       record {
         whole = more_whole s t h at (is ∙ ap (λ (r : SlotReference ℕ Fault). linked_slot bases (length out) r s) (sym here));
@@ -76,12 +76,12 @@ module _ (old out body : List bpf_insn) (cs : List Call) (bases : List ℕ) (i n
         same = λ x le.
             let ne : c.slot ≡ x → ⊥ = λ (e : c.slot ≡ x). omega arith in
             let skip : referred (c ∷ drop (next + 1) cs) x ≡ referred (drop (next + 1) cs) x = rw (ne_eqb c.slot x ne) refl in
-            sym skip ∙ ap (λ (u : List Call). referred u x) (sym rest) ∙ h.same x (omega arith);
+            sym skip ∙ ap (λ (u : List Reference). referred u x) (sym rest) ∙ h.same x (omega arith);
         rises = subst (λ (n : ℕ). Rises (n + 1) (drop (next + 1) cs)) slot rises.1;
       }
 
   -- elsewhere
-  pub passes : (s : bpf_insn) → Copying old out body cs bases i next → slice_get body i ≡ Some s → ((c : Call) → slice_get cs next ≡ Some c → c.slot ≡ i → ⊥) → Copying old (out ++ s ∷ []) body cs bases (i + 1) next
+  pub passes : (s : bpf_insn) → Copying old out body cs bases i next → slice_get body i ≡ Some s → ((c : Reference) → slice_get cs next ≡ Some c → c.slot ≡ i → ⊥) → Copying old (out ++ s ∷ []) body cs bases (i + 1) next
   passes s h at ne =
       let rises = rises_more (drop next cs) i h.rises (λ c more e slot. ne c (head_get cs next c more e) slot) in
       let none : referred cs i ≡ Nothing = sym (h.same i (omega arith)) ∙ nothing_below (drop next cs) (i + 1) i rises (omega arith) in
@@ -92,7 +92,7 @@ module _ (old out body : List bpf_insn) (cs : List Call) (bases : List ℕ) (i n
         rises = rises;
       }
 
-pub to_copying : (old out out' body : List bpf_insn) (cs : List Call) (bases : List ℕ) (i next next' : ℕ) → out' ≡ out → next' ≡ next → Copying old out body cs bases i next → Copying old out' body cs bases i next'
+pub to_copying : (old out out' body : List bpf_insn) (cs : List Reference) (bases : List ℕ) (i next next' : ℕ) → out' ≡ out → next' ≡ next → Copying old out body cs bases i next → Copying old out' body cs bases i next'
 to_copying old out out' body cs bases i next next' e f h =
     subst (λ (u : List bpf_insn). Copying old u body cs bases i next') (sym e) (subst (Copying old out body cs bases i) (sym f) h)
 
@@ -103,11 +103,11 @@ get_right [] ys n i e = let z : n ≡ i = omega arith in ap (slice_get ys) z
 get_right (y ∷ xs) ys zero i e = absurd (omega arith)
 get_right (y ∷ xs) ys (suc n) i e = get_right xs ys n i (omega arith)
 
-pub length-copied_slots : (bases : List ℕ) (cs : List Call) (place i : ℕ) (s : List bpf_insn) → length (copied_slots bases cs place i s) ≡ length s
+pub length-copied_slots : (bases : List ℕ) (cs : List Reference) (place i : ℕ) (s : List bpf_insn) → length (copied_slots bases cs place i s) ≡ length s
 length-copied_slots bases cs place i [] = refl
 length-copied_slots bases cs place i (x ∷ s) = omega (arith, length-copied_slots bases cs (place + 1) (i + 1) s)
 
-copied_get : (bases : List ℕ) (cs : List Call) (place j n m : ℕ) (s : List bpf_insn) (i : ℕ) (x : bpf_insn) → n ≡ place + i → m ≡ j + i → slice_get s i ≡ Some x → slice_get (copied_slots bases cs place j s) i ≡ Some (linked_slot bases n (referred cs m) x)
+copied_get : (bases : List ℕ) (cs : List Reference) (place j n m : ℕ) (s : List bpf_insn) (i : ℕ) (x : bpf_insn) → n ≡ place + i → m ≡ j + i → slice_get s i ≡ Some x → slice_get (copied_slots bases cs place j s) i ≡ Some (linked_slot bases n (referred cs m) x)
 copied_get bases cs place j n m [] i x en em e = cc
 copied_get bases cs place j n m (y ∷ s) zero x en em e =
     let a : n ≡ place = omega arith in
@@ -116,7 +116,7 @@ copied_get bases cs place j n m (y ∷ s) zero x en em e =
     rw (a, b) (ap (λ (u : bpf_insn). Some (linked_slot bases place (referred cs j) u)) c)
 copied_get bases cs place j n m (y ∷ s) (suc i) x en em e = copied_get bases cs (place + 1) (j + 1) n m s i x (omega arith) (omega arith) e
 
-module _ (B : List Body) (C : List (Vec Call Global)) where
+module _ (B : List Body) (C : List (Vec Reference Global)) where
   -- the slots of the copies
   linked_copies_get : (bases ks : List ℕ) (k place b i n : ℕ) (x : bpf_insn) → BeginsAt (functions_by_number B C) ks k b → slice_get (body_at B k) i ≡ Some x → n ≡ place + b + i → slice_get (linked_copies B C bases place ks) (b + i) ≡ Some (linked_slot bases n (referred (calls_at C k) i) x)
   linked_copies_get bases [] k place b i n x h e en = absurd h
@@ -261,7 +261,7 @@ module _ {K E : Type 0} (F : Functions K E) (p : K) (ks : List K) (order : IsOrd
   }
 
 -- the linked program
-pub can_be_linked : {K E : Type 0} (F : Functions K E) (p : K) (ks : List K) (cs : List (CopyOf K)) (rs : List Reference) → IsLinkMap F p ks cs rs → (l : LinkedProgram) × IsProgram F p ks l
+pub can_be_linked : {K E : Type 0} (F : Functions K E) (p : K) (ks : List K) (cs : List (CopyOf K)) (rs : List PlacedReference) → IsLinkMap F p ks cs rs → (l : LinkedProgram) × IsProgram F p ks l
 can_be_linked F p ks cs rs h =
     let w = written F p ks h.layout.order 0 (p ∷ ks) (λ k a. a) in
     let linked = is_written F p ks h.layout.order w in (

@@ -4,7 +4,7 @@ use Rattle.ebpf_linker.specs.Functions.{Names, Functions, body, Among, BeginsAt}
 use Rattle.ebpf_linker.specs.Result.{IsLayout}
 use Rattle.ebpf_linker.specs.declared.link_map.NumberedCopy.{NumberedCopy}
 use Rattle.ebpf_linker.specs.declared.link_map.NumberedLinkMap.{NumberedLinkMap}
-use Rattle.ebpf_linker.specs.declared.link_map.Reference.{Reference}
+use Rattle.ebpf_linker.specs.declared.link_map.PlacedReference.{PlacedReference}
 use Rattle.ebpf_parts.specs.Slots.{is_pseudo_call}
 use Rattle.ebpf_parts.specs.declared.insn.bpf_insn.{bpf_insn}
 
@@ -15,7 +15,7 @@ pub record CopyOf (K : Type 0) : Type 0 where
   pub slots : ℕ
 
 -- places from low on, each above the one before
-abbrev pub PlacesRise : ℕ → List Reference → Type 0
+abbrev pub PlacesRise : ℕ → List PlacedReference → Type 0
 PlacesRise low [] = Unit {0}
 PlacesRise low (r ∷ rs) = (low ≤ r.place) × PlacesRise (r.place + 1) rs
 
@@ -27,7 +27,7 @@ module _ {K E : Type 0} where
 
   -- r is a reference of p, linked with the functions ks: slot i of the copy of k that begins at b is s and refers to
   -- m, whose copy among those of ks begins c slots after the end of p
-  pub record IsReference (F : Functions K E) (p : K) (ks : List K) (r : Reference) : Type 0 where
+  pub record IsReference (F : Functions K E) (p : K) (ks : List K) (r : PlacedReference) : Type 0 where
     pub k : K
     pub b : ℕ
     pub begins : BeginsAt F (p ∷ ks) k b
@@ -43,14 +43,14 @@ module _ {K E : Type 0} where
     pub is_call : r.is_call ≡ is_pseudo_call s
 
   -- these are the references of p, linked with the functions ks, in the order of their places
-  pub record AreReferences (F : Functions K E) (p : K) (ks : List K) (rs : List Reference) : Type 0 where
-    pub sound : (r : Reference) → Among rs r → IsReference F p ks r
-    pub complete : (r : Reference) → IsReference F p ks r → Among rs r
+  pub record AreReferences (F : Functions K E) (p : K) (ks : List K) (rs : List PlacedReference) : Type 0 where
+    pub sound : (r : PlacedReference) → Among rs r → IsReference F p ks r
+    pub complete : (r : PlacedReference) → IsReference F p ks r → Among rs r
     pub rises : PlacesRise 0 rs
 
   -- p and each function ks that its references reach, in the order of their key paths, have these copies and these
   -- references
-  pub record IsLinkMap (F : Functions K E) (p : K) (ks : List K) (cs : List (CopyOf K)) (rs : List Reference) : Type 0 where
+  pub record IsLinkMap (F : Functions K E) (p : K) (ks : List K) (cs : List (CopyOf K)) (rs : List PlacedReference) : Type 0 where
     pub layout : IsLayout F p ks
     pub copies : cs ≡ copies_from F 0 (p ∷ ks)
     pub references : AreReferences F p ks rs
@@ -72,7 +72,7 @@ copied_slot_count (c ∷ cs) = c.slots + copied_slot_count cs
 
 -- A reference of a linked program with these slots and copies: it stands in one of the copies, on a slot that refers
 -- to a function; the slot names the distance from the slot after it to the base of a copy of that function.
-pub record Lands {K E : Type 0} (F : Functions K E) (copies : List (CopyOf K)) (slots : List bpf_insn) (r : Reference) : Type 0 where
+pub record Lands {K E : Type 0} (F : Functions K E) (copies : List (CopyOf K)) (slots : List bpf_insn) (r : PlacedReference) : Type 0 where
   pub from : CopyOf K
   pub listed : Among copies from
   pub i : ℕ

@@ -6,7 +6,7 @@ use Rattle.ebpf_linker.specs.declared.reference.Fault.{Fault}
 use Rattle.ebpf_linker.specs.declared.reference.Fault.TheVariants.{FunctionInfoMismatch, ProgramTooLong, InvalidLineInfo}
 use Rattle.ebpf_linker.specs.declared.reference.Target.{Target}
 use Rattle.ebpf_linker.specs.declared.reference.Target.TheVariants.{Function, Nowhere}
-use Rattle.ebpf_linker.specs.declared.reference.Call.{Call}
+use Rattle.ebpf_linker.specs.declared.reference.Reference.{Reference}
 use Rattle.ebpf_linker.specs.Functions.{SlotReference, Nothing, Faulty, Names, FunctionContent, Functions}
 
 abbrev pub of_target : Target → SlotReference ℕ Fault
@@ -14,16 +14,16 @@ of_target (Function k) = Names k
 of_target (Nowhere e) = Faulty e
 
 -- what a slot refers to, by the references of its function
-abbrev pub referred : List Call → ℕ → SlotReference ℕ Fault
+abbrev pub referred : List Reference → ℕ → SlotReference ℕ Fault
 referred [] x = Nothing
 referred (c ∷ cs) x = if c.slot == x then of_target c.target else referred cs x
 
-abbrev pub calls_or_empty : Option (Vec Call Global) → List Call
+abbrev pub calls_or_empty : Option (Vec Reference Global) → List Reference
 calls_or_empty None = []
 calls_or_empty (Some v) = v.items
 
 -- the references of function k
-abbrev pub calls_at : List (Vec Call Global) → ℕ → List Call
+abbrev pub calls_at : List (Vec Reference Global) → ℕ → List Reference
 calls_at C k = calls_or_empty (slice_get C k)
 
 abbrev pub body_content : Body → FunctionContent
@@ -34,7 +34,7 @@ option_content None = None
 option_content (Some b) = Some (body_content b)
 
 -- functions by their numbers, with these bodies and these references
-abbrev pub functions_by_number : List Body → List (Vec Call Global) → Functions ℕ Fault
+abbrev pub functions_by_number : List Body → List (Vec Reference Global) → Functions ℕ Fault
 functions_by_number B C = record {
   content = λ k. option_content (slice_get B k);
   reference = λ k x. referred (calls_at C k) x;
@@ -44,7 +44,7 @@ functions_by_number B C = record {
 }
 
 -- slots from low on, each above the one before
-abbrev pub Rises : ℕ → List Call → Type 0
+abbrev pub Rises : ℕ → List Reference → Type 0
 Rises low [] = Unit {0}
 Rises low (c ∷ cs) = (low ≤ c.slot) × Rises (c.slot + 1) cs
 
@@ -54,6 +54,6 @@ IsWithin n (Function k) = k < n
 IsWithin n (Nowhere e) = Unit {0}
 
 -- the references of each function rise, and lead to one of n functions
-pub record Sound (n : ℕ) (C : List (Vec Call Global)) : Type 0 where
+pub record Sound (n : ℕ) (C : List (Vec Reference Global)) : Type 0 where
   pub rises : (k : ℕ) → Rises 0 (calls_at C k)
   pub within : (k : ℕ) → All (λ c. IsWithin n c.target) (calls_at C k)

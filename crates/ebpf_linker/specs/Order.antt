@@ -1,4 +1,4 @@
--- The order of the linked functions.
+-- The order of the linked functions: the depth-first pre-order by slot, also called the order of key paths.
 use Rattle.std.specs.Prelude.{◌≡◌, ◌≢◌, ℕ, ◌<◌, ◌⊎◌, List, [], ◌∷◌, Some, slice_get}
 use Rattle.ebpf_linker.specs.Functions.{Faulty, References, Among, Distinct, Walk, last_key_or}
 

@@ -3,7 +3,7 @@ use Rattle.std.specs.Prelude.{ℕ, Bool, true, nat_lt, ◌&&◌, List, [], ◌�
 use Rattle.ebpf_linker.specs.declared.body.Body.{Body}
 use Rattle.ebpf_linker.specs.declared.reference.Target.{Target}
 use Rattle.ebpf_linker.specs.declared.reference.Target.TheVariants.{Function, Nowhere}
-use Rattle.ebpf_linker.specs.declared.reference.Call.{Call}
+use Rattle.ebpf_linker.specs.declared.reference.Reference.{Reference}
 use Rattle.ebpf_linker.specs.Functions.{FunctionContent, or_empty}
 use Rattle.ebpf_linker.specs.LinkMap.{CopyOf}
 use Rattle.ebpf_linker.specs.Numbered.{option_content}
@@ -21,7 +21,7 @@ is_above None slot = true
 is_above (Some before) slot = nat_lt before slot
 
 -- whether the slots of references are above the one before, and each leads to one of n functions
-abbrev pub is_list_sound : ℕ → Option ℕ → List Call → Bool
+abbrev pub is_list_sound : ℕ → Option ℕ → List Reference → Bool
 is_list_sound n before [] = true
 is_list_sound n before (c ∷ cs) = (is_above before c.slot && is_within n c.target) && is_list_sound n (Some c.slot) cs
 

@@ -1,4 +1,4 @@
-//! Where the copies of functions begin.
+//! The bases of copies: the slots at which the copies of functions begin.
 
 ghost use Rattle.std.specs.Prelude.{◌≡◌, ℕ, ◌+◌, ◌<◌, ◌^◌, length, IfOk, All, List};
 ghost use Rattle.ebpf_linker.specs.Copies.{Fit, with_bases};
@@ -7,7 +7,7 @@ use crate::body::Body;
 use crate::tables::Tables;
 use std::alloc::{AllocError, Global};
 
-/// The places at which copies of these functions begin, by number, where the first begins at `first`; those of other
+/// Gives the bases of copies of these functions, by number, if the first copy begins at `first`. The bases of other
 /// functions can be any.
 #[tactic(auto, using(crate::proofs::Walks::room_next, crate::proofs::Walks::body_read))]
 pub fn copy_bases(

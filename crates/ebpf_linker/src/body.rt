@@ -1,31 +1,31 @@
-//! What linking reads of a function, and what it makes of a program.
+//! A function before linking, and a program after it.
 
 use ebpf_base::Items;
 use ebpf_ext::{bpf_func_info, bpf_line_info};
 use ebpf_parts::insn::bpf_insn;
 
-/// A function as linking needs it.
+/// The part of a function that linking reads.
 #[derive(Clone, Copy)]
 pub struct Body<'a> {
-    /// Its slots.
+    /// The slots of the function.
     pub slots: &'a [bpf_insn],
-    /// The func info records that stand in it, by slot.
+    /// The func info entries in the function, by slot.
     pub func_info: &'a [bpf_func_info],
-    /// The records on its lines, by slot.
+    /// The line info entries of the function, by slot.
     pub line_info: &'a [bpf_line_info],
 }
 
 /// A program with a copy of each function that it reaches.
 #[derive(Debug, Drop)]
 pub struct LinkedProgram {
-    /// Its slots.
+    /// The slots of the program.
     pub slots: Items<bpf_insn>,
-    /// The func info records, by slot.
+    /// The func info entries, by slot.
     pub func_info: Items<bpf_func_info>,
-    /// The line info records, by slot.
+    /// The line info entries, by slot.
     pub line_info: Items<bpf_line_info>,
-    /// How many func info records there are, the low 32 bits, where a function was copied.
+    /// The number of func info entries, its low 32 bits, if a function was copied.
     pub func_count: Option<u32>,
-    /// How many line info records there are, the low 32 bits, where a function with such records was copied.
+    /// The number of line info entries, its low 32 bits, if a function with such entries was copied.
     pub line_count: Option<u32>,
 }

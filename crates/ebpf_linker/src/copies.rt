@@ -6,7 +6,7 @@ ghost use Rattle.ebpf_linker.specs.Copies.{linked_slot, copied_slots, linked_cop
 ghost use Rattle.ebpf_linker.specs.Numbered.{IsWithin, Rises, Sound, of_target, calls_at};
 
 use crate::body::Body;
-use crate::reference::{Call, Target};
+use crate::reference::{Reference, Target};
 use crate::slot::{distance, relinked};
 use ebpf_parts::insn::bpf_insn;
 use std::alloc::{AllocError, Global};
@@ -28,7 +28,7 @@ fn linked_slot(slot: bpf_insn, place: usize, target: Target, bases: &[usize]) ->
 fn append(
     out: &mut Vec<bpf_insn>,
     body: &[bpf_insn],
-    calls: &[Call],
+    calls: &[Reference],
     bases: &[usize],
 ) -> Result<(), AllocError>
     requires rises { Rises 0 calls.now }
@@ -57,7 +57,7 @@ pub fn write_copies(
     alloc: Global,
     size: usize,
     bodies: &[Body<'_>],
-    calls: &[Vec<Call>],
+    calls: &[Vec<Reference>],
     order: &[usize],
     bases: &[usize],
 ) -> Result<Vec<bpf_insn>, AllocError>

@@ -5,14 +5,14 @@ ghost use Rattle.ebpf_linker.specs.Numbered.{Sound};
 ghost use Rattle.ebpf_linker.specs.Copies.{IsLayoutAnswer};
 
 use crate::body::Body;
-use crate::reference::{Call, Fault};
+use crate::reference::{Fault, Reference};
 use crate::search::search;
 use crate::tables::Tables;
 use std::alloc::{AllocError, Global};
 
 /// A program and the functions that it is linked with, by their numbers.
 #[derive(Debug, Drop)]
-pub struct Layout {
+pub struct ProgramLayout {
     /// The program.
     pub start: usize,
     /// The program, and then each function that its references reach, in the order of their copies.
@@ -31,16 +31,16 @@ pub fn lay_out(
     alloc: Global,
     tables: &Tables,
     bodies: &[Body<'_>],
-    calls: &[Vec<Call>],
+    calls: &[Vec<Reference>],
     start: usize,
-) -> Result<Result<Layout, Fault>, AllocError>
+) -> Result<Result<ProgramLayout, Fault>, AllocError>
     requires start { start < length bodies.now }
     requires calls { length calls.now ≡ length bodies.now }
     requires sound { Sound (length bodies.now) calls.now }
     ensures { IfOk result (λ answer. IsLayoutAnswer bodies.now calls.now start answer) }
 {
     match search(alloc, tables, bodies, calls, start)? {
-        Ok(order) => Ok(Ok(Layout { start, order })),
+        Ok(order) => Ok(Ok(ProgramLayout { start, order })),
         Err(fault) => Ok(Err(fault)),
     }
 }

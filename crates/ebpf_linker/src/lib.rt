@@ -15,8 +15,8 @@ mod soundness;
 mod tables;
 
 pub use body::{Body, LinkedProgram};
-pub use layout::{Layout, lay_out};
+pub use layout::{ProgramLayout, lay_out};
 pub use program::link;
-pub use reference::{Call, Fault, Target};
+pub use reference::{Fault, Reference, Target};
 pub use soundness::is_sound;
 pub use tables::Tables;

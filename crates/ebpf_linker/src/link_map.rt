@@ -7,8 +7,8 @@ ghost use Rattle.ebpf_linker.specs.Numbered.{IsWithin, Sound, functions_by_numbe
 
 use crate::bases::copy_bases;
 use crate::body::Body;
-use crate::layout::Layout;
-use crate::reference::{Call, Target};
+use crate::layout::ProgramLayout;
+use crate::reference::{Reference, Target};
 use crate::tables::Tables;
 use ebpf_base::Items;
 use ebpf_parts::insn::bpf_insn;
@@ -27,7 +27,7 @@ pub struct NumberedCopy {
 
 /// A reference in a linked program.
 #[derive(Clone, Copy, Debug, PartialEq, Eq)]
-pub struct Reference {
+pub struct PlacedReference {
     /// The place of the slot that refers, in slots.
     pub place: usize,
     /// The place at which the copy that it refers to begins, in slots.
@@ -42,7 +42,7 @@ pub struct NumberedLinkMap {
     /// The program and the copies of functions, in order.
     pub copies: Items<NumberedCopy>,
     /// The references of all copies, in the order of their places.
-    pub references: Items<Reference>,
+    pub references: Items<PlacedReference>,
 }
 
 // The program and the copies of these functions, one after the other.
@@ -78,7 +78,12 @@ fn copies_of(
 }
 
 // The reference of a slot of a function whose copy begins at a base; none where it leads nowhere.
-fn reference_at(body: &[bpf_insn], call: Call, bases: &[usize], base: usize) -> Option<Reference>
+fn reference_at(
+    body: &[bpf_insn],
+    call: Reference,
+    bases: &[usize],
+    base: usize,
+) -> Option<PlacedReference>
     requires within { IsWithin (length bases.now) call.target }
     requires room { base ≤ 2147483647 }
     ensures { result ≡ linked_reference bases.now base body.now call }
@@ -86,7 +91,7 @@ fn reference_at(body: &[bpf_insn], call: Call, bases: &[usize], base: usize) -> 
     let slot = body.get(call.slot)?;
     match call.target {
         Target::Nowhere(_) => None,
-        Target::Function(callee) => Some(Reference {
+        Target::Function(callee) => Some(PlacedReference {
             place: base + call.slot,
             base: bases[callee],
             is_call: slot.is_pseudo_call(),
@@ -97,9 +102,9 @@ fn reference_at(body: &[bpf_insn], call: Call, bases: &[usize], base: usize) -> 
 // Adds the references of a function whose copy begins at a base.
 #[tactic(auto, using(crate::proofs::Walks::reference_here, crate::proofs::Walks::no_linked_reference, ebpf_base::proofs::Lists::rest_none))]
 fn add_references(
-    references: &mut Vec<Reference>,
+    references: &mut Vec<PlacedReference>,
     body: &[bpf_insn],
-    calls: &[Call],
+    calls: &[Reference],
     bases: &[usize],
     base: usize,
 ) -> Result<(), AllocError>
@@ -121,11 +126,11 @@ fn add_references(
 fn references_of(
     alloc: Global,
     bodies: &[Body<'_>],
-    calls: &[Vec<Call>],
+    calls: &[Vec<Reference>],
     start: usize,
     reached: &[usize],
     bases: &[usize],
-) -> Result<Vec<Reference>, AllocError>
+) -> Result<Vec<PlacedReference>, AllocError>
     requires calls { length calls.now ≡ length bodies.now }
     requires sound { Sound (length bodies.now) calls.now }
     requires bases { length bases.now ≡ length bodies.now }
@@ -156,7 +161,7 @@ fn link_map_of(
     alloc: Global,
     tables: &Tables,
     bodies: &[Body<'_>],
-    calls: &[Vec<Call>],
+    calls: &[Vec<Reference>],
     start: usize,
     reached: &[usize],
 ) -> Result<NumberedLinkMap, AllocError>
@@ -181,8 +186,8 @@ pub fn link_map(
     alloc: Global,
     tables: &Tables,
     bodies: &[Body<'_>],
-    calls: &[Vec<Call>],
-    layout: &Layout,
+    calls: &[Vec<Reference>],
+    layout: &ProgramLayout,
 ) -> Result<NumberedLinkMap, AllocError>
     requires calls { length calls.now ≡ length bodies.now }
     requires sound { Sound (length bodies.now) calls.now }

@@ -8,9 +8,9 @@ ghost use Rattle.ebpf_linker.specs.Result.{IsProgram};
 use crate::bases::copy_bases;
 use crate::body::{Body, LinkedProgram};
 use crate::copies::write_copies;
-use crate::layout::Layout;
+use crate::layout::ProgramLayout;
 use crate::records::{count_if, func_records, has_lines, line_records};
-use crate::reference::Call;
+use crate::reference::Reference;
 use crate::tables::Tables;
 use ebpf_base::Items;
 use std::alloc::{AllocError, Global};
@@ -32,7 +32,7 @@ fn assemble(
     alloc: Global,
     tables: &Tables,
     bodies: &[Body<'_>],
-    calls: &[Vec<Call>],
+    calls: &[Vec<Reference>],
     start: usize,
     order: &[usize],
     copies: &[usize],
@@ -67,8 +67,8 @@ pub fn link(
     alloc: Global,
     tables: &Tables,
     bodies: &[Body<'_>],
-    calls: &[Vec<Call>],
-    layout: &Layout,
+    calls: &[Vec<Reference>],
+    layout: &ProgramLayout,
 ) -> Result<LinkedProgram, AllocError>
     requires calls { length calls.now ≡ length bodies.now }
     requires sound { Sound (length bodies.now) calls.now }

@@ -1,4 +1,4 @@
-//! The records of a linked program.
+//! The func info and line info of a linked program.
 
 ghost use Rattle.std.specs.Prelude.{◌≡◌, ◌+◌, ◌<◌, ◌++◌, [], length, map, false, IfOk, OnOk, All};
 ghost use Rattle.ebpf_linker.specs.Faults.{first_line};
@@ -11,7 +11,7 @@ use crate::body::Body;
 use ebpf_ext::{bpf_func_info, bpf_line_info};
 use std::alloc::{AllocError, Global};
 
-// A record on a line, moved from where its function's lines begin to a base.
+/// A line info entry, moved from the first line of its function to a base.
 #[tactic(auto, using(crate::proofs::Walks::not_stray))]
 fn moved_line(line: bpf_line_info, first: u32, base: u32) -> bpf_line_info
     requires { is_stray first base line ≡ false }
@@ -23,7 +23,7 @@ fn moved_line(line: bpf_line_info, first: u32, base: u32) -> bpf_line_info
     }
 }
 
-// Appends the func info records of a copy that begins at a base.
+/// Appends the func info entries of a copy that begins at a base.
 fn append_func_info(
     out: &mut Vec<bpf_func_info>,
     records: &[bpf_func_info],
@@ -40,7 +40,7 @@ fn append_func_info(
     Ok(())
 }
 
-// Appends the line info records of a copy that begins at a base.
+/// Appends the line info entries of a copy that begins at a base.
 fn append_line_info(
     out: &mut Vec<bpf_line_info>,
     lines: &[bpf_line_info],
@@ -59,7 +59,7 @@ fn append_line_info(
     Ok(())
 }
 
-/// The func info records of a linked program: its own, then those of each copy.
+/// The func info entries of a linked program: the entries of the program, then of each copy.
 #[tactic(auto, using(crate::proofs::Walks::room_more))]
 pub fn func_records(
     alloc: Global,
@@ -82,7 +82,7 @@ pub fn func_records(
     Ok(out)
 }
 
-/// The line info records of a linked program: its own, then those of each copy.
+/// The line info entries of a linked program: the entries of the program, then of each copy.
 #[tactic(auto, using(crate::proofs::Walks::room_more, crate::proofs::Walks::sound_more))]
 pub fn line_records(
     alloc: Global,
@@ -105,7 +105,7 @@ pub fn line_records(
     Ok(out)
 }
 
-/// Whether one of these functions has line info records.
+/// Whether one of these functions has line info entries.
 #[tactic(auto, using(crate::proofs::Walks::lines_here, crate::proofs::Walks::some_if))]
 pub fn has_lines(bodies: &[Body<'_>], copies: &[usize]) -> bool
     requires { All (λ k. k < length bodies.now) copies.now }
@@ -119,7 +119,7 @@ pub fn has_lines(bodies: &[Body<'_>], copies: &[usize]) -> bool
     false
 }
 
-/// How many records there are, the low 32 bits, where the count changes.
+/// The number of entries, its low 32 bits, if the count changes.
 pub fn count_if<T>(changed: bool, records: &[T]) -> Option<u32>
     ensures { result ≡ count_if changed records.now }
 {

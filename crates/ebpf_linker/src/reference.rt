@@ -1,21 +1,21 @@
 //! References of functions that are numbered.
 
-/// Why a program can't be linked, by the numbers of functions.
+/// The cause why a program can't be linked, by the numbers of functions.
 #[derive(Clone, Copy, Debug, PartialEq, Eq)]
 pub enum Fault {
-    /// A reference's symbol names no function.
+    /// The symbol of a reference names no function.
     UnsupportedTextSymbol {
         /// The symbol's index.
         index: usize,
     },
-    /// No function begins where a reference leads.
+    /// No function begins at the address to which a reference leads.
     UnknownFunction {
-        /// The address where it leads.
+        /// The address to which the reference leads.
         address: u64,
         /// The function with the reference.
         caller: usize,
     },
-    /// One of a function and the program that reaches it has func info records, the other has none.
+    /// One of a function and the program that reaches it has func info entries, the other has none.
     FunctionInfoMismatch {
         /// The function that is reached.
         callee: usize,
@@ -25,27 +25,27 @@ pub enum Fault {
         /// The function that was to be copied.
         callee: usize,
     },
-    /// A line record stands before the function's first one, or past 32 bits once it is moved.
+    /// A line info entry is before the function's first one, or past 32 bits once it is moved.
     InvalidLineInfo {
         /// The function that was to be copied.
         callee: usize,
     },
 }
 
-/// Where a reference leads.
+/// The target of a reference.
 #[derive(Clone, Copy, Debug, PartialEq, Eq)]
 pub enum Target {
-    /// To a function, by its number.
+    /// A function, by its number.
     Function(usize),
-    /// To none.
+    /// No function, for this cause.
     Nowhere(Fault),
 }
 
-/// A reference of a function.
+/// A slot of a function that refers to a function: a call, or the load of an address.
 #[derive(Clone, Copy, Debug, PartialEq, Eq)]
-pub struct Call {
+pub struct Reference {
     /// The number of the slot that refers.
     pub slot: usize,
-    /// Where it leads.
+    /// The target of the reference.
     pub target: Target,
 }

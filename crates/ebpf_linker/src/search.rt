@@ -9,14 +9,14 @@ ghost use Rattle.ebpf_linker.specs.Numbered.{Sound, IsWithin, body_content, func
 ghost use Rattle.ebpf_linker.specs.declared.reference.Fault.TheVariants.{ProgramTooLong, InvalidLineInfo};
 
 use crate::body::Body;
-use crate::reference::{Call, Fault, Target};
+use crate::reference::{Fault, Reference, Target};
 use crate::tables::{Tables, unmark};
 use ebpf_ext::bpf_line_info;
 use std::alloc::{AllocError, Global};
 
 /// A function whose references are being followed: its place in the order, its number, and the next reference.
 #[derive(Clone, Copy)]
-pub struct Open {
+pub struct Frame {
     pub copy: usize,
     pub function: usize,
     pub next: usize,
@@ -85,7 +85,7 @@ struct Progress {
     /// The flags of found functions, by their numbers.
     is_found: Vec<bool>,
     /// The work list: the functions whose references are being followed.
-    work_list: Vec<Open>,
+    work_list: Vec<Frame>,
     /// The slots of the program and of the copies.
     used: usize,
 }
@@ -95,7 +95,7 @@ impl Progress {
     fn enter(
         &mut self,
         bodies: &[Body<'_>],
-        top: Open,
+        top: Frame,
         callee: usize,
     ) -> Result<Option<Fault>, AllocError>
         requires callee { callee < length bodies.now }
@@ -111,7 +111,7 @@ impl Progress {
         self.is_found[callee] = true;
         self.order.push(callee)?;
         self.work_list.push(top)?;
-        self.work_list.push(Open {
+        self.work_list.push(Frame {
             copy,
             function: callee,
             next: 0,
@@ -123,9 +123,9 @@ impl Progress {
     fn advance(
         &mut self,
         bodies: &[Body<'_>],
-        calls: &[Vec<Call>],
+        calls: &[Vec<Reference>],
         start: usize,
-        top: Open,
+        top: Frame,
     ) -> Result<Option<Fault>, AllocError>
         requires start { start < length bodies.now }
         requires calls { length calls.now ≡ length bodies.now }
@@ -142,7 +142,7 @@ impl Progress {
             Target::Nowhere(fault) => Ok(Some(fault)),
             Target::Function(callee) => {
                 if self.is_found[callee] {
-                    self.work_list.push(Open {
+                    self.work_list.push(Frame {
                         next: top.next + 1,
                         ..top
                     })?;
@@ -176,7 +176,7 @@ pub fn search(
     alloc: Global,
     tables: &Tables,
     bodies: &[Body<'_>],
-    calls: &[Vec<Call>],
+    calls: &[Vec<Reference>],
     start: usize,
 ) -> Result<Result<Vec<usize>, Fault>, AllocError>
     requires start { start < length bodies.now }
@@ -188,7 +188,7 @@ pub fn search(
     order.push(start)?;
     let is_found = tables.take_flags(alloc, bodies.len())?;
     let mut work_list = Vec::new(alloc);
-    work_list.push(Open {
+    work_list.push(Frame {
         copy: 0,
         function: start,
         next: 0,

@@ -6,8 +6,8 @@ ghost use Rattle.ebpf_linker.specs.Functions.{relinked};
 use ebpf_parts::insn::bpf_insn;
 use ebpf_parts::insn::opcodes::BPF_PSEUDO_FUNC;
 
-/// The slot with the distance to the function that it refers to. Where it is no such call its source register
-/// becomes `BPF_PSEUDO_FUNC`, which marks the address of a function.
+/// The slot with the distance to the function that it refers to. If the slot is no such call, its source register becomes
+/// `BPF_PSEUDO_FUNC`, which marks the address of a function.
 pub fn relinked(slot: bpf_insn, distance: i32) -> bpf_insn
     ensures { result ≡ relinked slot distance }
 {
@@ -23,7 +23,7 @@ pub fn relinked(slot: bpf_insn, distance: i32) -> bpf_insn
     }
 }
 
-/// How far a place is from the slot after another, in slots.
+/// The distance to a slot from the slot after `place`, in slots.
 pub fn distance(place: usize, to: usize) -> i32
     requires place { place < 2 ^ 31 }
     requires to { to < 2 ^ 31 }

@@ -1,13 +1,13 @@
-//! Whether references may be linked.
+//! The test that references can be linked.
 
 ghost use Rattle.std.specs.Prelude.{◌≡◌, ◌↔◌, IsTrue, None};
 ghost use Rattle.std.specs.List.{list_all};
 ghost use Rattle.ebpf_linker.specs.Numbered.{Sound};
 ghost use Rattle.ebpf_linker.specs.PrivateContracts.{is_within, is_above, is_list_sound};
 
-use crate::reference::{Call, Target};
+use crate::reference::{Reference, Target};
 
-// Whether a reference leads to one of so many functions, or nowhere.
+/// Whether a target is one of `count` functions, or none.
 fn is_within(count: usize, target: Target) -> bool
     ensures { result ≡ is_within count target }
 {
@@ -17,7 +17,7 @@ fn is_within(count: usize, target: Target) -> bool
     }
 }
 
-// Whether a slot is above the one before, if there is one.
+/// Whether a slot is above the slot before it, if there is one.
 fn is_above(before: Option<usize>, slot: usize) -> bool
     ensures { result ≡ is_above before slot }
 {
@@ -27,8 +27,8 @@ fn is_above(before: Option<usize>, slot: usize) -> bool
     }
 }
 
-// Whether the slots of references rise, and each leads to one of so many functions or nowhere.
-fn is_list_sound(calls: &[Call], count: usize) -> bool
+/// Whether the slots of references rise, and each leads to one of `count` functions or nowhere.
+fn is_list_sound(calls: &[Reference], count: usize) -> bool
     ensures { result ≡ is_list_sound count None calls.now }
 {
     let mut before = None;
@@ -41,8 +41,8 @@ fn is_list_sound(calls: &[Call], count: usize) -> bool
     true
 }
 
-// Whether this holds of each list.
-fn are_lists_sound(calls: &[Vec<Call>], count: usize) -> bool
+/// Whether the references of each function rise, and lead to one of `count` functions or nowhere.
+fn are_lists_sound(calls: &[Vec<Reference>], count: usize) -> bool
     ensures { result ≡ list_all (λ v. is_list_sound count None v.items) calls.now }
 {
     for list in calls {
@@ -53,10 +53,10 @@ fn are_lists_sound(calls: &[Vec<Call>], count: usize) -> bool
     true
 }
 
-/// Whether the references of functions may be linked: the slots of each list rise, and each leads to one of `count`
+/// Whether the references of functions can be linked: the slots of each list rise, and each leads to one of `count`
 /// functions or nowhere.
 #[tactic(auto, using(crate::proofs::Soundly::sound_tests))]
-pub fn is_sound(calls: &[Vec<Call>], count: usize) -> bool
+pub fn is_sound(calls: &[Vec<Reference>], count: usize) -> bool
     ensures { IsTrue result ↔ Sound count calls.now }
 {
     are_lists_sound(calls, count)

@@ -73,7 +73,7 @@ impl Tables {
     }
 }
 
-/// Takes back the flags of these functions, where no other is set.
+/// Clears the flags of these functions; no other flag is set.
 #[tactic(auto, using(crate::proofs::Unmarked::unmarked_next))]
 pub fn unmark(flags: &mut Vec<bool>, functions: &[usize])
     requires within { All (λ k. k < length flags.old.items) functions.now }

@@ -3,4 +3,6 @@
 pub use crate::link_map::ProgramMaps;
 pub use crate::relocate_calls::{programs_in_order, take_places};
 pub use ebpf_model::{EbpfRelocationError, RelocationError};
-pub use ebpf_reloc::{CodeCopy, LinkMap, LinkedFunction, NumberedFunctions, ProgramKey, Reference};
+pub use ebpf_reloc::{
+    CodeCopy, LinkMap, LinkedFunction, NumberedFunctions, PlacedReference, ProgramKey,
+};

@@ -22,8 +22,8 @@ use Rattle.ebpf_passes.specs.declared.edit.Rule.TheVariants.{Maps, Externs}
 use Rattle.ebpf_passes.specs.declared.edit.SlotFault.{SlotFault}
 use Rattle.ebpf_passes.specs.declared.edit.SlotFault.TheVariants.{UnknownSymbol, InvalidOffset, ExternNotFound, UnresolvableSymbol}
 use Rattle.ebpf_passes.specs.declared.externs.ExternRule.{ExternRule}
-use Rattle.ebpf_passes.specs.declared.externs.Load.{Load}
-use Rattle.ebpf_passes.specs.declared.externs.Load.TheVariants.{Id, Address}
+use Rattle.ebpf_passes.specs.declared.externs.ExternLoad.{ExternLoad}
+use Rattle.ebpf_passes.specs.declared.externs.ExternLoad.TheVariants.{Id, Address}
 use Rattle.ebpf_passes.specs.declared.maps.MapRule.{MapRule}
 
 -- ---- the kernel's ids and addresses in slots
@@ -51,25 +51,25 @@ call_edit desc symbol slot =
     if desc.is_resolved then resolved_call desc.kernel_btf_id slot
     else (if desc.is_weak then Ok (Slot (absent_call slot symbol)) else Err UnresolvableSymbol)
 
-abbrev pub address_without_id : Option ℕ → Bool → Option Load
+abbrev pub address_without_id : Option ℕ → Bool → Option ExternLoad
 address_without_id (Some address) weak = Some (Address address)
 address_without_id None weak = if weak then Some (Address 0) else None
 
-abbrev pub load_by : Option ℕ → Option ℕ → Bool → Option Load
+abbrev pub load_by : Option ℕ → Option ℕ → Bool → Option ExternLoad
 load_by (Some id) address weak = Some (Id id)
 load_by None address weak = address_without_id address weak
 
 -- what a load takes from an extern: its id, else its address, else 0 where it is weak
-abbrev pub load_of : ExternDesc → Option Load
+abbrev pub load_of : ExternDesc → Option ExternLoad
 load_of desc = load_by desc.kernel_btf_id desc.ksym_addr desc.is_weak
 
 -- An id has source 3 (the kernel's BPF_PSEUDO_BTF_ID) and 0 in the slot after it; an address has source 0, its low
 -- half in the slot and its high half in the one after it.
-abbrev pub edit_of_load : Load → bpf_insn → Edit
+abbrev pub edit_of_load : ExternLoad → bpf_insn → Edit
 edit_of_load (Id id) slot = Pair (with_source slot pseudo_btf_id (cast_signed w32 id)) (pos 0)
 edit_of_load (Address address) slot = Pair (with_source slot 0 (cast_signed w32 (address % 2 ^ 32))) (cast_signed w32 (address / 2 ^ 32))
 
-abbrev pub load_edit : Option Load → bpf_insn → Bool → Result Edit SlotFault
+abbrev pub load_edit : Option ExternLoad → bpf_insn → Bool → Result Edit SlotFault
 load_edit None slot has_next = Err UnresolvableSymbol
 load_edit (Some load) slot has_next = if has_next then Ok (edit_of_load load slot) else Err InvalidOffset
 

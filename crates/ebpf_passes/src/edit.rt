@@ -23,15 +23,6 @@ pub enum Edit {
     Pair(bpf_insn, i32),
 }
 
-impl Edit {
-    /// Whether it leaves the slots as they are.
-    pub fn stays(self) -> bool
-        ensures { OnTrue result (self ≡ Stay) }
-    {
-        matches!(self, Edit::Stay)
-    }
-}
-
 /// Why a relocation can't be applied.
 #[derive(Clone, Copy)]
 pub enum SlotFault {
@@ -67,6 +58,15 @@ pub enum Rule<'a> {
     Maps(MapRule<'a>),
     /// Ids and addresses of the kernel are written.
     Externs(ExternRule<'a>),
+}
+
+impl Edit {
+    /// Whether it leaves the slots as they are.
+    pub fn stays(self) -> bool
+        ensures { OnTrue result (self ≡ Stay) }
+    {
+        matches!(self, Edit::Stay)
+    }
 }
 
 impl<'a> Rule<'a> {

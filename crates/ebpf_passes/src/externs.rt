@@ -30,7 +30,7 @@ pub struct ExternRule<'a> {
 
 /// What a load takes from an extern.
 #[derive(Clone, Copy)]
-pub enum Load {
+pub enum ExternLoad {
     /// The id of the kernel's type of it.
     Id(u32),
     /// Its address in the kernel.
@@ -83,26 +83,26 @@ fn call_edit(desc: &ExternDesc, symbol: usize, slot: bpf_insn) -> Result<Edit, S
 }
 
 /// What a load takes from an extern.
-fn load_of(desc: &ExternDesc) -> Option<Load>
+fn load_of(desc: &ExternDesc) -> Option<ExternLoad>
     ensures { result ≡ load_of desc.now }
 {
     if let Some(id) = desc.kernel_btf_id {
-        return Some(Load::Id(id));
+        return Some(ExternLoad::Id(id));
     }
     match desc.ksym_addr {
-        Some(address) => Some(Load::Address(address)),
-        None if desc.is_weak => Some(Load::Address(0)),
+        Some(address) => Some(ExternLoad::Address(address)),
+        None if desc.is_weak => Some(ExternLoad::Address(0)),
         None => None,
     }
 }
 
 /// What a load of an id or an address becomes.
-fn edit_of_load(load: Load, slot: bpf_insn) -> Edit
+fn edit_of_load(load: ExternLoad, slot: bpf_insn) -> Edit
     ensures { result ≡ edit_of_load load slot }
 {
     match load {
-        Load::Id(id) => Edit::Pair(with_source(slot, BPF_PSEUDO_BTF_ID, id.cast_signed()), 0),
-        Load::Address(address) => {
+        ExternLoad::Id(id) => Edit::Pair(with_source(slot, BPF_PSEUDO_BTF_ID, id.cast_signed()), 0),
+        ExternLoad::Address(address) => {
             let low = ((address % BITS) as u32).cast_signed();
             let high = ((address / BITS) as u32).cast_signed();
             Edit::Pair(with_source(slot, 0, low), high)

@@ -39,6 +39,17 @@ pub struct MapTables {
     pub by_section: ByIndex<MapTarget>,
 }
 
+/// What is read to write maps' descriptors.
+#[derive(Clone, Copy)]
+pub struct MapRule<'a> {
+    /// The symbols by their index.
+    pub symbols: &'a ByIndex<Symbol>,
+    /// The maps.
+    pub tables: &'a MapTables,
+    /// The indexes of the sections that hold functions.
+    pub text_sections: &'a HashSet<usize>,
+}
+
 /// What a slot takes from a map with this descriptor.
 fn map_target(descriptor: i32, map: &Map) -> MapTarget
     ensures { result ≡ record { descriptor = descriptor; has_data = has_data (bytes_of map.now) } }
@@ -80,17 +91,6 @@ impl MapTables {
         }
         Ok(tables)
     }
-}
-
-/// What is read to write maps' descriptors.
-#[derive(Clone, Copy)]
-pub struct MapRule<'a> {
-    /// The symbols by their index.
-    pub symbols: &'a ByIndex<Symbol>,
-    /// The maps.
-    pub tables: &'a MapTables,
-    /// The indexes of the sections that hold functions.
-    pub text_sections: &'a HashSet<usize>,
 }
 
 /// The slot with another source register and immediate.

@@ -125,7 +125,7 @@ pub fn negated_64(x: u64) -> u64
     0u64.wrapping_sub(x)
 }
 
-// The operations with offset 0, but for NEG, MOV and END.
+/// The operations with offset 0, but for NEG, MOV and END.
 fn plain_32(operation: u8, x: u32, y: u32) -> Option<u32>
     ensures { result ≡ operation_at_offset_0 w32 operation x y }
 {
@@ -145,7 +145,7 @@ fn plain_32(operation: u8, x: u32, y: u32) -> Option<u32>
     }
 }
 
-// The operations with offset 0, but for NEG, MOV and END.
+/// The operations with offset 0, but for NEG, MOV and END.
 fn plain_64(operation: u8, x: u64, y: u64) -> Option<u64>
     ensures { result ≡ operation_at_offset_0 w64 operation x y }
 {
@@ -165,7 +165,7 @@ fn plain_64(operation: u8, x: u64, y: u64) -> Option<u64>
     }
 }
 
-// Those with offset 1.
+/// Those with offset 1.
 fn signed_32(operation: u8, x: u32, y: u32) -> Option<u32>
     ensures { result ≡ signed w32 operation x y }
 {
@@ -176,7 +176,7 @@ fn signed_32(operation: u8, x: u32, y: u32) -> Option<u32>
     }
 }
 
-// Those with offset 1.
+/// Those with offset 1.
 fn signed_64(operation: u8, x: u64, y: u64) -> Option<u64>
     ensures { result ≡ signed w64 operation x y }
 {
@@ -215,7 +215,7 @@ pub fn computed_64(operation: u8, offset: i16, x: u64, y: u64) -> Option<u64>
     None
 }
 
-// The lower eight bits, sign extended to 32.
+/// The lower eight bits, sign extended to 32.
 fn from_8_to_32(x: u64) -> u32
     ensures { result ≡ extended w32 w8 x }
 {
@@ -223,7 +223,7 @@ fn from_8_to_32(x: u64) -> u32
     i32::from(low.cast_signed()).cast_unsigned()
 }
 
-// The lower 16 bits, sign extended to 32.
+/// The lower 16 bits, sign extended to 32.
 fn from_16_to_32(x: u64) -> u32
     ensures { result ≡ extended w32 w16 x }
 {
@@ -231,7 +231,7 @@ fn from_16_to_32(x: u64) -> u32
     i32::from(low.cast_signed()).cast_unsigned()
 }
 
-// The lower eight bits, sign extended to 64.
+/// The lower eight bits, sign extended to 64.
 fn from_8_to_64(x: u64) -> u64
     ensures { result ≡ extended w64 w8 x }
 {
@@ -239,7 +239,7 @@ fn from_8_to_64(x: u64) -> u64
     i64::from(low.cast_signed()).cast_unsigned()
 }
 
-// The lower 16 bits, sign extended to 64.
+/// The lower 16 bits, sign extended to 64.
 fn from_16_to_64(x: u64) -> u64
     ensures { result ≡ extended w64 w16 x }
 {
@@ -247,7 +247,7 @@ fn from_16_to_64(x: u64) -> u64
     i64::from(low.cast_signed()).cast_unsigned()
 }
 
-// The lower 32 bits, sign extended to 64.
+/// The lower 32 bits, sign extended to 64.
 fn from_32_to_64(x: u64) -> u64
     ensures { result ≡ extended w64 w32 x }
 {

@@ -31,14 +31,14 @@ fn operation(slot: bpf_insn) -> u8
     slot.code / 16
 }
 
-// The number that an immediate is, sign extended.
+/// The number that an immediate is, sign extended.
 fn immediate(imm: i32) -> u64
     ensures { result ≡ cast_unsigned w64 imm }
 {
     i64::from(imm).cast_unsigned()
 }
 
-// The second operand.
+/// The second operand.
 fn source(slot: bpf_insn, registers: &Registers) -> Option<u64>
     ensures { result ≡ source slot registers.now }
 {
@@ -54,7 +54,7 @@ fn destination(slot: bpf_insn, registers: &Registers) -> Option<u64>
     registers.known(slot.dst_reg())
 }
 
-// A number of 32 bits as one of 64.
+/// A number of 32 bits as one of 64.
 fn widened(number: Option<u32>) -> Option<u64>
     ensures { result ≡ number }
 {
@@ -64,7 +64,7 @@ fn widened(number: Option<u32>) -> Option<u64>
     }
 }
 
-// What two operands give.
+/// What two operands give.
 fn calculated(slot: bpf_insn, x: u64, y: u64) -> Option<u64>
     ensures { result ≡ calculated slot x y }
 {
@@ -74,7 +74,7 @@ fn calculated(slot: bpf_insn, x: u64, y: u64) -> Option<u64>
     computed_64(operation(slot), slot.off, x, y)
 }
 
-// What MOV and MOVSX give.
+/// What MOV and MOVSX give.
 fn moved(slot: bpf_insn, y: u64) -> Option<u64>
     ensures { result ≡ moved slot y }
 {
@@ -94,7 +94,7 @@ fn moved(slot: bpf_insn, y: u64) -> Option<u64>
     extended_64(slot.off, y)
 }
 
-// What NEG gives.
+/// What NEG gives.
 fn negation(slot: bpf_insn, x: u64) -> Option<u64>
     ensures { result ≡ negation slot x }
 {
@@ -107,7 +107,7 @@ fn negation(slot: bpf_insn, x: u64) -> Option<u64>
     Some(negated_64(x))
 }
 
-// What END gives.
+/// What END gives.
 fn byte_swapped(slot: bpf_insn, x: u64) -> Option<u64>
     ensures { result ≡ byte_swapped slot x }
 {
@@ -123,7 +123,7 @@ fn byte_swapped(slot: bpf_insn, x: u64) -> Option<u64>
     swapped(slot.imm, x)
 }
 
-// What operations of two operands give.
+/// What operations of two operands give.
 fn binary_result(slot: bpf_insn, registers: &Registers) -> Option<u64>
     ensures { result ≡ binary_result slot registers.now }
 {
@@ -133,7 +133,7 @@ fn binary_result(slot: bpf_insn, registers: &Registers) -> Option<u64>
     }
 }
 
-// What arithmetic leaves in its destination.
+/// What arithmetic leaves in its destination.
 fn arithmetic(slot: bpf_insn, registers: &Registers) -> Option<u64>
     ensures { result ≡ arithmetic slot registers.now }
 {
@@ -145,14 +145,14 @@ fn arithmetic(slot: bpf_insn, registers: &Registers) -> Option<u64>
     }
 }
 
-// Whether a slot was poisoned.
+/// Whether a slot was poisoned.
 fn is_poisoned(slot: bpf_insn) -> bool
     ensures { result ≡ is_poisoned slot }
 {
     slot.code == CALL && slot.regs == 0 && slot.off == 0 && slot.imm == POISON_CALL
 }
 
-// The registers behind an atomic operation or a plain store.
+/// The registers behind an atomic operation or a plain store.
 fn stored(slot: bpf_insn, registers: Registers) -> Registers
     ensures { result ≡ stored slot registers }
 {
@@ -182,7 +182,7 @@ pub fn after(slot: bpf_insn, registers: Registers) -> Registers
     }
 }
 
-// The number that a wide load holds.
+/// The number that a wide load holds.
 fn wide(slot: bpf_insn, second: bpf_insn) -> u64
     ensures { result ≡ wide slot second }
 {

@@ -18,7 +18,7 @@ pub struct Registers {
     pub numbers: [Option<u64>; 11],
 }
 
-// What is known of a register that one of two numbers reaches.
+/// What is known of a register that one of two numbers reaches.
 fn common(one: Option<u64>, other: Option<u64>) -> Option<u64>
     ensures { result ≡ common one other }
 {
@@ -91,7 +91,7 @@ impl Registers {
     }
 }
 
-// What a jump's operation says of the operands, as unsigned and as signed numbers.
+/// What a jump's operation says of the operands, as unsigned and as signed numbers.
 fn tested(operation: u8, x: u64, y: u64, signed_x: i64, signed_y: i64) -> Option<bool>
     ensures { result ≡ tested operation x y signed_x signed_y }
 {

@@ -21,7 +21,7 @@ struct Search {
 }
 
 impl Search {
-    // Writes what is known at a slot, which is to be followed then.
+    /// Writes what is known at a slot, which is to be followed then.
     fn put(&mut self, place: usize, registers: Registers) -> Result<(), AllocError>
         requires { place < vec_len self.old.states }
         ensures states { OnOk result (self.new.states.items ≡ slice_set self.old.states.items place (Some registers)) }
@@ -32,7 +32,7 @@ impl Search {
         Ok(())
     }
 
-    // Reaches a slot once more. Where that forgets a number, the slot is to be followed once more.
+    /// Reaches a slot once more. Where that forgets a number, the slot is to be followed once more.
     fn join_state(&mut self, step: SlotState, before: Registers) -> Result<(), AllocError>
         requires within { step.place < vec_len self.old.states }
         requires before { state_at self.old.states.items step.place ≡ Some before }
@@ -45,7 +45,7 @@ impl Search {
         self.put(step.place, registers)
     }
 
-    // Reaches a slot with what is known of the registers.
+    /// Reaches a slot with what is known of the registers.
     fn reach(&mut self, step: SlotState) -> Result<(), AllocError>
         requires { step.place < vec_len self.old.states }
         ensures { OnOk result (TakesIn (step ∷ []) self.old.states.items self.new.states.items self.old.pending.items self.new.pending.items) }
@@ -56,7 +56,7 @@ impl Search {
         }
     }
 
-    // Takes a step, if there is one.
+    /// Takes a step, if there is one.
     fn take(&mut self, step: Option<SlotState>) -> Result<(), AllocError>
         requires { IfSome step (λ step. step.place < vec_len self.old.states) }
         ensures { OnOk result (TakesIn (option_to_list step) self.old.states.items self.new.states.items self.old.pending.items self.new.pending.items) }
@@ -67,7 +67,7 @@ impl Search {
         }
     }
 
-    // Takes the steps from a slot, of which so much is known.
+    /// Takes the steps from a slot, of which so much is known.
     fn take_steps(
         &mut self,
         slots: &[bpf_insn],
@@ -83,7 +83,7 @@ impl Search {
         self.take(second)
     }
 
-    // Takes the steps from a slot, if it was reached.
+    /// Takes the steps from a slot, if it was reached.
     fn follow(&mut self, slots: &[bpf_insn], place: usize) -> Result<(), AllocError>
         requires { vec_len self.old.states ≡ length slots.now }
         ensures { OnOk result (TakesIn (steps_if_reached slots.now place (state_at self.old.states.items place)) self.old.states.items self.new.states.items self.old.pending.items self.new.pending.items) }
@@ -96,7 +96,7 @@ impl Search {
     }
 }
 
-// So many slots, none of them reached.
+/// So many slots, none of them reached.
 fn unreached(alloc: Global, count: usize) -> Result<Vec<Option<Registers>>, AllocError>
     ensures { IfOk result (λ states. states.items ≡ replicate count None) }
 {
@@ -107,7 +107,7 @@ fn unreached(alloc: Global, count: usize) -> Result<Vec<Option<Registers>>, Allo
     Ok(states)
 }
 
-// The search behind its first step: the first slot is reached with nothing known of the registers.
+/// The search behind its first step: the first slot is reached with nothing known of the registers.
 fn begun(alloc: Global, slots: &[bpf_insn]) -> Result<Search, AllocError>
     ensures { IfOk result (λ search. Searched slots.now search.states.items search.pending.items) }
 {
@@ -119,7 +119,7 @@ fn begun(alloc: Global, slots: &[bpf_insn]) -> Result<Search, AllocError>
     Ok(search)
 }
 
-// What is known of the registers at each slot that is reached. Slots are followed until none is left.
+/// What is known of the registers at each slot that is reached. Slots are followed until none is left.
 fn searched(alloc: Global, slots: &[bpf_insn]) -> Result<Vec<Option<Registers>>, AllocError>
     ensures { IfOk result (λ states. IsLeast slots.now states.items) }
 {
@@ -130,7 +130,7 @@ fn searched(alloc: Global, slots: &[bpf_insn]) -> Result<Vec<Option<Registers>>,
     Ok(search.states)
 }
 
-// Whether each slot is reached.
+/// Whether each slot is reached.
 fn flags(alloc: Global, states: &[Option<Registers>]) -> Result<Vec<bool>, AllocError>
     ensures { IfOk result (λ flags. flags.items ≡ reached states.now) }
 {

@@ -31,7 +31,7 @@ pub fn step_to(slots: &[bpf_insn], place: usize, registers: Registers) -> Option
     }
 }
 
-// The step to the place so many slots behind the next one.
+/// The step to the place so many slots behind the next one.
 fn step_further(
     slots: &[bpf_insn],
     place: usize,
@@ -48,7 +48,7 @@ fn step_further(
     }
 }
 
-// The steps from a conditional jump.
+/// The steps from a conditional jump.
 fn ways(
     slots: &[bpf_insn],
     place: usize,
@@ -68,7 +68,7 @@ fn ways(
     }
 }
 
-// The step to the first slot of a callback, where a wide load has its address.
+/// The step to the first slot of a callback, where a wide load has its address.
 fn callback(slots: &[bpf_insn], place: usize, slot: bpf_insn) -> Option<SlotState>
     requires { place < length slots.now }
     ensures steps_to { option_to_list result ≡ callback slots.now place slot }
@@ -80,14 +80,14 @@ fn callback(slots: &[bpf_insn], place: usize, slot: bpf_insn) -> Option<SlotStat
     step_further(slots, place, slot.imm, Registers::unknown())
 }
 
-// Whether a code is a jump that a condition decides.
+/// Whether a code is a jump that a condition decides.
 fn is_branch(code: u8) -> bool
     ensures { result ≡ is_branch code }
 {
     (code % 8 == JMP || code % 8 == JMP32) && code / 16 != 0 && code / 16 != 8 && code / 16 != 9
 }
 
-// The steps from a slot that stands at a place.
+/// The steps from a slot that stands at a place.
 fn steps_of(
     slots: &[bpf_insn],
     place: usize,

@@ -31,7 +31,7 @@ use Rattle.ebpf_linker.specs.Result.{IsProgram}
 use Rattle.ebpf_linker.specs.declared.body.Body.{Body}
 use Rattle.ebpf_linker.specs.declared.body.LinkedProgram.{LinkedProgram}
 use Rattle.ebpf_linker.specs.declared.link_map.NumberedLinkMap.{NumberedLinkMap}
-use Rattle.ebpf_linker.specs.declared.reference.Call.{Call}
+use Rattle.ebpf_linker.specs.declared.reference.Reference.{Reference}
 use Rattle.ebpf_linker.specs.declared.reference.Fault.{Fault}
 use Rattle.ebpf_linker.specs.declared.reference.Target.{Target}
 use Rattle.ebpf_linker.specs.declared.reference.Target.TheVariants.{Function as ToFunction, Nowhere}
@@ -226,7 +226,7 @@ module _ (leads : ℕ → bpf_insn → Option Target) where
       let e : 0 + i ≡ i = omega arith in
       subst (λ k. referred (calls_by leads 0 slots) k ≡ led k (slice_get slots i)) e (referred_from slots 0 i)
 
-  later : (m n : ℕ) (cs : List Call) → m ≤ n → Rises n cs → Rises m cs
+  later : (m n : ℕ) (cs : List Reference) → m ≤ n → Rises n cs → Rises m cs
   later m n [] le h = tt
   later m n (c ∷ cs) le h = (omega (arith, h.0), h.1)
 
@@ -241,7 +241,7 @@ module _ (leads : ℕ → bpf_insn → Option Target) where
 
 -- ---- the functions by number are the functions by key
 
-abbrev or_none : Option (List Call) → List Call
+abbrev or_none : Option (List Reference) → List Reference
 or_none None = []
 or_none (Some cs) = cs
 
@@ -295,7 +295,7 @@ module _ (parts : LinkableValue) where
       step (Some target) h rest = All-cons (λ c. IsWithin (length keys) c.target) (record { slot = n; target = target }) (calls_by leads (n + 1) slots) h rest
 
   -- a reference leads to one of the functions
-  names_inside : (cs : List Call) (n i k : ℕ) → All (λ c. IsWithin n c.target) cs → referred cs i ≡ Names k → k < n
+  names_inside : (cs : List Reference) (n i k : ℕ) → All (λ c. IsWithin n c.target) cs → referred cs i ≡ Names k → k < n
   names_inside [] n i k all h = cc
   names_inside (c ∷ cs) n i k all h = step (c.slot == i) c.target (all 0 c (omega arith)) (names_inside cs n i k (λ j d lt. all (suc j) d (omega arith))) h
     where
@@ -311,7 +311,7 @@ module _ (parts : LinkableValue) where
       (λ past. absurd (omega (arith, past.0, lt, length-map (entries parts.functions) (λ e. e.1), count_keys parts.functions)))
       (slice_get_cases fs number).1
 
-  module _ (B : List Body) (C : List (Vec Call Global)) (bodies : map body_content B ≡ map content_of fs) (calls : map (λ v. v.items) C ≡ calls_from parts keys 0 fs) where
+  module _ (B : List Body) (C : List (Vec Reference Global)) (bodies : map body_content B ≡ map content_of fs) (calls : map (λ v. v.items) C ≡ calls_from parts keys 0 fs) where
     content_here : (m : ℕ) → option_content (slice_get B m) ≡ option_map content_of (slice_get fs m)
     content_here m = same (slice_get B m) ∙ sym (slice_get-map body_content B m) ∙ ap (λ l. slice_get l m) bodies ∙ slice_get-map content_of fs m
       where
@@ -320,9 +320,9 @@ module _ (parts : LinkableValue) where
         same (Some x) = refl
 
     calls_of_all : (m : ℕ) → calls_at C m ≡ or_none (option_map (λ f. calls_of parts keys m f) (slice_get fs m))
-    calls_of_all m = same (slice_get C m) ∙ ap or_none (sym (slice_get-map (λ (v : Vec Call Global). v.items) C m) ∙ ap (λ l. slice_get l m) calls ∙ calls_here fs 0 m ∙ ap (λ k. option_map (λ f. calls_of parts keys k f) (slice_get fs m)) (omega arith))
+    calls_of_all m = same (slice_get C m) ∙ ap or_none (sym (slice_get-map (λ (v : Vec Reference Global). v.items) C m) ∙ ap (λ l. slice_get l m) calls ∙ calls_here fs 0 m ∙ ap (λ k. option_map (λ f. calls_of parts keys k f) (slice_get fs m)) (omega arith))
       where
-        same : (x : Option (Vec Call Global)) → calls_or_empty x ≡ or_none (option_map (λ (v : Vec Call Global). v.items) x)
+        same : (x : Option (Vec Reference Global)) → calls_or_empty x ≡ or_none (option_map (λ (v : Vec Reference Global). v.items) x)
         same None = refl
         same (Some x) = refl
 
@@ -374,7 +374,7 @@ module _ (parts : LinkableValue) where
     count_bodies = sym (length-map B body_content) ∙ ap length bodies ∙ length-map fs content_of ∙ count_functions
 
     pub count_calls : length C ≡ length B
-    count_calls = sym (length-map C (λ (v : Vec Call Global). v.items)) ∙ ap length calls ∙ length_calls fs 0 ∙ count_functions ∙ sym count_bodies
+    count_calls = sym (length-map C (λ (v : Vec Reference Global). v.items)) ∙ ap length calls ∙ length_calls fs 0 ∙ count_functions ∙ sym count_bodies
 
     -- what is wrong with a program by number, is wrong by key
     pub fault_by_key : (number : ℕ) (e : Fault) → number < length keys → LeastFault (functions_by_number B C) (checked_references (functions_by_number B C) number) number e

@@ -4,7 +4,7 @@ use Rattle.std.specs.FinMap.{FinMap}
 use Rattle.ebpf_base.specs.Maps.{key_cmp}
 use Rattle.ebpf_linker.specs.Functions.{Nothing, BeginsAt, body, Among}
 use Rattle.ebpf_linker.specs.LinkMap.{CopyOf, Lands, copied_slot_count}
-use Rattle.ebpf_linker.specs.declared.link_map.Reference.{Reference}
+use Rattle.ebpf_linker.specs.declared.link_map.PlacedReference.{PlacedReference}
 use Rattle.ebpf_model.specs.Symbols.{FunctionKey}
 use Rattle.ebpf_model.specs.declared.error.EbpfRelocationError.{EbpfRelocationError}
 use Rattle.ebpf_model.specs.declared.function.Function.{Function}
@@ -83,7 +83,7 @@ RefusedAsLinking = (parts : LinkableValue) (program : ProgramValue) (r : Result 
 pub record MatchesLinked (parts : LinkableValue) (key : FunctionKey) (m : LinkMap) (linked : Function) (a : IsLinkMapAt parts key m) (b : IsLinked parts key linked) : Type 0 where
   pub order : a.order ≡ b.order
   pub size : copied_slot_count (map copy_of m.copies) ≡ length linked.instructions
-  pub lands : (r : Reference) → Among m.references r → Lands (functions_of parts) (map copy_of m.copies) linked.instructions r
+  pub lands : (r : PlacedReference) → Among m.references r → Lands (functions_of parts) (map copy_of m.copies) linked.instructions r
 
 -- a link map of a program is that of the linked program
 abbrev pub LinkMapsMatch : Type 0

@@ -3,7 +3,7 @@ use Rattle.std.specs.Prelude.{◌≡◌, ℕ, ◌<◌, List, length, Vec, ◌+�
 use Rattle.std.specs.declared.alloc.Global.{Global}
 use Rattle.ebpf_linker.specs.declared.link_map.NumberedCopy.{NumberedCopy}
 use Rattle.ebpf_linker.specs.declared.body.Body.{Body}
-use Rattle.ebpf_linker.specs.declared.layout.Layout.{Layout}
+use Rattle.ebpf_linker.specs.declared.layout.ProgramLayout.{ProgramLayout}
 use Rattle.ebpf_linker.specs.Copies.{IsLaidOut}
 use Rattle.ebpf_model.specs.declared.function.Function.{Function}
 use Rattle.ebpf_reloc.specs.declared.link_map.CodeCopy.{CodeCopy}
@@ -13,7 +13,7 @@ use Rattle.ebpf_model.specs.Symbols.{FunctionKey}
 use Rattle.std.specs.List.{position_from}
 use Rattle.std.specs.Ordering.{eq_by_cmp}
 use Rattle.ebpf_base.specs.Maps.{key_cmp}
-use Rattle.ebpf_linker.specs.declared.reference.Call.{Call}
+use Rattle.ebpf_linker.specs.declared.reference.Reference.{Reference}
 use Rattle.ebpf_linker.specs.declared.reference.Fault.TheVariants.{UnsupportedTextSymbol, UnknownFunction}
 use Rattle.ebpf_linker.specs.declared.reference.Target.{Target}
 use Rattle.ebpf_linker.specs.declared.reference.Target.TheVariants.{Function as ToFunction, Nowhere}
@@ -26,7 +26,7 @@ abbrev pub named_copy : List FunctionKey → List Function → NumberedCopy → 
 named_copy keys functions c = record { key = key_in keys c.function; name = function_name functions c.function; base = c.base; slots = c.slots }
 
 -- the layout of the program at a key, of the functions by numbers
-pub record IsLaidOutAt (parts : LinkableValue) (B : List Body) (C : List (Vec Call Global)) (key : FunctionKey) (l : Layout) : Type 0 where
+pub record IsLaidOutAt (parts : LinkableValue) (B : List Body) (C : List (Vec Reference Global)) (key : FunctionKey) (l : ProgramLayout) : Type 0 where
   pub start : l.start < length (function_keys parts.functions)
   pub key_is : key_in (function_keys parts.functions) l.start ≡ key
   pub laid_out : IsLaidOut B C l
@@ -48,20 +48,20 @@ numbered_target keys caller (At section address) = Some (numbered_target_by (num
 abbrev pub numbered_target_at : LinkableValue → List FunctionKey → ℕ → Function → ℕ → bpf_insn → Option Target
 numbered_target_at parts keys caller f i slot = numbered_target keys caller (slot_target_of parts f i slot)
 
-abbrev pub with_call : ℕ → Option Target → List Call → List Call
+abbrev pub with_call : ℕ → Option Target → List Reference → List Reference
 with_call i None calls = calls
 with_call i (Some target) calls = record { slot = i; target = target } ∷ calls
 
 -- the calls of slots that are numbered from i on, by where each leads
-abbrev pub calls_by : (ℕ → bpf_insn → Option Target) → ℕ → List bpf_insn → List Call
+abbrev pub calls_by : (ℕ → bpf_insn → Option Target) → ℕ → List bpf_insn → List Reference
 calls_by leads i [] = []
 calls_by leads i (slot ∷ slots) = with_call i (leads i slot) (calls_by leads (i + 1) slots)
 
 -- the calls of the function with this number
-abbrev pub calls_of : LinkableValue → List FunctionKey → ℕ → Function → List Call
+abbrev pub calls_of : LinkableValue → List FunctionKey → ℕ → Function → List Reference
 calls_of parts keys caller f = calls_by (numbered_target_at parts keys caller f) 0 f.instructions
 
 -- the calls of functions that are numbered from n on
-abbrev pub calls_from : LinkableValue → List FunctionKey → ℕ → List Function → List (List Call)
+abbrev pub calls_from : LinkableValue → List FunctionKey → ℕ → List Function → List (List Reference)
 calls_from parts keys n [] = []
 calls_from parts keys n (f ∷ fs) = calls_of parts keys n f ∷ calls_from parts keys (n + 1) fs

@@ -11,7 +11,7 @@ ghost use Rattle.ebpf_base.specs.Maps.{key_cmp};
 use crate::linkable::Linkable;
 use crate::numbers::KeyNumbers;
 use crate::slot_target::{SlotTarget, own_target, relocated_target};
-use ebpf_linker::{Call, Fault, Target};
+use ebpf_linker::{Fault, Reference, Target};
 use ebpf_model::{Function, Walk};
 use ebpf_parts::Relocation;
 use ebpf_parts::insn::bpf_insn;
@@ -70,7 +70,7 @@ fn calls_of(
     walk: &mut Walk<'_>,
     caller: usize,
     function: &Function,
-) -> Result<Vec<Call>, AllocError>
+) -> Result<Vec<Reference>, AllocError>
     requires section_relocations { walked_relocations walk.old ≡ get (read parts.now).relocations function.now.section_index.0 }
     requires before { IsBefore walk.old function.now.section_offset }
     ensures calls { IfOk result (λ calls. calls.items ≡ calls_of (read parts.now) numbers.now.keys.now caller function.now) }
@@ -85,7 +85,7 @@ fn calls_of(
         let Some(target) = numbered_target(numbers, caller, slot_target) else {
             continue;
         };
-        calls.push(Call { slot, target })?;
+        calls.push(Reference { slot, target })?;
     }
     Ok(calls)
 }
@@ -97,7 +97,7 @@ pub fn all_calls(
     parts: &Linkable<'_>,
     keys: &[(usize, u64)],
     functions: &[&Function],
-) -> Result<Vec<Vec<Call>>, AllocError>
+) -> Result<Vec<Vec<Reference>>, AllocError>
     requires { IsStrictlySortedBy key_cmp keys.now }
     ensures { IfOk result (λ calls. map (λ v. v.items) calls.items ≡ calls_from (read parts.now) keys.now 0 (map (λ f. f.now) functions.now)) }
 {

@@ -10,13 +10,17 @@ ghost use Rattle.ebpf_reloc.specs.SlotTargets.{read};
 use crate::linking::ProgramKey;
 use crate::numbered::{NumberedFunctions, with_function_names};
 use crate::numbers::number_of_key;
-use ebpf_linker::{Layout, lay_out};
+use ebpf_linker::{ProgramLayout, lay_out};
 use ebpf_model::{EbpfRelocationError, RelocationError};
 use std::alloc::Global;
 
 impl<'a> NumberedFunctions<'a> {
     /// The layout of the program with a number.
-    fn layout_by_number(&self, alloc: Global, number: usize) -> Result<Layout, RelocationError>
+    fn layout_by_number(
+        &self,
+        alloc: Global,
+        number: usize,
+    ) -> Result<ProgramLayout, RelocationError>
         requires { number < length (function_keys (read self.now.parts).functions) }
         ensures layout { IfOk result (λ l. IsLaidOutAt (read self.now.parts) self.now.bodies.items self.now.calls.items (key_in (function_keys (read self.now.parts).functions) number) l) }
         ensures fault { IfErr result (λ e. MatchBool (is_slot_memory e) ⊤ (IsProgramFault (read self.now.parts) (key_in (function_keys (read self.now.parts).functions) number) e)) }
@@ -37,7 +41,7 @@ impl<'a> NumberedFunctions<'a> {
         alloc: Global,
         section: usize,
         address: u64,
-    ) -> Result<Layout, RelocationError>
+    ) -> Result<ProgramLayout, RelocationError>
         ensures layout { IfOk result (λ l. IsLaidOutAt (read self.now.parts) self.now.bodies.items self.now.calls.items (section, address) l) }
         ensures fault { IfErr result (λ e. MatchBool (is_slot_memory e) ⊤ (IsProgramFault (read self.now.parts) (section, address) e)) }
     {
@@ -58,7 +62,7 @@ impl NumberedFunctions<'_> {
         &self,
         alloc: Global,
         program: &ProgramKey<'_>,
-    ) -> Result<Layout, EbpfRelocationError>
+    ) -> Result<ProgramLayout, EbpfRelocationError>
         ensures layout { IfOk result (λ l. IsLaidOutAt (read self.now.parts) self.now.bodies.items self.now.calls.items (key_of program.now) l) }
         ensures fault { IfErr result (λ e. MatchBool (is_memory_at e) ⊤ (IsProgramRefusal (read self.now.parts) program.now e)) }
         ensures memory { IfErr result NamesNoneForMemory }

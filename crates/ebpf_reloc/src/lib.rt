@@ -14,7 +14,7 @@ mod slot_target;
 pub use ebpf_model::{
     EbpfRelocationError, ExternDesc, Function, Relocation, RelocationError, Symbol,
 };
-pub use link_map::{CodeCopy, LinkMap, Reference};
+pub use link_map::{CodeCopy, LinkMap, PlacedReference};
 pub use linkable::Linkable;
 pub use linking::{LinkedFunction, ProgramKey, numbered as number_functions, relocate_calls};
 pub use numbered::NumberedFunctions;

@@ -11,8 +11,8 @@ ghost use Rattle.ebpf_reloc.specs.SlotTargets.{read};
 use crate::linking::ProgramKey;
 use crate::numbered::{NumberedFunctions, function_name};
 use ebpf_base::{Items, Text};
-use ebpf_linker::Layout;
-pub use ebpf_linker::link_map::Reference;
+use ebpf_linker::ProgramLayout;
+pub use ebpf_linker::link_map::PlacedReference;
 use ebpf_linker::link_map::{NumberedCopy, link_map};
 use ebpf_model::{EbpfRelocationError, Function};
 use std::alloc::{AllocError, Global};
@@ -36,7 +36,7 @@ pub struct LinkMap {
     /// The program's own function, and then each function that it reaches, in the order of their key paths.
     pub copies: Items<CodeCopy>,
     /// The references of all copies, in the order of their places.
-    pub references: Items<Reference>,
+    pub references: Items<PlacedReference>,
 }
 
 /// The key with a number; the key (0, 0) where none has it.
@@ -84,7 +84,11 @@ fn named_copies(
 
 impl<'a> NumberedFunctions<'a> {
     /// What a layout's program is made of.
-    pub(crate) fn mapped(&self, alloc: Global, layout: &Layout) -> Result<LinkMap, AllocError>
+    pub(crate) fn mapped(
+        &self,
+        alloc: Global,
+        layout: &ProgramLayout,
+    ) -> Result<LinkMap, AllocError>
         requires start { layout.now.start < length (function_keys (read self.now.parts).functions) }
         requires laid_out { IsLaidOut self.now.bodies.items self.now.calls.items layout.now }
         ensures { IfOk result (λ m. IsLinkMapAt (read self.now.parts) (key_in (function_keys (read self.now.parts).functions) layout.now.start) m) }

@@ -13,7 +13,7 @@ use crate::linkable::Linkable;
 use crate::numbered::NumberedFunctions;
 use ebpf_base::ByKey;
 use ebpf_ext::{FuncSecInfo, LineSecInfo};
-use ebpf_linker::{Layout, LinkedProgram, link};
+use ebpf_linker::{LinkedProgram, ProgramLayout, link};
 use ebpf_model::{EbpfRelocationError, Function};
 use std::alloc::{AllocError, Global};
 use std::marker::Model;
@@ -90,7 +90,7 @@ impl<'a> NumberedFunctions<'a> {
     }
 
     /// The function of a layout's program, linked.
-    fn linked(&self, alloc: Global, layout: &Layout) -> Result<Function, AllocError>
+    fn linked(&self, alloc: Global, layout: &ProgramLayout) -> Result<Function, AllocError>
         requires start { layout.now.start < length (function_keys (read self.now.parts).functions) }
         requires laid_out { IsLaidOut self.now.bodies.items self.now.calls.items layout.now }
         ensures { IfOk result (λ f. IsLinked (read self.now.parts) (key_in (function_keys (read self.now.parts).functions) layout.now.start) f) }
@@ -105,7 +105,7 @@ impl<'a> NumberedFunctions<'a> {
     fn linked_and_mapped(
         &self,
         alloc: Global,
-        layout: &Layout,
+        layout: &ProgramLayout,
     ) -> Result<LinkedFunction, AllocError>
         requires start { layout.now.start < length (function_keys (read self.now.parts).functions) }
         requires laid_out { IsLaidOut self.now.bodies.items self.now.calls.items layout.now }

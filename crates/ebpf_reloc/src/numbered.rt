@@ -11,7 +11,7 @@ use crate::calls::all_calls;
 use crate::linkable::Linkable;
 use crate::numbers::{function_keys, function_list};
 use ebpf_base::Text;
-use ebpf_linker::{Body, Call, Fault, Tables};
+use ebpf_linker::{Body, Fault, Reference, Tables};
 use ebpf_model::{Function, RelocationError};
 use std::alloc::{AllocError, Global};
 
@@ -27,7 +27,7 @@ pub struct NumberedFunctions<'a> {
     /// What is linked of them.
     pub bodies: Vec<Body<'a>>,
     /// Their calls.
-    pub calls: Vec<Vec<Call>>,
+    pub calls: Vec<Vec<Reference>>,
     /// What one program that is linked leaves for the next.
     pub tables: Tables,
     ghost are_keys: { keys.items ≡ function_keys (read parts).functions },

@@ -12,6 +12,16 @@ use ebpf_model::Function;
 use std::alloc::{AllocError, Global};
 use std::cell::Cell;
 
+/// Keys in their order, and the number that was found last: those beside it are tried first, since a reference mostly
+/// leads to the function of the reference before it, or to one beside that.
+#[derive(Drop)]
+pub struct KeyNumbers<'k> {
+    /// The keys.
+    pub keys: &'k [(usize, u64)],
+    last: Cell<usize>,
+    ghost rising: { IsStrictlySortedBy key_cmp keys.now } by { Prim.hlevel props },
+}
+
 /// The keys of functions in their order: the number of a function is the place of its key.
 pub fn function_keys(
     alloc: Global,
@@ -49,16 +59,6 @@ pub fn number_of_key(keys: &[(usize, u64)], section: usize, address: u64) -> Opt
         Ok(number) => Some(number),
         Err(_) => None,
     }
-}
-
-/// Keys in their order, and the number that was found last: those beside it are tried first, since a reference mostly
-/// leads to the function of the reference before it, or to one beside that.
-#[derive(Drop)]
-pub struct KeyNumbers<'k> {
-    /// The keys.
-    pub keys: &'k [(usize, u64)],
-    last: Cell<usize>,
-    ghost rising: { IsStrictlySortedBy key_cmp keys.now } by { Prim.hlevel props },
 }
 
 /// This number, where it is that of a key.

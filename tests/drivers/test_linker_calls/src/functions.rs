@@ -1,7 +1,7 @@
 //! Functions and references for tests.
 
 use ebpf_linker::link_map::{NumberedLinkMap, link_map};
-use ebpf_linker::{Body, Call, Fault, LinkedProgram, Tables, Target, is_sound, lay_out, link};
+use ebpf_linker::{Body, Fault, LinkedProgram, Reference, Tables, Target, is_sound, lay_out, link};
 use ebpf_parts::insn::{bpf_insn, opcodes};
 use std::alloc::{AllocError, Global};
 
@@ -94,12 +94,12 @@ fn list_of(
     alloc: Global,
     function: usize,
     references: &[TestReference],
-) -> Result<Vec<Call>, AllocError> {
+) -> Result<Vec<Reference>, AllocError> {
     let mut list = Vec::new(alloc);
     for (from, slot, target) in references {
         if *from == function {
             let (slot, target) = (*slot, *target);
-            list.push(Call { slot, target })?;
+            list.push(Reference { slot, target })?;
         }
     }
     Ok(list)
@@ -110,7 +110,7 @@ pub fn lists(
     alloc: Global,
     count: usize,
     references: &[TestReference],
-) -> Result<Vec<Vec<Call>>, AllocError> {
+) -> Result<Vec<Vec<Reference>>, AllocError> {
     let mut lists = Vec::new(alloc);
     for function in 0..count {
         lists.push(list_of(alloc, function, references)?)?;
@@ -123,7 +123,7 @@ pub fn linked_at(
     alloc: Global,
     tables: &Tables,
     bodies: &[Body<'_>],
-    calls: &[Vec<Call>],
+    calls: &[Vec<Reference>],
     start: usize,
 ) -> Result<Answer, AllocError> {
     if start >= bodies.len() || calls.len() != bodies.len() || !is_sound(calls, bodies.len()) {
@@ -139,7 +139,7 @@ pub fn linked_at(
 pub fn linked(
     alloc: Global,
     bodies: &[Body<'_>],
-    calls: &[Vec<Call>],
+    calls: &[Vec<Reference>],
 ) -> Result<Answer, AllocError> {
     linked_at(alloc, &Tables::new(), bodies, calls, 0)
 }
@@ -148,7 +148,7 @@ pub fn linked(
 pub fn link_map_of(
     alloc: Global,
     bodies: &[Body<'_>],
-    calls: &[Vec<Call>],
+    calls: &[Vec<Reference>],
 ) -> Result<MapAnswer, AllocError> {
     if bodies.is_empty() || calls.len() != bodies.len() || !is_sound(calls, bodies.len()) {
         return Ok(None);

@@ -4,7 +4,7 @@ use super::functions::{
     Answer, CALL, CALLS, CALLS_TWICE, ENDS, EXIT, F, G, LOAD, NOTHING, PROGRAM, TestReference,
     TestSlots, linked, lists, plain_bodies,
 };
-use ebpf_linker::{Body, Call, Target};
+use ebpf_linker::{Body, Reference, Target};
 use ebpf_parts::insn::{bpf_insn, opcodes};
 use std::alloc::{AllocError, Global};
 use std::test::Fail;
@@ -59,7 +59,7 @@ fn further(place: SlotPosition, by: i64) -> SlotPosition {
 #[derive(Clone, Copy)]
 enum Code<'a> {
     /// Functions, with their references.
-    Separate(&'a [Body<'a>], &'a [Vec<Call>]),
+    Separate(&'a [Body<'a>], &'a [Vec<Reference>]),
     /// A linked program.
     Flat(&'a [bpf_insn]),
 }
@@ -71,7 +71,7 @@ fn slot_at(slots: &[bpf_insn], place: SlotPosition) -> Option<bpf_insn> {
 }
 
 /// The first slot of the function that a slot refers to.
-fn entry_of(calls: &[Vec<Call>], place: SlotPosition) -> Option<SlotPosition> {
+fn entry_of(calls: &[Vec<Reference>], place: SlotPosition) -> Option<SlotPosition> {
     let number = usize::try_from(place.1).ok()?;
     let list = calls.get(place.0)?;
     let call = list.iter().find(|call| call.slot == number)?;
@@ -213,7 +213,7 @@ fn name(bodies: &[Body<'_>], order: &[usize], place: SlotPosition) -> Option<Slo
 #[derive(Clone, Copy)]
 struct Row<'a> {
     bodies: &'a [Body<'a>],
-    calls: &'a [Vec<Call>],
+    calls: &'a [Vec<Reference>],
     slots: &'a [bpf_insn],
     order: &'a [usize],
 }
@@ -308,7 +308,7 @@ fn slots_of(answer: &Answer) -> &[bpf_insn] {
 fn outcome(
     alloc: Global,
     bodies: &[Body<'_>],
-    calls: &[Vec<Call>],
+    calls: &[Vec<Reference>],
     order: &[usize],
     decisions: &[bool],
 ) -> Result<String, AllocError> {

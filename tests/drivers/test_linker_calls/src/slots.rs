@@ -5,7 +5,7 @@ use super::functions::{
     TestReference, TestSlots, linked, linked_at, lists, plain, plain_bodies,
 };
 use ebpf_ext::{bpf_func_info, bpf_line_info};
-use ebpf_linker::{Body, Call, Fault, LinkedProgram, Tables, Target};
+use ebpf_linker::{Body, Fault, LinkedProgram, Reference, Tables, Target};
 use ebpf_parts::insn::bpf_insn;
 use std::alloc::{AllocError, Global};
 use std::test::Fail;
@@ -206,11 +206,11 @@ fn refuses_records(rt: HostRuntime) -> Result<(), Fail> {
 }
 
 /// The calls of so many functions, each of the next.
-fn chain_calls(alloc: Global, count: usize) -> Result<Vec<Vec<Call>>, AllocError> {
+fn chain_calls(alloc: Global, count: usize) -> Result<Vec<Vec<Reference>>, AllocError> {
     let mut calls = Vec::new(alloc);
     for function in 0..count {
         let target = Target::Function(function.saturating_add(1));
-        calls.push(vec![in alloc; Call { slot: 0, target }; 1]?)?;
+        calls.push(vec![in alloc; Reference { slot: 0, target }; 1]?)?;
     }
     calls.push(Vec::new(alloc))?;
     Ok(calls)

@@ -1,7 +1,7 @@
 use Rattle.std.proofs.Common.{ℕ, ◌<◌, ◌∙◌, List, sym, arith, subst, length, get_or}
 use Rattle.std.specs.Prelude.{All}
 use Rattle.ebpf_parts.specs.declared.insn.bpf_insn.{bpf_insn}
-use Rattle.ebpf_linker.specs.declared.reference.Call.{Call}
+use Rattle.ebpf_linker.specs.declared.reference.Reference.{Reference}
 use Rattle.ebpf_linker.specs.Copies.{Fit}
 use Rattle.ebpf_linker.specs.Numbered.{IsWithin}
 use Rattle.ebpf_linker.proofs.Walks.{references_first, references_more, body_read, calls_read, no_body, fit_more}
@@ -26,7 +26,7 @@ add_references-requires-in-loop-function-clause-within c =
     let lt' : k < length c.args.calls.now = omega (arith, lt, c.requires.calls) in
     let calls = calls_read c.args.calls.now k c.index-calls-function.result lt' c.index-calls-function.is ∙ sym c.deref-in-loop-function.ensures.value in
     subst (λ (n : ℕ). All (λ call. IsWithin n call.target) c.deref-in-loop-function.result.now) (sym c.requires.bases)
-    (subst (λ (cs : List Call). All (λ call. IsWithin (length c.args.bodies.now) call.target) cs) calls (c.requires.sound.within k))
+    (subst (λ (cs : List Reference). All (λ call. IsWithin (length c.args.bodies.now) call.target) cs) calls (c.requires.sound.within k))
 
 pub loop-function-preserved : goal.loop-function-preserved
 loop-function-preserved c =

@@ -1,7 +1,7 @@
 use Rattle.std.proofs.Common.{◌≡◌, ℕ, ◌+◌, ◌<◌, List, [], ◌∷◌, ◌++◌, length, replicate, true, false, rules, sym, ap, ◌∙◌, subst, arith, Some, None}
 use Rattle.std.specs.Prelude.{slice_index_or, All, Err, Ok, Vec}
 use Rattle.std.specs.declared.alloc.Global.{Global}
-use Rattle.ebpf_linker.specs.declared.search.Open.{Open}
+use Rattle.ebpf_linker.specs.declared.search.Frame.{Frame}
 use Rattle.ebpf_linker.specs.Functions.{FunctionContent, Among}
 use Rattle.ebpf_linker.specs.Numbered.{functions_by_number}
 use Rattle.ebpf_linker.specs.Search.{Advanced, Search, search_at, checked_calls}
@@ -15,9 +15,9 @@ pub loop-top-init : goal.loop-top-init
 loop-top-init c =
     let B = c.args.bodies.now in
     let C = c.args.calls.now in
-    let first : Open = record { copy = 0; function = c.args.start; next = 0 } in
+    let first : Frame = record { copy = 0; function = c.args.start; next = 0 } in
     let o : c.push.new.self.items ≡ c.args.start ∷ [] = c.in_ok-push.ensures.items ∙ ap (λ (u : List ℕ). u ++ c.args.start ∷ []) c.new-order.ensures.items in
-    let s : c.push-2.new.self.items ≡ first ∷ [] = c.in_ok-push-2.ensures.items ∙ ap (λ (u : List Open). u ++ first ∷ []) c.new-work_list.ensures.items in
+    let s : c.push-2.new.self.items ≡ first ∷ [] = c.in_ok-push-2.ensures.items ∙ ap (λ (u : List Frame). u ++ first ∷ []) c.new-work_list.ensures.items in
     let fs : c.in_ok-is_found.is_found.items ≡ replicate (length B) false = search rules in
     record {
       state = started (length B) (checked_calls B C c.args.start) c.args.start _ _ _ c.requires.start o fs s;
@@ -67,7 +67,7 @@ loop-top-smaller c =
     let top = c.in-Some.top in
     let a = step_of F (checked_calls B C p) top s t None (subst (Advanced F (checked_calls B C p) top s t) c.in_default-step.is c.in_ok-step.ensures) in
     let less = less_left F (length B) (checked_calls B C p) top s t (are_sorted B p (length B) C c.requires.sound) c.loop-top.invariant.state.flags a in
-    subst (λ (u : List Open). unfound c.advance.new.self.is_found.items (checked_calls B C p) 0 + left_in (checked_calls B C p) c.advance.new.self.work_list.items < unfound c.loop-top.progress.is_found.items (checked_calls B C p) 0 + left_in (checked_calls B C p) u) (sym c.in-Some.ensures.items) less
+    subst (λ (u : List Frame). unfound c.advance.new.self.is_found.items (checked_calls B C p) 0 + left_in (checked_calls B C p) c.advance.new.self.work_list.items < unfound c.loop-top.progress.is_found.items (checked_calls B C p) 0 + left_in (checked_calls B C p) u) (sym c.in-Some.ensures.items) less
 
 pub loop-top-preserved : goal.loop-top-preserved
 loop-top-preserved c =
