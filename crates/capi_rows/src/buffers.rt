@@ -12,7 +12,7 @@ use ebpf_base::{ByName, Items};
 use std::alloc::{AllocError, Global};
 
 /// What C reads of things `V` that stand in a `C`: rows for each, and the names that these point to.
-pub trait Rows<V, C>: Copy {
+pub trait RowFrom<V, C>: Copy {
     /// The rows of a thing whose names begin at an offset of the text.
     ghost rows_of: { C → V → ℕ → List Self };
 
@@ -53,7 +53,7 @@ pub fn add_row<R: Copy>(listing: &mut Listing<R>, row: R, name: &str) -> Result<
 
 /// The rows and the names of things, in their order.
 #[tactic(auto, using(crate::proofs::Fills::one_row, crate::proofs::Fills::one_text, ebpf_base::proofs::Lists::rest_none))]
-pub fn list_all<V, C, R: Rows<V, C>>(
+pub fn list_all<V, C, R: RowFrom<V, C>>(
     alloc: Global,
     context: &C,
     values: &[V],
@@ -125,7 +125,7 @@ pub fn write_listing<R: Copy>(
 }
 
 /// The rows and the names of all things of a map, in byte order of the names.
-fn list_named<'a, V, C, R: Rows<Entry<'a, V>, C>>(
+fn list_named<'a, V, C, R: RowFrom<Entry<'a, V>, C>>(
     alloc: Global,
     context: &C,
     values: &'a ByName<V>,
@@ -140,7 +140,7 @@ fn list_named<'a, V, C, R: Rows<Entry<'a, V>, C>>(
 /// Writes the rows and the names of all things of a map to the front of two buffers, in byte order of the names, and how
 /// much they are. `DONE`: they are there. `ROOM`: one of them doesn't fit, and both buffers stay. `MEMORY`: memory was
 /// refused, and all stays.
-pub fn write_all<'a, V, C, R: Rows<Entry<'a, V>, C>>(
+pub fn write_all<'a, V, C, R: RowFrom<Entry<'a, V>, C>>(
     alloc: Global,
     context: &C,
     values: &'a ByName<V>,

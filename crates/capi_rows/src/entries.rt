@@ -5,7 +5,7 @@ ghost use Rattle.std.specs.FinMap.{entries};
 ghost use Rattle.capi_rows.specs.Listings.{value_by_bytes, extern_row, section_row, zero_terminated};
 ghost use Rattle.std.specs.Option.{option_copied};
 
-use crate::buffers::{Listing, Rows, add_row};
+use crate::buffers::{Listing, RowFrom, add_row};
 use crate::codes::flag;
 use ebpf_base::ByName;
 use ebpf_elf::SectionIndex;
@@ -82,7 +82,7 @@ pub struct ebpf_extern {
     pub has_address: u32,
 }
 
-impl<'a> Rows<Entry<'a, ExternDesc>, ()> for ebpf_extern {
+impl<'a> RowFrom<Entry<'a, ExternDesc>, ()> for ebpf_extern {
     ghost rows_of = { λ _ e name_at. extern_row e.0 e.1 name_at ∷ [] };
 
     ghost text_of = { λ _ e. zero_terminated e.0 };
@@ -120,7 +120,7 @@ pub struct ebpf_section {
     pub number: usize,
 }
 
-impl<'a> Rows<Entry<'a, SectionIndex>, ()> for ebpf_section {
+impl<'a> RowFrom<Entry<'a, SectionIndex>, ()> for ebpf_section {
     ghost rows_of = { λ _ e name_at. section_row e.0 e.1 name_at ∷ [] };
 
     ghost text_of = { λ _ e. zero_terminated e.0 };

@@ -7,7 +7,7 @@ ghost use Rattle.ebpf_parts.specs.Maps.{inner_of};
 ghost use Rattle.capi_rows.specs.MapRows.{map_row, pinning_number, section_kind_number, shape_if, shape_of, type_ids_of};
 ghost use Rattle.capi_rows.specs.Reads.{answer_row, map_named, program_named, row_after};
 
-use crate::buffers::{Listing, Rows, add_row};
+use crate::buffers::{Listing, RowFrom, add_row};
 use crate::codes::{DONE, NO_MAP, NO_PROGRAM, flag};
 use crate::entries::Entry;
 use crate::programs::{ebpf_program, program_row};
@@ -167,7 +167,7 @@ pub fn map_row(types: &Option<Btf>, name: &str, map: &Map, name_at: usize) -> eb
     }
 }
 
-impl<'a> Rows<Entry<'a, Map>, Option<Btf>> for ebpf_map {
+impl<'a> RowFrom<Entry<'a, Map>, Option<Btf>> for ebpf_map {
     ghost rows_of = { λ types e name_at. map_row types e.0 e.1 name_at ∷ [] };
 
     ghost text_of = { λ _ e. zero_terminated e.0 };

@@ -6,7 +6,7 @@ ghost use Rattle.capi_rows.specs.Listings.{zero_terminated};
 ghost use Rattle.capi_rows.specs.InitialSlotRows.{names_program, slot_row, slot_text, target_name};
 ghost use Rattle.capi_rows.specs.ProgramRows.{loading_of, name_of_section_number, program_row, slot_count};
 
-use crate::buffers::{Listing, Rows, add_name, add_row};
+use crate::buffers::{Listing, RowFrom, add_name, add_row};
 use crate::codes::flag;
 use crate::entries::Entry;
 use crate::loading::{Loading, loaded_as, program_kind_number};
@@ -90,7 +90,7 @@ pub fn program_row(object: &Object, name: &str, program: &Program, name_at: usiz
     }
 }
 
-impl<'a> Rows<Entry<'a, Program>, Object> for ebpf_program {
+impl<'a> RowFrom<Entry<'a, Program>, Object> for ebpf_program {
     ghost rows_of = { λ o e name_at. program_row o.functions (entries o.section_infos) e.0 e.1 name_at ∷ [] };
 
     ghost text_of = { λ _ e. zero_terminated e.0 };
@@ -156,7 +156,7 @@ fn slot_row(slot: &InitialSlot, name_at: usize, target_at: usize) -> ebpf_initia
     }
 }
 
-impl Rows<InitialSlot, ()> for ebpf_initial_slot {
+impl RowFrom<InitialSlot, ()> for ebpf_initial_slot {
     ghost rows_of = { λ _ s at. slot_row s at (at + length (zero_terminated s.map)) ∷ [] };
 
     ghost text_of = { λ _ s. slot_text s };

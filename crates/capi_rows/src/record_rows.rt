@@ -4,7 +4,7 @@ ghost use Rattle.std.specs.Prelude.{◌≡◌, ◌∷◌, [], IfOk};
 ghost use Rattle.capi_rows.specs.Listings.{zero_terminated};
 ghost use Rattle.capi_rows.specs.Records.{absence_number, absence_of_result, fault_of_result, outcome_row, result_number, section_name_in, slot_or_zeros, value_of, copy_row, reference_row, reference_rows};
 
-use crate::buffers::{Listing, Rows, add_row};
+use crate::buffers::{Listing, RowFrom, add_row};
 use crate::codes::flag;
 use crate::refusals::record_fault;
 use ebpf_base::{Items, Text};
@@ -144,7 +144,7 @@ fn outcome_row(name: &str, outcome: &RecordOutcome, name_at: usize) -> ebpf_reco
     }
 }
 
-impl Rows<RecordOutcome, Option<Btf>> for ebpf_record_outcome {
+impl RowFrom<RecordOutcome, Option<Btf>> for ebpf_record_outcome {
     ghost rows_of = { λ types r name_at. outcome_row (section_name_in types r.section_name) r name_at ∷ [] };
 
     ghost text_of = { λ types r. zero_terminated (section_name_in types r.section_name) };
@@ -192,7 +192,7 @@ pub struct ebpf_code_reference {
     pub is_call: u32,
 }
 
-impl Rows<CodeCopy, ()> for ebpf_code_copy {
+impl RowFrom<CodeCopy, ()> for ebpf_code_copy {
     ghost rows_of = { λ _ c name_at. copy_row c name_at ∷ [] };
 
     ghost text_of = { λ _ c. zero_terminated c.name };

@@ -12,7 +12,7 @@ ghost use Rattle.capi_rows.specs.Answers.{FillsList, or_memory, found_list};
 ghost use Rattle.ebpf_parts.specs.Maps.{section_index_of};
 ghost use Rattle.capi_rows.specs.Reads.{or_number};
 
-use crate::buffers::{Listing, Rows, add_name, add_row, write_list};
+use crate::buffers::{Listing, RowFrom, add_name, add_row, write_list};
 use crate::codes::{MEMORY, NO_VARIABLE, flag};
 use crate::entries::Entry;
 use crate::reads::{name_in, text_of};
@@ -158,7 +158,7 @@ fn has_sign(kind: KconfigType) -> bool
     }
 }
 
-impl Rows<KconfigExtern, ()> for ebpf_kconfig_extern {
+impl RowFrom<KconfigExtern, ()> for ebpf_kconfig_extern {
     ghost rows_of = { λ _ e name_at. kconfig_row e name_at ∷ [] };
 
     ghost text_of = { λ _ e. zero_terminated e.name };
@@ -343,7 +343,7 @@ fn push_variable(
     Ok(())
 }
 
-impl<'a> Rows<Entry<'a, usize>, Object> for ebpf_variable {
+impl<'a> RowFrom<Entry<'a, usize>, Object> for ebpf_variable {
     ghost rows_of = { λ o e at. row_if e.0 (variable_at o.symbol_table (entries o.maps) e.1) at };
 
     ghost text_of = { λ o e. text_if e.0 (variable_at o.symbol_table (entries o.maps) e.1) };

@@ -16,7 +16,7 @@ use Rattle.ebpf_base.specs.Maps.{key_cmp}
 use Rattle.ebpf_model.specs.declared.function.Function.{Function}
 use Rattle.ebpf_object.specs.WrittenSlots.{with_externs}
 use Rattle.cli_list.specs.Listings.{IsLayout, IsOfCopies, IsOfOne, AreObjectLayouts, IsListed, IsListing, IsWanted, WritesExterns, with_known}
-use Rattle.cli_list.specs.declared.layout.ProgramLayout.{ProgramLayout}
+use Rattle.cli_list.specs.declared.layout.ListedLayout.{ListedLayout}
 use Rattle.cli_list.specs.declared.listing.ObjectListing.{ObjectListing}
 use Rattle.cli_list.specs.declared.listing.ObjectContents.{ObjectContents}
 
@@ -29,7 +29,7 @@ MapAnswer = Result (Option LinkMap) EbpfRelocationError
 abbrev pub Promised : Object → LinkableValue → List ℕ → MapAnswer → Option Program → Type 0
 Promised o parts name r found = MatchOption found (r ≡ Ok None) (λ x. MapsProgram parts (program_value name x) r)
 
-module _ (o : Object) (p : ObjectProgram) (l : ProgramLayout) where
+module _ (o : Object) (p : ObjectProgram) (l : ListedLayout) where
   found_map : (found : Option Program) → get o.programs p.name ≡ found → (m : Option LinkMap) → Promised o (linkable o) p.name (Ok m) found
       → MatchOption m (IsOfOne p l) (λ m. IsOfCopies m.copies l) → IsLayout o p l
   found_map None lacks None given made = inr (inr (record { lacks = lacks; own = made }))
@@ -81,17 +81,17 @@ keeps : (o : Object) (settings : List (List ℕ)) (after : Object) (is_written :
 keeps o settings after true is = subst (λ (a : Object). Keeps o a) (sym is) (keeps_written o settings)
 keeps o settings after false is = subst (λ (a : Object). Keeps o a) (sym is.0) (keeps_known o settings)
 
-pub listed : (parsed o : Object) (w : ObjectContents) (made : List ProgramLayout) (l : ObjectListing) → IsWanted parsed w → AreObjectLayouts parsed w o made → IsListing o w made l → IsListed parsed l
+pub listed : (parsed o : Object) (w : ObjectContents) (made : List ListedLayout) (l : ObjectListing) → IsWanted parsed w → AreObjectLayouts parsed w o made → IsListing o w made l → IsListed parsed l
 listed parsed o w made l wanted layouts is =
     let here : AreObjectLayouts parsed l.wanted.now l.object.now l.layouts.now =
     subst (λ (x : Object). AreObjectLayouts parsed l.wanted.now x l.layouts.now) (sym is.object)
     (subst (λ (x : ObjectContents). AreObjectLayouts parsed x o l.layouts.now) (sym is.wanted)
-    (subst (λ (x : List ProgramLayout). AreObjectLayouts parsed w o x) (sym is.layouts) layouts))
+    (subst (λ (x : List ListedLayout). AreObjectLayouts parsed w o x) (sym is.layouts) layouts))
     in
     let told : IsListing l.object.now l.wanted.now l.layouts.now l =
     subst (λ (x : Object). IsListing x l.wanted.now l.layouts.now l) (sym is.object)
     (subst (λ (x : ObjectContents). IsListing o x l.layouts.now l) (sym is.wanted)
-    (subst (λ (x : List ProgramLayout). IsListing o w x l) (sym is.layouts) is))
+    (subst (λ (x : List ListedLayout). IsListing o w x l) (sym is.layouts) is))
     in
     record {
       object = keeps parsed l.wanted.now.settings l.object.now here.is_written here.written;

@@ -23,7 +23,7 @@ use Rattle.cli_common.specs.HelperCalls.{calls_helper, helper_set, helpers_calle
 use Rattle.cli_common.specs.declared.map_uses.MapUse.{MapUse}
 use Rattle.cli_list.specs.PrivateContracts.{ends_in, is_number, noted, users_from, with_user, with_users, reached_keys, helpers_of, keys_or_none, names_of, names_or_none, use_names}
 use Rattle.cli_list.specs.Listings.{if_any, numbers_of, is_reached, reaches, AreUsers, calls, has_use, uses_map}
-use Rattle.cli_list.specs.declared.layout.ProgramLayout.{ProgramLayout}
+use Rattle.cli_list.specs.declared.layout.ListedLayout.{ListedLayout}
 
 -- ---- the programs that use something, noted one after the other as their numbers rise.
 
@@ -107,13 +107,13 @@ module _ {K : Type 0} {R : K → K → Ordering} (o : IsTotalOrder R) (exact : I
           stays n us (with_user n users u) (xs ++ n ∷ []) noted_here (ends_in-push xs n n ∙ eq-eqb n n refl)
       by_key others false e = others (after ∙ ap (λ b. cond b (Some (noted (unwrap_or (get users u) []) n)) (get users q)) e ∙ here) fresh
 
-  module _ (used : ProgramLayout → List K) where
+  module _ (used : ListedLayout → List K) where
     -- the numbers of those of some programs that use it
-    abbrev numbers_from : ℕ → List ProgramLayout → List ℕ
+    abbrev numbers_from : ℕ → List ListedLayout → List ℕ
     numbers_from n ls = map (λ e. e.0) (filter (λ e. list_any (eq_by_cmp R q) (used e.1)) (enumerate_from n ls))
 
     -- all programs, one after the other
-    all_programs : (ls : List ProgramLayout) (n : ℕ) (users : FinMap R (List ℕ)) (xs : List ℕ) → get users q ≡ if_any xs → IsBelow xs n
+    all_programs : (ls : List ListedLayout) (n : ℕ) (users : FinMap R (List ℕ)) (xs : List ℕ) → get users q ≡ if_any xs → IsBelow xs n
         → get (users_from used n users ls) q ≡ if_any (xs ++ numbers_from n ls)
     all_programs [] n users xs here below = here ∙ ap if_any (sym (append-nil xs))
     all_programs (l ∷ ls) n users xs here below =
@@ -125,7 +125,7 @@ module _ {K : Type 0} {R : K → K → Ordering} (o : IsTotalOrder R) (exact : I
         by_test others true is = others (xs ++ n ∷ []) (is ∙ some_is_any xs n) (pushed_below xs n) ∙ ap if_any (append_assoc xs (n ∷ []) (numbers_from (n + 1) ls))
         by_test others false is = others xs is (still_below xs n below)
 
-    pub users_stand : (layouts : List ProgramLayout) → get {R = R} (users_from used 0 empty layouts) q ≡ if_any (numbers_of (λ l. list_any (eq_by_cmp R q) (used l)) layouts)
+    pub users_stand : (layouts : List ListedLayout) → get {R = R} (users_from used 0 empty layouts) q ≡ if_any (numbers_of (λ l. list_any (eq_by_cmp R q) (used l)) layouts)
     users_stand layouts = all_programs layouts 0 empty [] (get-empty R q) (λ m above. ends_in-empty m)
 
 -- ---- whether something passes among the lists that items give.
@@ -139,7 +139,7 @@ list_any-flat_map p g h is (x ∷ xs) =
 
 -- ---- the functions that programs reach, gathered as a set of keys
 
-module _ (layouts : List ProgramLayout) (reached : BTreeSet FunctionKey) (is : reached.keys ≡ fold (insert_key key_cmp) [] (reached_keys layouts)) where
+module _ (layouts : List ListedLayout) (reached : BTreeSet FunctionKey) (is : reached.keys ≡ fold (insert_key key_cmp) [] (reached_keys layouts)) where
   reached_stands : (key : FunctionKey) → contains key_cmp reached key ≡ is_reached layouts key
   reached_stands key =
       ap (list_any (eq_by_cmp key_cmp key)) is
@@ -186,7 +186,7 @@ module _ {A B : Type 0} (R : A → B → Type 0) (xs : List A) where
 -- ---- which programs use what, from what each function that they reach uses.
 
 -- programs that the same tests pass
-same_numbers : (f g : ProgramLayout → Bool) → ((l : ProgramLayout) → f l ≡ g l) → (layouts : List ProgramLayout) → numbers_of f layouts ≡ numbers_of g layouts
+same_numbers : (f g : ListedLayout → Bool) → ((l : ListedLayout) → f l ≡ g l) → (layouts : List ListedLayout) → numbers_of f layouts ≡ numbers_of g layouts
 same_numbers f g is layouts = ap (map (λ e. e.0)) (filter-same (λ e. f e.1) (λ e. g e.1) (enumerate_from 0 layouts) (λ e. is e.1))
 
 -- ---- helper functions
@@ -205,14 +205,14 @@ helpers_found helper (Some f) =
     member-insert_keys {R = nat_cmp} nat_cmp-IsAntisymmetric helper [] (helpers_called f.instructions)
     ∙ any_number helper (helpers_called f.instructions)
 
-helpers_used : (o : Object) (helper : ℕ) (l : ProgramLayout) → list_any (eq_by_cmp nat_cmp helper) (helpers_of (map_values helper_set o.functions) l) ≡ calls o helper l
+helpers_used : (o : Object) (helper : ℕ) (l : ListedLayout) → list_any (eq_by_cmp nat_cmp helper) (helpers_of (map_values helper_set o.functions) l) ≡ calls o helper l
 unfolding helpers_of
 helpers_used o helper l =
     list_any-flat_map (eq_by_cmp nat_cmp helper) (λ key. keys_or_none (get (map_values helper_set o.functions) key)) (λ key. calls_helper (get o.functions key) helper)
     (λ key. ap (λ found. list_any (eq_by_cmp nat_cmp helper) (keys_or_none found)) (get-map_values helper_set o.functions key) ∙ helpers_found helper (get o.functions key))
     l.functions.items
 
-pub helper_users_stand : (o : Object) (layouts : List ProgramLayout) → AreUsers {R = nat_cmp} (calls o) layouts (users_from (helpers_of (map_values helper_set o.functions)) 0 empty layouts)
+pub helper_users_stand : (o : Object) (layouts : List ListedLayout) → AreUsers {R = nat_cmp} (calls o) layouts (users_from (helpers_of (map_values helper_set o.functions)) 0 empty layouts)
 helper_users_stand o layouts helper =
     users_stand {R = nat_cmp} nat_cmp_total nat_cmp-IsAntisymmetric helper (helpers_of (map_values helper_set o.functions)) layouts
     ∙ ap if_any (same_numbers _ (calls o helper) (helpers_used o helper) layouts)
@@ -227,13 +227,13 @@ names_found : (name : List ℕ) (found : Option (List MapUse)) → list_any (eq_
 names_found name None = refl
 names_found name (Some uses) = any_name name uses
 
-names_used : (uses : FinMap key_cmp (List MapUse)) (name : List ℕ) (l : ProgramLayout) → list_any (eq_by_cmp text_cmp name) (names_of uses l) ≡ uses_map uses name l
+names_used : (uses : FinMap key_cmp (List MapUse)) (name : List ℕ) (l : ListedLayout) → list_any (eq_by_cmp text_cmp name) (names_of uses l) ≡ uses_map uses name l
 unfolding names_of
 names_used uses name l =
     list_any-flat_map (eq_by_cmp text_cmp name) (λ key. names_or_none (get uses key)) (λ key. has_use (get uses key) name)
     (λ key. names_found name (get uses key)) l.functions.items
 
-pub map_users_stand : (uses : FinMap key_cmp (List MapUse)) (layouts : List ProgramLayout) → AreUsers {R = text_cmp} (uses_map uses) layouts (users_from (names_of uses) 0 empty layouts)
+pub map_users_stand : (uses : FinMap key_cmp (List MapUse)) (layouts : List ListedLayout) → AreUsers {R = text_cmp} (uses_map uses) layouts (users_from (names_of uses) 0 empty layouts)
 map_users_stand uses layouts name =
     users_stand {R = text_cmp} text_total text_exact name (names_of uses) layouts
     ∙ ap if_any (same_numbers _ (uses_map uses name) (names_used uses name) layouts)

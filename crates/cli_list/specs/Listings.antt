@@ -28,7 +28,7 @@ use Rattle.cli_common.specs.HelperCalls.{calls_helper}
 use Rattle.cli_common.specs.declared.map_uses.MapUse.{MapUse}
 use Rattle.cli_common.specs.FunctionMaps.{function_maps}
 use Rattle.cli_list.specs.declared.listing.Extern.{Extern}
-use Rattle.cli_list.specs.declared.layout.ProgramLayout.{ProgramLayout}
+use Rattle.cli_list.specs.declared.layout.ListedLayout.{ListedLayout}
 use Rattle.cli_list.specs.declared.listing.ObjectListing.{ObjectListing}
 use Rattle.cli_list.specs.declared.listing.ObjectContents.{ObjectContents}
 
@@ -70,17 +70,17 @@ WritesExterns before settings after is_written =
 -- ---- what the programs of an object are made of.
 
 -- the slots of these copies, which are those of the linked program (`MatchesLinked`), and their functions
-pub record IsOfCopies (copies : List CodeCopy) (l : ProgramLayout) : Type 0 where
+pub record IsOfCopies (copies : List CodeCopy) (l : ListedLayout) : Type 0 where
   pub slots : l.slots ≡ Some (min (copied_slot_count (map copy_of copies)) (2 ^ 64 - 1))
   pub functions : l.functions.items ≡ map (λ c. c.key) copies
 
 -- the program's own function alone
-pub record IsOfOne (p : ObjectProgram) (l : ProgramLayout) : Type 0 where
+pub record IsOfOne (p : ObjectProgram) (l : ListedLayout) : Type 0 where
   pub slots : l.slots ≡ None
   pub functions : l.functions.items ≡ p.key ∷ []
 
 -- a program that can be linked: the copies of its link map, its own function first
-pub record IsLinkedLayout (o : Object) (p : ObjectProgram) (l : ProgramLayout) : Type 0 where
+pub record IsLinkedLayout (o : Object) (p : ObjectProgram) (l : ListedLayout) : Type 0 where
   pub program : Program
   pub stands : get o.programs p.name ≡ Some program
   pub link_map : LinkMap
@@ -88,7 +88,7 @@ pub record IsLinkedLayout (o : Object) (p : ObjectProgram) (l : ProgramLayout) :
   pub copies : IsOfCopies link_map.copies l
 
 -- one that linking refuses
-pub record IsRefusedLayout (o : Object) (p : ObjectProgram) (l : ProgramLayout) : Type 0 where
+pub record IsRefusedLayout (o : Object) (p : ObjectProgram) (l : ListedLayout) : Type 0 where
   pub program : Program
   pub stands : get o.programs p.name ≡ Some program
   pub error : EbpfRelocationError
@@ -96,35 +96,35 @@ pub record IsRefusedLayout (o : Object) (p : ObjectProgram) (l : ProgramLayout) 
   pub own : IsOfOne p l
 
 -- one that the object lacks
-pub record IsLackingLayout (o : Object) (p : ObjectProgram) (l : ProgramLayout) : Type 0 where
+pub record IsLackingLayout (o : Object) (p : ObjectProgram) (l : ListedLayout) : Type 0 where
   pub lacks : get o.programs p.name ≡ None
   pub own : IsOfOne p l
 
-abbrev pub IsLayout : Object → ObjectProgram → ProgramLayout → Type 0
+abbrev pub IsLayout : Object → ObjectProgram → ListedLayout → Type 0
 IsLayout o p l = IsLinkedLayout o p l ⊎ (IsRefusedLayout o p l ⊎ IsLackingLayout o p l)
 
 -- a layout of each program, in their order
-abbrev pub AreLayouts : Object → List ObjectProgram → List ProgramLayout → Type 0
+abbrev pub AreLayouts : Object → List ObjectProgram → List ListedLayout → Type 0
 AreLayouts o programs layouts = AllZip (IsLayout o) programs layouts
 
 -- ---- the functions that programs reach, by their layouts.
 
 -- whether a program reaches the function at a key
-abbrev pub reaches : ProgramLayout → FunctionKey → Bool
+abbrev pub reaches : ListedLayout → FunctionKey → Bool
 reaches layout key = list_any (eq_by_cmp key_cmp key) layout.functions.items
 
 -- whether some program does
-abbrev pub is_reached : List ProgramLayout → FunctionKey → Bool
+abbrev pub is_reached : List ListedLayout → FunctionKey → Bool
 is_reached layouts key = list_any (λ layout. reaches layout key) layouts
 
 -- the keys of the functions that none reaches, in their order
-abbrev pub unreached_keys : Object → List ProgramLayout → List FunctionKey
+abbrev pub unreached_keys : Object → List ListedLayout → List FunctionKey
 unreached_keys o layouts = filter (λ key. not (is_reached layouts key)) (keys_of (entries o.functions))
 
 -- ---- which programs use what: those of which some function that they reach does.
 
 -- the numbers of the programs whose layouts pass a test, from 0 on, rising
-abbrev pub numbers_of : (ProgramLayout → Bool) → List ProgramLayout → List ℕ
+abbrev pub numbers_of : (ListedLayout → Bool) → List ListedLayout → List ℕ
 numbers_of uses layouts = map (λ e. e.0) (filter (λ e. uses e.1) (enumerate_from 0 layouts))
 
 abbrev pub if_any : List ℕ → Option (List ℕ)
@@ -132,11 +132,11 @@ if_any [] = None
 if_any (n ∷ ns) = Some (n ∷ ns)
 
 -- at each thing the numbers of the programs that use it, where some does
-abbrev pub AreUsers : {K : Type 0} {R : K → K → Ordering} → (K → ProgramLayout → Bool) → List ProgramLayout → FinMap R (List ℕ) → Type 0
+abbrev pub AreUsers : {K : Type 0} {R : K → K → Ordering} → (K → ListedLayout → Bool) → List ListedLayout → FinMap R (List ℕ) → Type 0
 AreUsers {K} uses layouts users = (used : K) → get users used ≡ if_any (numbers_of (uses used) layouts)
 
 -- whether some function that a program reaches calls a helper function
-abbrev pub calls : Object → ℕ → ProgramLayout → Bool
+abbrev pub calls : Object → ℕ → ListedLayout → Bool
 calls o helper layout = list_any (λ key. calls_helper (get o.functions key) helper) layout.functions.items
 
 -- whether the map of a name is among those that a function uses
@@ -145,7 +145,7 @@ has_use None name = false
 has_use (Some uses) name = list_any (λ u. eq_by_cmp text_cmp name u.name) uses
 
 -- whether some function that a program reaches uses a map, by the maps that each function uses
-abbrev pub uses_map : FinMap key_cmp (List MapUse) → List ℕ → ProgramLayout → Bool
+abbrev pub uses_map : FinMap key_cmp (List MapUse) → List ℕ → ListedLayout → Bool
 uses_map uses name layout = list_any (λ key. has_use (get uses key) name) layout.functions.items
 
 -- ---- what `ebpf list` writes from: the object's tables, row by row, in their order. The maps are read of the object itself.
@@ -160,14 +160,14 @@ pub record IsWanted (o : Object) (w : ObjectContents) : Type 0 where
 
 -- what each of its programs is made of, once its externs are written as if a kernel had them all; a program alone where one
 -- of them can't be written
-pub record AreObjectLayouts (before : Object) (w : ObjectContents) (after : Object) (made : List ProgramLayout) : Type 0 where
+pub record AreObjectLayouts (before : Object) (w : ObjectContents) (after : Object) (made : List ListedLayout) : Type 0 where
   pub is_written : Bool
   pub written : WritesExterns before w.settings after is_written
   pub each : MatchBool is_written (AreLayouts after w.programs.items made) (AllZip IsOfOne w.programs.items made)
 
 -- what is told of an object with these layouts: which of its programs use which maps and helper functions, and the functions
 -- that none of them reaches
-pub record IsListing (o : Object) (w : ObjectContents) (made : List ProgramLayout) (l : ObjectListing) : Type 0 where
+pub record IsListing (o : Object) (w : ObjectContents) (made : List ListedLayout) (l : ObjectListing) : Type 0 where
   pub object : l.object.now ≡ o
   pub wanted : l.wanted.now ≡ w
   pub layouts : l.layouts.now ≡ made

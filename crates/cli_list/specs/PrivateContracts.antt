@@ -8,7 +8,7 @@ use Rattle.std.specs.declared.cmp.Ordering.{Ordering}
 use Rattle.ebpf_base.specs.Maps.{key_cmp}
 use Rattle.ebpf_ext.specs.declared.relocation.Relocation.{Relocation}
 use Rattle.cli_list.specs.RecordCounts.{asks, count_at}
-use Rattle.cli_list.specs.declared.layout.ProgramLayout.{ProgramLayout}
+use Rattle.cli_list.specs.declared.layout.ListedLayout.{ListedLayout}
 use Rattle.ebpf_model.specs.Symbols.{FunctionKey}
 use Rattle.cli_common.specs.declared.kinds.Kind.{Kind}
 use Rattle.cli_common.specs.declared.map_uses.MapUse.{MapUse}
@@ -41,7 +41,7 @@ module _ {K : Type 0} {R : K → K → Ordering} where
   with_users n users used = fold (with_user n) users used
 
   -- with the programs of these layouts, whose numbers begin at n, as users of what each uses
-  abbrev pub users_from : (ProgramLayout → List K) → ℕ → FinMap R (List ℕ) → List ProgramLayout → FinMap R (List ℕ)
+  abbrev pub users_from : (ListedLayout → List K) → ℕ → FinMap R (List ℕ) → List ListedLayout → FinMap R (List ℕ)
   users_from used n users [] = users
   users_from used n users (l ∷ ls) = users_from used (n + 1) (with_users n users (used l)) ls
 
@@ -54,7 +54,7 @@ keys_or_none (Some s) = s.keys
 abbrev pub helpers_at : FinMap key_cmp (BTreeSet ℕ) → List FunctionKey → List ℕ
 helpers_at helpers keys = flat_map (λ key. keys_or_none (get helpers key)) keys
 
-unfoldable pub helpers_of : FinMap key_cmp (BTreeSet ℕ) → ProgramLayout → List ℕ
+unfoldable pub helpers_of : FinMap key_cmp (BTreeSet ℕ) → ListedLayout → List ℕ
 helpers_of helpers layout = helpers_at helpers layout.functions.items
 
 abbrev pub use_names : List MapUse → List (List ℕ)
@@ -67,12 +67,12 @@ names_or_none (Some uses) = use_names uses
 abbrev pub names_at : FinMap key_cmp (List MapUse) → List FunctionKey → List (List ℕ)
 names_at uses keys = flat_map (λ key. names_or_none (get uses key)) keys
 
-unfoldable pub names_of : FinMap key_cmp (List MapUse) → ProgramLayout → List (List ℕ)
+unfoldable pub names_of : FinMap key_cmp (List MapUse) → ListedLayout → List (List ℕ)
 names_of uses layout = names_at uses layout.functions.items
 
 -- ---- the functions that programs reach
 
-abbrev pub reached_keys : List ProgramLayout → List FunctionKey
+abbrev pub reached_keys : List ListedLayout → List FunctionKey
 reached_keys layouts = flat_map (λ l. l.functions.items) layouts
 
 -- ---- records, counted one after the other

@@ -1,6 +1,6 @@
 //! What `ebpf list --json` prints.
 
-use crate::layout::ProgramLayout;
+use crate::layout::ListedLayout;
 use crate::listing::{Extern, ObjectListing};
 use crate::text::{extern_word, order_word, pinning_word};
 use cli_common::helper_calls::write_helper;
@@ -15,7 +15,7 @@ fn write_program<W: Write>(
     json: &mut JsonWriter<'_, W>,
     listing: &ObjectListing<'_>,
     program: &ObjectProgram,
-    layout: &ProgramLayout,
+    layout: &ListedLayout,
 ) -> io::Result<()> {
     program.write_json(json)?;
     json.member("slots", listing.slots_of(program.key))?;

@@ -24,7 +24,7 @@ use std::collections::BTreeSet;
 
 /// What a program is made of.
 #[derive(Drop)]
-pub struct ProgramLayout {
+pub struct ListedLayout {
     /// The slots of the linked program. None where linking refuses.
     pub slots: Option<usize>,
     /// The keys of the functions that it reaches, its own first; where linking refuses its own alone.
@@ -32,19 +32,19 @@ pub struct ProgramLayout {
 }
 
 /// A program of one function, which can't be linked.
-fn unlinked(alloc: Global, program: &ObjectProgram) -> Result<ProgramLayout, AllocError>
+fn unlinked(alloc: Global, program: &ObjectProgram) -> Result<ListedLayout, AllocError>
     ensures { IfOk result (λ l. IsOfOne program.now l) }
 {
     let mut functions = Vec::new(alloc);
     functions.push(program.key)?;
-    Ok(ProgramLayout {
+    Ok(ListedLayout {
         slots: None,
         functions,
     })
 }
 
 /// What a linked program is made of, by its copies of functions.
-fn linked(alloc: Global, copies: &[CodeCopy]) -> Result<ProgramLayout, AllocError>
+fn linked(alloc: Global, copies: &[CodeCopy]) -> Result<ListedLayout, AllocError>
     ensures { IfOk result (λ l. IsOfCopies copies.now l) }
 {
     let mut functions = Vec::with_capacity(alloc, copies.len())?;
@@ -53,7 +53,7 @@ fn linked(alloc: Global, copies: &[CodeCopy]) -> Result<ProgramLayout, AllocErro
         functions.push(copy.key)?;
         slots = slots.saturating_add(copy.slots);
     }
-    Ok(ProgramLayout {
+    Ok(ListedLayout {
         slots: Some(slots),
         functions,
     })
@@ -64,7 +64,7 @@ fn layout_of_map(
     alloc: Global,
     map: Option<LinkMap>,
     program: &ObjectProgram,
-) -> Result<ProgramLayout, AllocError>
+) -> Result<ListedLayout, AllocError>
     ensures { IfOk result (λ l. MatchOption map (IsOfOne program.now l) (λ m. IsOfCopies m.copies l)) }
 {
     match map {
@@ -78,7 +78,7 @@ fn refused_layout(
     alloc: Global,
     error: &EbpfRelocationError,
     program: &ObjectProgram,
-) -> Result<ProgramLayout, AllocError>
+) -> Result<ListedLayout, AllocError>
     ensures { IfOk result (λ l. (is_memory_at error.now ≡ false) × IsOfOne program.now l) }
 {
     if is_memory(error) {
@@ -92,7 +92,7 @@ fn layout_of(
     alloc: Global,
     maps: &ProgramMaps<'_>,
     program: &ObjectProgram,
-) -> Result<ProgramLayout, AllocError>
+) -> Result<ListedLayout, AllocError>
     requires { read maps.now.functions.parts ≡ linkable maps.now.object.now }
     ensures { IfOk result (λ l. IsLayout maps.now.object.now program.now l) }
 {
@@ -106,7 +106,7 @@ fn layout_of(
 pub fn unlinked_layouts(
     alloc: Global,
     programs: &[ObjectProgram],
-) -> Result<Items<ProgramLayout>, AllocError>
+) -> Result<Items<ListedLayout>, AllocError>
     ensures { IfOk result (λ all. AllZip IsOfOne programs.now all) }
 {
     let mut all = Items::new(alloc);
@@ -121,7 +121,7 @@ fn layouts_in(
     alloc: Global,
     maps: &ProgramMaps<'_>,
     programs: &[ObjectProgram],
-) -> Result<Items<ProgramLayout>, AllocError>
+) -> Result<Items<ListedLayout>, AllocError>
     requires { read maps.now.functions.parts ≡ linkable maps.now.object.now }
     ensures { IfOk result (λ all. AreLayouts maps.now.object.now programs.now all) }
 {
@@ -137,7 +137,7 @@ pub fn layouts(
     alloc: Global,
     object: &Object,
     programs: &[ObjectProgram],
-) -> Result<Items<ProgramLayout>, AllocError>
+) -> Result<Items<ListedLayout>, AllocError>
     ensures { IfOk result (λ all. AreLayouts object.now programs.now all) }
 {
     let sections = object.text_sections(alloc)?;
@@ -153,7 +153,7 @@ pub fn layouts_if(
     object: &Object,
     programs: &[ObjectProgram],
     is_written: bool,
-) -> Result<Items<ProgramLayout>, AllocError>
+) -> Result<Items<ListedLayout>, AllocError>
     ensures { IfOk result (λ all. MatchBool is_written (AreLayouts object.now programs.now all) (AllZip IsOfOne programs.now all)) }
 {
     if is_written {
@@ -179,7 +179,7 @@ fn add_reached(
 /// The keys of the functions that some program reaches.
 fn reached_by_some(
     alloc: Global,
-    layouts: &[ProgramLayout],
+    layouts: &[ListedLayout],
 ) -> Result<BTreeSet<(usize, u64)>, AllocError>
     ensures { IfOk result (λ reached. reached.keys ≡ fold (insert_key key_cmp) [] (reached_keys layouts.now)) }
 {
@@ -212,7 +212,7 @@ fn keys_beside(
 pub fn unreached(
     alloc: Global,
     object: &Object,
-    layouts: &[ProgramLayout],
+    layouts: &[ListedLayout],
 ) -> Result<Vec<(usize, u64)>, AllocError>
     ensures { IfOk result (λ keys. keys.items ≡ unreached_keys object.now layouts.now) }
 {

@@ -5,7 +5,7 @@ ghost use Rattle.std.specs.Option.{option_copied};
 ghost use Rattle.cli_list.specs.Listings.{extern_row, extern_rows, is_func, is_function, AreObjectLayouts, IsListed, IsListing, IsWanted};
 ghost use Rattle.ebpf_object.specs.declared.object.Object.{Object};
 
-use crate::layout::{ProgramLayout, layouts_if, unreached, write_externs};
+use crate::layout::{ListedLayout, layouts_if, unreached, write_externs};
 use crate::records::{RecordGroup, counted_records};
 use crate::users::{helper_users, map_users};
 use cli_common::map_uses::{MapUse, map_uses};
@@ -83,7 +83,7 @@ pub struct ObjectListing<'a> {
     /// What stood in it.
     pub wanted: &'a ObjectContents,
     /// What each program is made of, in the order of the programs.
-    pub layouts: &'a Items<ProgramLayout>,
+    pub layouts: &'a Items<ListedLayout>,
     /// The programs that use a map, by the map's name.
     pub map_users: ByName<Items<usize>>,
     /// The programs that call a helper function, by its number.
@@ -185,7 +185,7 @@ pub fn layouts_of(
     alloc: Global,
     object: &mut Object,
     wanted: &ObjectContents,
-) -> Result<Items<ProgramLayout>, AllocError>
+) -> Result<Items<ListedLayout>, AllocError>
     ensures { IfOk result (λ layouts. AreObjectLayouts object.old wanted.now object.new layouts) }
 {
     let is_written = write_externs(alloc, object, wanted.settings.as_slice())?;
@@ -197,7 +197,7 @@ pub fn listing_of<'a>(
     alloc: Global,
     object: &'a Object,
     wanted: &'a ObjectContents,
-    layouts: &'a Items<ProgramLayout>,
+    layouts: &'a Items<ListedLayout>,
 ) -> Result<ObjectListing<'a>, AllocError>
     ensures tables { IfOk result (λ listing. IsListing object.now wanted.now layouts.now listing) }
     ensures listed { (parsed : Object) → IsWanted parsed wanted.now → AreObjectLayouts parsed wanted.now object.now layouts.now → IfOk result (λ listing. IsListed parsed listing) }

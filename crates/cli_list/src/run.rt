@@ -1,7 +1,7 @@
 //! The command `ebpf list`.
 
 use crate::json::write_json;
-use crate::layout::ProgramLayout;
+use crate::layout::ListedLayout;
 use crate::listing::{ObjectContents, layouts_of, listing_of, wanted_by};
 use crate::text::write_listing;
 use cli_common::object_file::{parsed_object, read_object};
@@ -27,7 +27,7 @@ fn tell(
     words: &ListWords,
     object: &Object,
     wanted: &ObjectContents,
-    layouts: &Items<ProgramLayout>,
+    layouts: &Items<ListedLayout>,
 ) -> Result<(), Stop> {
     let alloc = rt.alloc();
     let listing = listing_of(alloc, object, wanted, layouts)?;

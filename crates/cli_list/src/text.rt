@@ -1,6 +1,6 @@
 //! What `ebpf list` prints for people.
 
-use crate::layout::ProgramLayout;
+use crate::layout::ListedLayout;
 use crate::listing::{Extern, ObjectListing, ShownBytes};
 use cli_common::names::EscapedName;
 use cli_common::programs::ObjectProgram;
@@ -71,7 +71,7 @@ const PROGRAMS: [Column; 6] = [
 ];
 
 /// The slots of a linked program, and how many functions it reaches.
-fn push_layout(table: &mut Table<'_>, layout: &ProgramLayout) -> Result<(), AllocError> {
+fn push_layout(table: &mut Table<'_>, layout: &ListedLayout) -> Result<(), AllocError> {
     match layout.slots {
         Some(slots) => {
             table.push_number(slots)?;
@@ -89,7 +89,7 @@ fn push_program(
     table: &mut Table<'_>,
     own: usize,
     program: &ObjectProgram,
-    layout: &ProgramLayout,
+    layout: &ListedLayout,
 ) -> Result<(), AllocError> {
     let section = program.section.as_str();
     table.push_number(own)?;

@@ -5,7 +5,7 @@ ghost use Rattle.cli_list.specs.PrivateContracts.{helpers_at, helpers_of, users_
 ghost use Rattle.cli_list.specs.Listings.{AreUsers, calls, uses_map};
 ghost use Rattle.std.specs.FinMap as finite;
 
-use crate::layout::ProgramLayout;
+use crate::layout::ListedLayout;
 use cli_common::helper_calls::helpers_by_function;
 use cli_common::map_uses::MapUse;
 use ebpf_base::{ByKey, ByName, ByNumber, Items};
@@ -71,7 +71,7 @@ fn add_helpers_at(
 fn callers(
     alloc: Global,
     by_function: &ByKey<BTreeSet<u32>>,
-    layouts: &[ProgramLayout],
+    layouts: &[ListedLayout],
 ) -> Result<ByNumber<Items<usize>>, AllocError>
     ensures { IfOk result (λ users. users ≡ users_from (helpers_of by_function.now) 0 finite.empty layouts.now) }
 {
@@ -87,7 +87,7 @@ fn callers(
 pub fn helper_users(
     alloc: Global,
     object: &Object,
-    layouts: &[ProgramLayout],
+    layouts: &[ListedLayout],
 ) -> Result<ByNumber<Items<usize>>, AllocError>
     ensures { IfOk result (λ users. AreUsers (calls object.now) layouts.now users) }
 {
@@ -154,7 +154,7 @@ fn add_maps_at(
 fn users_of_maps(
     alloc: Global,
     uses: &ByKey<Items<MapUse>>,
-    layouts: &[ProgramLayout],
+    layouts: &[ListedLayout],
 ) -> Result<ByName<Items<usize>>, AllocError>
     ensures { IfOk result (λ users. users ≡ users_from (names_of uses.now) 0 finite.empty layouts.now) }
 {
@@ -170,7 +170,7 @@ fn users_of_maps(
 pub fn map_users(
     alloc: Global,
     uses: &ByKey<Items<MapUse>>,
-    layouts: &[ProgramLayout],
+    layouts: &[ListedLayout],
 ) -> Result<ByName<Items<usize>>, AllocError>
     ensures { IfOk result (λ users. AreUsers (uses_map uses.now) layouts.now users) }
 {

@@ -47,18 +47,18 @@ fn show_outcome<T: Shown, E: Display + Drop>(
 }
 
 /// What is printed of why an object stayed as it was.
-trait Refusal {
+trait Refused {
     fn show_refusal(&self, rt: &HostRuntime, object: &Object) -> io::Result<()>;
 }
 
-impl Refusal for PrepareError {
+impl Refused for PrepareError {
     fn show_refusal(&self, rt: &HostRuntime, object: &Object) -> io::Result<()> {
         refusals::print_refused(rt, object, self)
     }
 }
 
 /// Prints what came of an object where it stands.
-fn show_in_place<E: Refusal + Drop>(
+fn show_in_place<E: Refused + Drop>(
     rt: &HostRuntime,
     object: &Object,
     answer: Result<(), E>,
@@ -70,11 +70,11 @@ fn show_in_place<E: Refusal + Drop>(
 }
 
 /// Why there is no object of a file, or no such variable in it.
-trait Fault: Drop {
+trait ParseFault: Drop {
     fn show_fault(&self, rt: &HostRuntime, file: &[u8]) -> io::Result<()>;
 }
 
-impl Fault for ParseError {
+impl ParseFault for ParseError {
     fn show_fault(&self, rt: &HostRuntime, file: &[u8]) -> io::Result<()> {
         refusals::print_unparsed(rt, file, self)
     }
@@ -232,7 +232,7 @@ impl Parsed for Object {
 
 /// Goes through the steps with what a file was parsed to, or prints why it can't be parsed. It knows neither type, so that
 /// its proof doesn't let go of each part of an object.
-fn go_parsed<T: Parsed, E: Fault>(
+fn go_parsed<T: Parsed, E: ParseFault>(
     rt: &HostRuntime,
     file: &[u8],
     given: &Given<'_>,
