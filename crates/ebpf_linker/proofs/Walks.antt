@@ -4,7 +4,7 @@ use Rattle.std.specs.Prelude.{slice_set, All, Vec, ◌||◌, ◌==◌, not, nat_
 use Rattle.std.specs.declared.alloc.Global.{Global}
 use Rattle.std.proofs.lemmas.Bool.{ltb-false, ne_eqb, leb-false, or_parts}
 use Rattle.std.proofs.lemmas.List.Elements.{All-set}
-use Rattle.std.proofs.lemmas.Option.{slice_get_read}
+use Rattle.std.proofs.lemmas.Option.{slice_get-get_or}
 use Rattle.ebpf_base.proofs.Lists.{rest_more}
 use Rattle.ebpf_base.specs.Faults.{first_of}
 use Rattle.ebpf_ext.specs.declared.ext_infos.bpf_func_info.{bpf_func_info}
@@ -94,8 +94,8 @@ module _ (B : List Body) (C : List (Vec Reference Global)) (bases order : List �
   fits_next k body h lt e b = let z = ap (bodies_slot_count B) (next_is order i k lt e) in let y = ap length b in omega (arith, z, h.room, y)
 
 -- the references of function k, read from its list
-pub calls_read : (C : List (Vec Reference Global)) (k : ℕ) (x : Vec Reference Global) → k < length C → x ≡ get_or C k x → calls_at C k ≡ x.items
-calls_read C k x lt e = ap calls_or_empty (slice_get_read C (length C) k x refl lt e)
+pub calls_read : (C : List (Vec Reference Global)) (k : ℕ) (d : Vec Reference Global) → k < length C → calls_at C k ≡ (get_or C k d).items
+calls_read C k d lt = ap calls_or_empty (slice_get-get_or C k d lt)
 
 -- what stands at a place past the end
 abbrev pub no_body : Body

@@ -1,5 +1,6 @@
 -- Functions by their numbers.
 use Rattle.std.specs.Prelude.{ℕ, ◌+◌, ◌<◌, ◌≤◌, ◌==◌, if◌then◌else◌, List, [], ◌∷◌, Option, Some, None, slice_get, Vec, All}
+use Rattle.std.specs.Coded.{×_prop, Unit-prop, le_prop}
 use Rattle.std.specs.declared.alloc.Global.{Global}
 use Rattle.ebpf_linker.specs.declared.body.Body.{Body}
 use Rattle.ebpf_linker.specs.declared.reference.Fault.{Fault}
@@ -48,10 +49,18 @@ abbrev pub Rises : ℕ → List Reference → Type 0
 Rises low [] = Unit {0}
 Rises low (c ∷ cs) = (low ≤ c.slot) × Rises (c.slot + 1) cs
 
+pub Rises-prop : (low : ℕ) (cs : List Reference) → IsProp (Rises low cs)
+Rises-prop low [] = Unit-prop
+Rises-prop low (c ∷ cs) = ×_prop le_prop (Rises-prop (c.slot + 1) cs)
+
 -- a target is one of n functions
 abbrev pub IsWithin : ℕ → Target → Type 0
 IsWithin n (Function k) = k < n
 IsWithin n (Nowhere e) = Unit {0}
+
+pub IsWithin-prop : (n : ℕ) (t : Target) → IsProp (IsWithin n t)
+IsWithin-prop n (Function k) = le_prop
+IsWithin-prop n (Nowhere e) = Unit-prop
 
 -- the references of each function rise, and lead to one of n functions
 pub record Sound (n : ℕ) (C : List (Vec Reference Global)) : Type 0 where

@@ -3,15 +3,15 @@
 ghost use Rattle.std.specs.Prelude.{◌≡◌, ℕ, ◌+◌, ◌<◌, ◌≤◌, ◌^◌, ◌++◌, length, IfOk, OnOk, All};
 ghost use Rattle.ebpf_linker.specs.Functions.{Among};
 ghost use Rattle.ebpf_linker.specs.Copies.{linked_slot, copied_slots, linked_copies, bodies_slot_count};
-ghost use Rattle.ebpf_linker.specs.Numbered.{IsWithin, Rises, Sound, of_target, calls_at};
+ghost use Rattle.ebpf_linker.specs.Numbered.{IsWithin, Rises, of_target, calls_at};
 
-use crate::body::Body;
+use crate::functions::Functions;
 use crate::reference::{Reference, Target};
 use crate::slot::{distance, relinked};
 use ebpf_parts::insn::bpf_insn;
 use std::alloc::{AllocError, Global};
 
-// A slot at a place, by where its reference leads.
+/// A slot at a place, linked to the target of its reference.
 fn linked_slot(slot: bpf_insn, place: usize, target: Target, bases: &[usize]) -> bpf_insn
     requires place { place < 2 ^ 31 }
     requires within { IsWithin (length bases.now) target }
@@ -24,7 +24,7 @@ fn linked_slot(slot: bpf_insn, place: usize, target: Target, bases: &[usize]) ->
     }
 }
 
-// Appends a copy of a function.
+/// Appends a copy of a function.
 fn append(
     out: &mut Vec<bpf_insn>,
     body: &[bpf_insn],
@@ -51,27 +51,29 @@ fn append(
     Ok(())
 }
 
-/// Copies of these functions, one after the other, each reference leading to where its function begins. Memory is
-/// taken for so many slots first.
+/// Writes copies of these functions, one after the other. Each reference leads to the base of its function. Memory for
+/// `size` slots is taken first.
 pub fn write_copies(
     alloc: Global,
     size: usize,
-    bodies: &[Body<'_>],
-    calls: &[Vec<Reference>],
+    functions: &Functions<'_>,
     order: &[usize],
     bases: &[usize],
 ) -> Result<Vec<bpf_insn>, AllocError>
-    requires calls { length calls.now ≡ length bodies.now }
-    requires sound { Sound (length bodies.now) calls.now }
-    requires bases { length bases.now ≡ length bodies.now }
-    requires order { All (λ k. k < length bodies.now) order.now }
-    requires short { (k : ℕ) → 0 < length (calls_at calls.now k) → Among order.now k → bodies_slot_count bodies.now order.now ≤ 2147483647 }
+    requires bases { length bases.now ≡ length functions.now.bodies.now }
+    requires order { All (λ k. k < length functions.now.bodies.now) order.now }
+    requires short { (k : ℕ) → 0 < length (calls_at functions.now.references.now k) → Among order.now k → bodies_slot_count functions.now.bodies.now order.now ≤ 2147483647 }
     requires below { All (λ b. b < 2 ^ 31) bases.now }
-    ensures { IfOk result (λ out. out.items ≡ linked_copies bodies.now calls.now bases.now 0 order.now) }
+    ensures { IfOk result (λ out. out.items ≡ linked_copies functions.now.bodies.now functions.now.references.now bases.now 0 order.now) }
 {
     let mut out = Vec::with_capacity(alloc, size)?;
     for function in order {
-        append(&mut out, bodies[*function].slots, &calls[*function], bases)?;
+        append(
+            &mut out,
+            functions.bodies[*function].slots,
+            &functions.references[*function],
+            bases,
+        )?;
     }
     Ok(out)
 }

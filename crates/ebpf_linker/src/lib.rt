@@ -4,6 +4,7 @@
 mod bases;
 mod body;
 mod copies;
+mod functions;
 mod layout;
 pub mod link_map;
 mod program;
@@ -15,8 +16,8 @@ mod soundness;
 mod tables;
 
 pub use body::{Body, LinkedProgram};
-pub use layout::{ProgramLayout, lay_out};
-pub use program::link;
+pub use functions::Functions;
+pub use layout::ProgramLayout;
 pub use reference::{Fault, Reference, Target};
 pub use soundness::is_sound;
 pub use tables::Tables;

@@ -1,15 +1,15 @@
-//! What a linked program is made of, without its slots.
+//! The link map of a program: the copies of functions, and the references between them.
 
 ghost use Rattle.std.specs.Prelude.{◌≡◌, ◌+◌, ◌<◌, ◌≤◌, [], ◌∷◌, ◌++◌, length, map, IfOk, OnOk, All};
 ghost use Rattle.ebpf_linker.specs.Copies.{Fit, body_at, linked_reference, references_of_copy, references_of_copies, IsReady, IsLaidOut};
 ghost use Rattle.ebpf_linker.specs.LinkMap.{copies_from, numbered_copy, IsNumberedLinkMap};
-ghost use Rattle.ebpf_linker.specs.Numbered.{IsWithin, Sound, functions_by_number};
+ghost use Rattle.ebpf_linker.specs.Numbered.{IsWithin, functions_by_number};
 
 use crate::bases::copy_bases;
 use crate::body::Body;
+use crate::functions::Functions;
 use crate::layout::ProgramLayout;
 use crate::reference::{Reference, Target};
-use crate::tables::Tables;
 use ebpf_base::Items;
 use ebpf_parts::insn::bpf_insn;
 use std::alloc::{AllocError, Global};
@@ -19,24 +19,24 @@ use std::alloc::{AllocError, Global};
 pub struct NumberedCopy {
     /// The function's number.
     pub function: usize,
-    /// The place at which the copy begins, in slots.
+    /// The base of the copy, in slots.
     pub base: usize,
-    /// How many slots it has.
+    /// The number of slots of the copy.
     pub slots: usize,
 }
 
 /// A reference in a linked program.
 #[derive(Clone, Copy, Debug, PartialEq, Eq)]
 pub struct PlacedReference {
-    /// The place of the slot that refers, in slots.
+    /// The index of the slot that refers.
     pub place: usize,
-    /// The place at which the copy that it refers to begins, in slots.
+    /// The base of the copy that the slot refers to, in slots.
     pub base: usize,
     /// Whether the slot is a call, or else the load of an address.
     pub is_call: bool,
 }
 
-/// What a linked program is made of, by the numbers of functions.
+/// A link map, by the numbers of functions.
 #[derive(Debug, Drop)]
 pub struct NumberedLinkMap {
     /// The program and the copies of functions, in order.
@@ -45,7 +45,7 @@ pub struct NumberedLinkMap {
     pub references: Items<PlacedReference>,
 }
 
-// The program and the copies of these functions, one after the other.
+/// The program and the copies of these functions, one after the other.
 #[tactic(auto, using(crate::proofs::Walks::room_more))]
 fn copies_of(
     alloc: Global,
@@ -77,7 +77,7 @@ fn copies_of(
     Ok(copies)
 }
 
-// The reference of a slot of a function whose copy begins at a base; none where it leads nowhere.
+/// The reference of a slot of a function whose copy begins at a base; none if the reference leads nowhere.
 fn reference_at(
     body: &[bpf_insn],
     call: Reference,
@@ -99,7 +99,7 @@ fn reference_at(
     }
 }
 
-// Adds the references of a function whose copy begins at a base.
+/// Adds the references of a function whose copy begins at a base.
 #[tactic(auto, using(crate::proofs::Walks::reference_here, crate::proofs::Walks::no_linked_reference, ebpf_base::proofs::Lists::rest_none))]
 fn add_references(
     references: &mut Vec<PlacedReference>,
@@ -121,79 +121,78 @@ fn add_references(
     Ok(())
 }
 
-// The references of the program and of copies of these functions, one after the other.
+/// The references of the program and of copies of these functions, one after the other.
 #[tactic(auto, using(crate::proofs::Walks::room_more))]
 fn references_of(
     alloc: Global,
-    bodies: &[Body<'_>],
-    calls: &[Vec<Reference>],
+    functions: &Functions<'_>,
     start: usize,
     reached: &[usize],
     bases: &[usize],
 ) -> Result<Vec<PlacedReference>, AllocError>
-    requires calls { length calls.now ≡ length bodies.now }
-    requires sound { Sound (length bodies.now) calls.now }
-    requires bases { length bases.now ≡ length bodies.now }
-    requires start { start < length bodies.now }
-    requires reached { All (λ k. k < length bodies.now) reached.now }
-    requires fit { Fit bodies.now (length (body_at bodies.now start)) reached.now }
-    ensures { IfOk result (λ references. references.items ≡ references_of_copies bodies.now calls.now bases.now 0 (start ∷ reached.now)) }
+    requires bases { length bases.now ≡ length functions.now.bodies.now }
+    requires start { start < length functions.now.bodies.now }
+    requires reached { All (λ k. k < length functions.now.bodies.now) reached.now }
+    requires fit { Fit functions.now.bodies.now (length (body_at functions.now.bodies.now start)) reached.now }
+    ensures { IfOk result (λ references. references.items ≡ references_of_copies functions.now.bodies.now functions.now.references.now bases.now 0 (start ∷ reached.now)) }
 {
     let mut references = Vec::new(alloc);
     add_references(
         &mut references,
-        bodies[start].slots,
-        &calls[start],
+        functions.bodies[start].slots,
+        &functions.references[start],
         bases,
         0,
     )?;
-    let mut base = bodies[start].slots.len();
+    let mut base = functions.bodies[start].slots.len();
     for function in reached {
-        let slots = bodies[*function].slots;
-        add_references(&mut references, slots, &calls[*function], bases, base)?;
+        let slots = functions.bodies[*function].slots;
+        let own = &functions.references[*function];
+        add_references(&mut references, slots, own, bases, base)?;
         base += slots.len();
     }
     Ok(references)
 }
 
-// The copies and the references of the program with copies of these functions.
+/// The copies and the references of the program with copies of these functions.
 fn link_map_of(
     alloc: Global,
-    tables: &Tables,
-    bodies: &[Body<'_>],
-    calls: &[Vec<Reference>],
+    functions: &Functions<'_>,
     start: usize,
     reached: &[usize],
 ) -> Result<NumberedLinkMap, AllocError>
-    requires calls { length calls.now ≡ length bodies.now }
-    requires sound { Sound (length bodies.now) calls.now }
-    requires ready { IsReady bodies.now calls.now start reached.now }
-    ensures { IfOk result (λ m. IsNumberedLinkMap (functions_by_number bodies.now calls.now) start m) }
+    requires { IsReady functions.now.bodies.now functions.now.references.now start reached.now }
+    ensures { IfOk result (λ m. IsNumberedLinkMap (functions_by_number functions.now.bodies.now functions.now.references.now) start m) }
 {
-    let bases = copy_bases(alloc, tables, bodies, bodies[start].slots.len(), reached)?;
+    let bodies = functions.bodies;
+    let bases = copy_bases(
+        alloc,
+        functions.tables,
+        bodies,
+        bodies[start].slots.len(),
+        reached,
+    )?;
     let copies = copies_of(alloc, bodies, start, reached)?;
-    let references = references_of(alloc, bodies, calls, start, reached, &bases)?;
-    tables.keep_bases(bases);
+    let references = references_of(alloc, functions, start, reached, &bases)?;
+    functions.tables.keep_bases(bases);
     Ok(NumberedLinkMap {
         copies: Items::from_vec(copies),
         references: Items::from_vec(references),
     })
 }
 
-/// What the program of a layout is made of once it is linked: where its copies begin, and its references with the places
-/// that they lead to. No slot and no record is written. `tables` are kept for the next program of these functions.
-pub fn link_map(
-    alloc: Global,
-    tables: &Tables,
-    bodies: &[Body<'_>],
-    calls: &[Vec<Reference>],
-    layout: &ProgramLayout,
-) -> Result<NumberedLinkMap, AllocError>
-    requires calls { length calls.now ≡ length bodies.now }
-    requires sound { Sound (length bodies.now) calls.now }
-    requires laid_out { IsLaidOut bodies.now calls.now layout.now }
-    ensures { IfOk result (λ m. IsNumberedLinkMap (functions_by_number bodies.now calls.now) layout.now.start m) }
-{
-    let reached = &layout.order[1..];
-    link_map_of(alloc, tables, bodies, calls, layout.start, reached)
+impl Functions<'_> {
+    /// Lists the parts of the linked program of a layout: where its copies begin, and its references with the places that
+    /// they lead to. No slot and no record is written.
+    pub fn link_map(
+        &self,
+        alloc: Global,
+        layout: &ProgramLayout,
+    ) -> Result<NumberedLinkMap, AllocError>
+        requires { IsLaidOut self.now.bodies.now self.now.references.now layout.now }
+        ensures { IfOk result (λ m. IsNumberedLinkMap (functions_by_number self.now.bodies.now self.now.references.now) layout.now.start m) }
+    {
+        let reached = &layout.order[1..];
+        link_map_of(alloc, self, layout.start, reached)
+    }
 }

@@ -1,20 +1,22 @@
-//! The order in which functions are copied, or why they can't be.
+//! The search for the functions of a program, in the order of their copies.
 
 ghost use Rattle.std.specs.Prelude.{◌≡◌, ℕ, ◌+◌, ◌<◌, ◌≤◌, length, [], IfOk, Some, All, true, false, slice_index_or};
 ghost use Rattle.ebpf_linker.specs.Search.{Finds, Advanced, Entered, search_at, checked_calls, checked_target};
 ghost use Rattle.ebpf_linker.specs.Faults.{checked_references, append_fault};
 ghost use Rattle.ebpf_linker.specs.Faults.{content_fault, has_stray, is_stray};
 ghost use Rattle.ebpf_linker.specs.Functions.{Among};
-ghost use Rattle.ebpf_linker.specs.Numbered.{Sound, IsWithin, body_content, functions_by_number};
+ghost use Rattle.ebpf_linker.specs.Numbered.{IsWithin, body_content, functions_by_number};
 ghost use Rattle.ebpf_linker.specs.declared.reference.Fault.TheVariants.{ProgramTooLong, InvalidLineInfo};
 
 use crate::body::Body;
-use crate::reference::{Fault, Reference, Target};
+use crate::functions::Functions;
+use crate::reference::{Fault, Target};
 use crate::tables::{Tables, unmark};
 use ebpf_ext::bpf_line_info;
 use std::alloc::{AllocError, Global};
 
-/// A function whose references are being followed: its place in the order, its number, and the next reference.
+/// A frame of the search, which is depth-first: a function whose references are being followed, its place in the order, and
+/// its next reference.
 #[derive(Clone, Copy)]
 pub struct Frame {
     pub copy: usize,
@@ -22,10 +24,23 @@ pub struct Frame {
     pub next: usize,
 }
 
-// The most slots that a linked program has.
+/// The most slots that a linked program has.
 const LIMIT: usize = 0x7fff_ffff;
 
-// Whether a line record stands before the first one, or past 32 bits once the function begins at a base.
+/// A search under way.
+#[derive(Drop)]
+struct Progress {
+    /// The functions that were found, in the order of their copies.
+    order: Vec<usize>,
+    /// The flags of found functions, by their numbers.
+    is_found: Vec<bool>,
+    /// The stack: the functions whose references are being followed.
+    work_list: Vec<Frame>,
+    /// The slots of the program and of the copies.
+    used: usize,
+}
+
+/// Whether a line info entry is before the first one, or past 32 bits once the function begins at a base.
 fn is_stray(first: u32, base: usize, line: &bpf_line_info) -> bool
     requires { base ≤ 2147483647 }
     ensures { result ≡ is_stray first base line.now }
@@ -33,7 +48,7 @@ fn is_stray(first: u32, base: usize, line: &bpf_line_info) -> bool
     line.insn_off < first || (line.insn_off - first) as u64 + base as u64 > 0xffff_ffff
 }
 
-// Whether a function that begins at a base has such a record.
+/// Whether a function that begins at a base has a line info entry that can't be moved.
 fn has_stray(lines: &[bpf_line_info], base: usize) -> bool
     requires { base ≤ 2147483647 }
     ensures { result ≡ has_stray base lines.now }
@@ -45,7 +60,7 @@ fn has_stray(lines: &[bpf_line_info], base: usize) -> bool
     lines.iter().any(|line| is_stray(first, base, line))
 }
 
-// Why a function can't have a copy at a base.
+/// The cause why a function can't have a copy at a base, if there is one.
 fn append_fault(body: &Body<'_>, base: usize, callee: usize) -> Option<Fault>
     ensures { result ≡ content_fault (body_content body.now) base (ProgramTooLong callee) (InvalidLineInfo callee) }
 {
@@ -58,8 +73,8 @@ fn append_fault(body: &Body<'_>, base: usize, callee: usize) -> Option<Fault>
     None
 }
 
-// Where a reference leads, where the program `start` is linked: nowhere where one of both has func info records
-// and the other none.
+/// The target of a reference while the program `start` is linked: no function, if one of both functions has func info
+/// and the other has none.
 fn checked_target(bodies: &[Body<'_>], start: usize, target: Target) -> Target
     requires start { start < length bodies.now }
     requires within { IsWithin (length bodies.now) target }
@@ -77,21 +92,8 @@ fn checked_target(bodies: &[Body<'_>], start: usize, target: Target) -> Target
     }
 }
 
-/// A search under way.
-#[derive(Drop)]
-struct Progress {
-    /// The functions that were found, in the order of their copies.
-    order: Vec<usize>,
-    /// The flags of found functions, by their numbers.
-    is_found: Vec<bool>,
-    /// The work list: the functions whose references are being followed.
-    work_list: Vec<Frame>,
-    /// The slots of the program and of the copies.
-    used: usize,
-}
-
 impl Progress {
-    // Opens a function that was not found before, where it can have a copy. `top` holds the reference to it.
+    /// Opens a function that was not found before, where it can have a copy. `top` holds the reference to it.
     fn enter(
         &mut self,
         bodies: &[Body<'_>],
@@ -119,26 +121,23 @@ impl Progress {
         Ok(None)
     }
 
-    // Follows the next reference of the function on top, which was taken off.
+    /// Follows the next reference of the function on top, which was taken off.
     fn advance(
         &mut self,
-        bodies: &[Body<'_>],
-        calls: &[Vec<Reference>],
+        functions: &Functions<'_>,
         start: usize,
         top: Frame,
     ) -> Result<Option<Fault>, AllocError>
-        requires start { start < length bodies.now }
-        requires calls { length calls.now ≡ length bodies.now }
-        requires sound { Sound (length bodies.now) calls.now }
-        requires function { top.function < length bodies.now }
-        requires flags { length self.old.is_found.items ≡ length bodies.now }
-        ensures { IfOk result (λ fault. Advanced (functions_by_number bodies.now calls.now) (checked_calls bodies.now calls.now start) top (search_at self.old.order.items self.old.is_found.items self.old.work_list.items self.old.used) (search_at self.new.order.items self.new.is_found.items self.new.work_list.items self.new.used) fault) }
+        requires start { start < length functions.now.bodies.now }
+        requires function { top.function < length functions.now.bodies.now }
+        requires flags { length self.old.is_found.items ≡ length functions.now.bodies.now }
+        ensures { IfOk result (λ fault. Advanced (functions_by_number functions.now.bodies.now functions.now.references.now) (checked_calls functions.now.bodies.now functions.now.references.now start) top (search_at self.old.order.items self.old.is_found.items self.old.work_list.items self.old.used) (search_at self.new.order.items self.new.is_found.items self.new.work_list.items self.new.used) fault) }
     {
-        let list = &calls[top.function];
+        let list = &functions.references[top.function];
         let Some(call) = list.get(top.next) else {
             return Ok(None);
         };
-        match checked_target(bodies, start, call.target) {
+        match checked_target(functions.bodies, start, call.target) {
             Target::Nowhere(fault) => Ok(Some(fault)),
             Target::Function(callee) => {
                 if self.is_found[callee] {
@@ -148,12 +147,12 @@ impl Progress {
                     })?;
                     return Ok(None);
                 }
-                self.enter(bodies, top, callee)
+                self.enter(functions.bodies, top, callee)
             }
         }
     }
 
-    // The functions in their order. The flags are taken back and kept for the next search.
+    /// The functions in their order. The flags are taken back and kept for the next search.
     fn finish(self, tables: &Tables) -> Vec<usize>
         requires within { All (λ k. k < length self.is_found.items) self.order.items }
         requires marked { (k : ℕ) → slice_index_or self.is_found.items k false ≡ true → Among self.order.items k }
@@ -171,29 +170,25 @@ impl Progress {
     }
 }
 
-/// The program and the functions that it reaches, in the order in which they are copied.
+/// Lists the program and the functions that it reaches, in the order of their copies.
 pub fn search(
     alloc: Global,
-    tables: &Tables,
-    bodies: &[Body<'_>],
-    calls: &[Vec<Reference>],
+    functions: &Functions<'_>,
     start: usize,
 ) -> Result<Result<Vec<usize>, Fault>, AllocError>
-    requires start { start < length bodies.now }
-    requires calls { length calls.now ≡ length bodies.now }
-    requires sound { Sound (length bodies.now) calls.now }
-    ensures { IfOk result (λ answer. Finds (functions_by_number bodies.now calls.now) (checked_references (functions_by_number bodies.now calls.now) start) start answer) }
+    requires { start < length functions.now.bodies.now }
+    ensures { IfOk result (λ answer. Finds (functions_by_number functions.now.bodies.now functions.now.references.now) (checked_references (functions_by_number functions.now.bodies.now functions.now.references.now) start) start answer) }
 {
     let mut order = Vec::new(alloc);
     order.push(start)?;
-    let is_found = tables.take_flags(alloc, bodies.len())?;
+    let is_found = functions.tables.take_flags(alloc, functions.bodies.len())?;
     let mut work_list = Vec::new(alloc);
     work_list.push(Frame {
         copy: 0,
         function: start,
         next: 0,
     })?;
-    let used = bodies[start].slots.len();
+    let used = functions.bodies[start].slots.len();
     let mut progress = Progress {
         order,
         is_found,
@@ -201,11 +196,11 @@ pub fn search(
         used,
     };
     while let Some(top) = progress.work_list.pop() {
-        let step = progress.advance(bodies, calls, start, top)?;
+        let step = progress.advance(functions, start, top)?;
         if let Some(fault) = step {
-            let _order = progress.finish(tables);
+            let _order = progress.finish(functions.tables);
             return Ok(Err(fault));
         }
     }
-    Ok(Ok(progress.finish(tables)))
+    Ok(Ok(progress.finish(functions.tables)))
 }

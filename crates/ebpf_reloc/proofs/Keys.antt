@@ -376,6 +376,10 @@ module _ (parts : LinkableValue) where
     pub count_calls : length C ≡ length B
     count_calls = sym (length-map C (λ (v : Vec Reference Global). v.items)) ∙ ap length calls ∙ length_calls fs 0 ∙ count_functions ∙ sym count_bodies
 
+    -- the same, as the linker's functions need them
+    pub references_sound : Sound (length B) C
+    references_sound = subst (λ (n : ℕ). Sound n C) (sym count_bodies) calls_sound
+
     -- what is wrong with a program by number, is wrong by key
     pub fault_by_key : (number : ℕ) (e : Fault) → number < length keys → LeastFault (functions_by_number B C) (checked_references (functions_by_number B C) number) number e
         → LeastFault (functions_of parts) (checked_references (functions_of parts) (key_in keys number)) (key_in keys number) (with_function_names fs e)

@@ -10,6 +10,7 @@ use Rattle.ebpf_model.specs.declared.error.RelocationError.{RelocationError}
 use Rattle.ebpf_model.specs.declared.error.RelocationError.TheVariants.{UnsupportedTextSymbol as NoTextSymbol, UnknownFunction as NoFunction, FunctionInfoMismatch as Mismatch, ProgramTooLong as TooLong, InvalidLineInfo as StrayLine}
 use Rattle.ebpf_model.specs.declared.function.Function.{Function}
 use Rattle.ebpf_reloc.specs.References.{function_name_or_empty}
+use Rattle.ebpf_reloc.specs.SlotTargets.{LinkableValue}
 
 -- the keys of the functions in their order: the number of a function is the place of its key
 abbrev pub function_keys : FinMap key_cmp Function → List FunctionKey
@@ -22,6 +23,10 @@ function_list functions = map (λ e. e.1) (entries functions)
 -- the key of a number
 abbrev pub key_in : List FunctionKey → ℕ → FunctionKey
 key_in keys number = slice_index_or keys number (0, 0)
+
+-- the key of the function with a number
+abbrev pub key_of_number : LinkableValue → ℕ → FunctionKey
+key_of_number parts number = key_in (function_keys parts.functions) number
 
 -- the name of the function with a number
 abbrev pub function_name : List Function → ℕ → List ℕ

@@ -3,14 +3,14 @@
 ghost use Rattle.std.specs.Prelude.{◌<◌, length, IfOk, IfErr, ⊤, MatchBool};
 ghost use Rattle.ebpf_model.specs.Memory.{is_slot_memory, is_memory_at, NamesNoneForMemory};
 ghost use Rattle.ebpf_reloc.specs.Linking.{key_of, IsProgramFault, IsProgramRefusal};
-ghost use Rattle.ebpf_reloc.specs.Numbers.{function_keys, key_in};
+ghost use Rattle.ebpf_reloc.specs.Numbers.{function_keys, key_of_number};
 ghost use Rattle.ebpf_reloc.specs.PrivateContracts.{IsLaidOutAt};
 ghost use Rattle.ebpf_reloc.specs.SlotTargets.{read};
 
 use crate::linking::ProgramKey;
 use crate::numbered::{NumberedFunctions, with_function_names};
 use crate::numbers::number_of_key;
-use ebpf_linker::{ProgramLayout, lay_out};
+use ebpf_linker::ProgramLayout;
 use ebpf_model::{EbpfRelocationError, RelocationError};
 use std::alloc::Global;
 
@@ -22,12 +22,10 @@ impl<'a> NumberedFunctions<'a> {
         number: usize,
     ) -> Result<ProgramLayout, RelocationError>
         requires { number < length (function_keys (read self.now.parts).functions) }
-        ensures layout { IfOk result (λ l. IsLaidOutAt (read self.now.parts) self.now.bodies.items self.now.calls.items (key_in (function_keys (read self.now.parts).functions) number) l) }
-        ensures fault { IfErr result (λ e. MatchBool (is_slot_memory e) ⊤ (IsProgramFault (read self.now.parts) (key_in (function_keys (read self.now.parts).functions) number) e)) }
+        ensures layout { IfOk result (λ l. IsLaidOutAt (read self.now.parts) self.now.bodies.items self.now.calls.items (key_of_number (read self.now.parts) number) l) }
+        ensures fault { IfErr result (λ e. MatchBool (is_slot_memory e) ⊤ (IsProgramFault (read self.now.parts) (key_of_number (read self.now.parts) number) e)) }
     {
-        let bodies = self.bodies.as_slice();
-        let calls = self.calls.as_slice();
-        let answer = lay_out(alloc, &self.tables, bodies, calls, number)?;
+        let answer = self.linker_functions().lay_out(alloc, number)?;
         let functions = self.functions.as_slice();
         match answer {
             Ok(layout) => Ok(layout),

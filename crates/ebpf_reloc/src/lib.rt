@@ -16,5 +16,5 @@ pub use ebpf_model::{
 };
 pub use link_map::{CodeCopy, LinkMap, PlacedReference};
 pub use linkable::Linkable;
-pub use linking::{LinkedFunction, ProgramKey, numbered as number_functions, relocate_calls};
+pub use linking::{LinkedFunction, ProgramKey, number_functions, relocate_calls};
 pub use numbered::NumberedFunctions;

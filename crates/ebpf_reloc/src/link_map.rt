@@ -5,15 +5,15 @@ ghost use Rattle.ebpf_linker.specs.Copies.{IsLaidOut};
 ghost use Rattle.ebpf_reloc.specs.Linking.{IsLinkMapAt, key_of, IsProgramRefusal};
 ghost use Rattle.ebpf_reloc.specs.PrivateContracts.{named_copy};
 ghost use Rattle.ebpf_model.specs.Memory.{is_memory_at, NamesNoneForMemory};
-ghost use Rattle.ebpf_reloc.specs.Numbers.{function_keys, key_in};
+ghost use Rattle.ebpf_reloc.specs.Numbers.{function_keys, key_in, key_of_number};
 ghost use Rattle.ebpf_reloc.specs.SlotTargets.{read};
 
 use crate::linking::ProgramKey;
 use crate::numbered::{NumberedFunctions, function_name};
 use ebpf_base::{Items, Text};
 use ebpf_linker::ProgramLayout;
+use ebpf_linker::link_map::NumberedCopy;
 pub use ebpf_linker::link_map::PlacedReference;
-use ebpf_linker::link_map::{NumberedCopy, link_map};
 use ebpf_model::{EbpfRelocationError, Function};
 use std::alloc::{AllocError, Global};
 
@@ -84,18 +84,16 @@ fn named_copies(
 
 impl<'a> NumberedFunctions<'a> {
     /// What a layout's program is made of.
-    pub(crate) fn mapped(
+    pub(crate) fn layout_link_map(
         &self,
         alloc: Global,
         layout: &ProgramLayout,
     ) -> Result<LinkMap, AllocError>
         requires start { layout.now.start < length (function_keys (read self.now.parts).functions) }
         requires laid_out { IsLaidOut self.now.bodies.items self.now.calls.items layout.now }
-        ensures { IfOk result (λ m. IsLinkMapAt (read self.now.parts) (key_in (function_keys (read self.now.parts).functions) layout.now.start) m) }
+        ensures { IfOk result (λ m. IsLinkMapAt (read self.now.parts) (key_of_number (read self.now.parts) layout.now.start) m) }
     {
-        let bodies = self.bodies.as_slice();
-        let calls = self.calls.as_slice();
-        let map = link_map(alloc, &self.tables, bodies, calls, layout)?;
+        let map = self.linker_functions().link_map(alloc, layout)?;
         let keys = self.keys.as_slice();
         let functions = self.functions.as_slice();
         let copies = named_copies(alloc, keys, functions, map.copies.as_slice())?;
@@ -123,11 +121,8 @@ impl NumberedFunctions<'_> {
         ensures fault { IfErr result (λ e. MatchBool (is_memory_at e) ⊤ (IsProgramRefusal (read self.now.parts) program.now e)) }
         ensures memory { IfErr result NamesNoneForMemory }
     {
-        let layout = match self.layout(alloc, program) {
-            Ok(layout) => layout,
-            Err(error) => return Err(error),
-        };
-        match self.mapped(alloc, &layout) {
+        let layout = self.layout(alloc, program)?;
+        match self.layout_link_map(alloc, &layout) {
             Ok(map) => Ok(map),
             Err(_) => Err(EbpfRelocationError::memory(alloc)),
         }

@@ -5,7 +5,7 @@ ghost use Rattle.std.specs.FinMap as map;
 ghost use Rattle.ebpf_linker.specs.Copies.{IsLaidOut};
 ghost use Rattle.ebpf_reloc.specs.Linking.{ProgramValue, key_of, with_linked, IsLinked, IsLinkMapAt, IsProgramRefusal, AreLinked, IsFirstRefusal};
 ghost use Rattle.ebpf_model.specs.Memory.{is_memory_at, NamesNoneForMemory};
-ghost use Rattle.ebpf_reloc.specs.Numbers.{function_keys, function_list, key_in};
+ghost use Rattle.ebpf_reloc.specs.Numbers.{function_keys, function_list, key_of_number};
 ghost use Rattle.ebpf_reloc.specs.SlotTargets.{read};
 
 use crate::link_map::LinkMap;
@@ -13,7 +13,7 @@ use crate::linkable::Linkable;
 use crate::numbered::NumberedFunctions;
 use ebpf_base::ByKey;
 use ebpf_ext::{FuncSecInfo, LineSecInfo};
-use ebpf_linker::{LinkedProgram, ProgramLayout, link};
+use ebpf_linker::{LinkedProgram, ProgramLayout};
 use ebpf_model::{EbpfRelocationError, Function};
 use std::alloc::{AllocError, Global};
 use std::marker::Model;
@@ -29,6 +29,15 @@ pub struct ProgramKey<'a> {
     pub address: u64,
 }
 
+/// A program's function, linked, and what it is made of.
+#[derive(Debug, Drop)]
+pub struct LinkedFunction {
+    /// The function.
+    pub function: Function,
+    /// The copies of functions that it is made of, and the references between these.
+    pub map: LinkMap,
+}
+
 impl<'a> Model for ProgramKey<'a> {
     ghost Value = { ProgramValue };
 
@@ -42,15 +51,6 @@ impl ProgramKey<'_> {
     {
         (self.section_index, self.address)
     }
-}
-
-/// A program's function, linked, and what it is made of.
-#[derive(Debug, Drop)]
-pub struct LinkedFunction {
-    /// The function.
-    pub function: Function,
-    /// The copies of functions that it is made of, and the references between these.
-    pub map: LinkMap,
 }
 
 /// A function with the slots and the records of a linked program.
@@ -90,31 +90,29 @@ impl<'a> NumberedFunctions<'a> {
     }
 
     /// The function of a layout's program, linked.
-    fn linked(&self, alloc: Global, layout: &ProgramLayout) -> Result<Function, AllocError>
+    fn linked_function(&self, alloc: Global, layout: &ProgramLayout) -> Result<Function, AllocError>
         requires start { layout.now.start < length (function_keys (read self.now.parts).functions) }
         requires laid_out { IsLaidOut self.now.bodies.items self.now.calls.items layout.now }
-        ensures { IfOk result (λ f. IsLinked (read self.now.parts) (key_in (function_keys (read self.now.parts).functions) layout.now.start) f) }
+        ensures { IfOk result (λ f. IsLinked (read self.now.parts) (key_of_number (read self.now.parts) layout.now.start) f) }
     {
-        let bodies = self.bodies.as_slice();
-        let calls = self.calls.as_slice();
-        let linked = link(alloc, &self.tables, bodies, calls, layout)?;
+        let linked = self.linker_functions().link(alloc, layout)?;
         with_linked(self.function(layout.start), linked)
     }
 
     /// The function of a layout's program, linked, and what it is made of.
-    fn linked_and_mapped(
+    fn linked_function_with_map(
         &self,
         alloc: Global,
         layout: &ProgramLayout,
     ) -> Result<LinkedFunction, AllocError>
         requires start { layout.now.start < length (function_keys (read self.now.parts).functions) }
         requires laid_out { IsLaidOut self.now.bodies.items self.now.calls.items layout.now }
-        ensures linked { IfOk result (λ l. IsLinked (read self.now.parts) (key_in (function_keys (read self.now.parts).functions) layout.now.start) l.function) }
-        ensures mapped { IfOk result (λ l. IsLinkMapAt (read self.now.parts) (key_in (function_keys (read self.now.parts).functions) layout.now.start) l.map) }
+        ensures linked { IfOk result (λ l. IsLinked (read self.now.parts) (key_of_number (read self.now.parts) layout.now.start) l.function) }
+        ensures mapped { IfOk result (λ l. IsLinkMapAt (read self.now.parts) (key_of_number (read self.now.parts) layout.now.start) l.map) }
     {
         Ok(LinkedFunction {
-            function: self.linked(alloc, layout)?,
-            map: self.mapped(alloc, layout)?,
+            function: self.linked_function(alloc, layout)?,
+            map: self.layout_link_map(alloc, layout)?,
         })
     }
 }
@@ -130,11 +128,8 @@ impl NumberedFunctions<'_> {
         ensures fault { IfErr result (λ e. MatchBool (is_memory_at e) ⊤ (IsProgramRefusal (read self.now.parts) program.now e)) }
         ensures memory { IfErr result NamesNoneForMemory }
     {
-        let layout = match self.layout(alloc, program) {
-            Ok(layout) => layout,
-            Err(error) => return Err(error),
-        };
-        match self.linked(alloc, &layout) {
+        let layout = self.layout(alloc, program)?;
+        match self.linked_function(alloc, &layout) {
             Ok(function) => Ok(function),
             Err(_) => Err(EbpfRelocationError::memory(alloc)),
         }
@@ -156,11 +151,8 @@ impl NumberedFunctions<'_> {
         ensures fault { IfErr result (λ e. MatchBool (is_memory_at e) ⊤ (IsProgramRefusal (read self.now.parts) program.now e)) }
         ensures memory { IfErr result NamesNoneForMemory }
     {
-        let layout = match self.layout(alloc, program) {
-            Ok(layout) => layout,
-            Err(error) => return Err(error),
-        };
-        match self.linked_and_mapped(alloc, &layout) {
+        let layout = self.layout(alloc, program)?;
+        match self.linked_function_with_map(alloc, &layout) {
             Ok(linked) => Ok(linked),
             Err(_) => Err(EbpfRelocationError::memory(alloc)),
         }
@@ -168,7 +160,7 @@ impl NumberedFunctions<'_> {
 }
 
 /// The functions by numbers, with their calls.
-pub fn numbered<'a>(
+pub fn number_functions<'a>(
     alloc: Global,
     parts: &Linkable<'a>,
 ) -> Result<NumberedFunctions<'a>, EbpfRelocationError>
@@ -219,7 +211,7 @@ pub fn relocate_calls(
     ensures fault { IfErr result (λ e. MatchBool (is_memory_at e) ⊤ (IsFirstRefusal (read parts.now) programs.now e)) }
     ensures memory { IfErr result NamesNoneForMemory }
 {
-    let functions = numbered(alloc, parts)?;
+    let functions = number_functions(alloc, parts)?;
     let mut linked = ByKey::new(alloc);
     for program in programs {
         if linked.contains_key(program.key()) {

@@ -11,7 +11,7 @@ use crate::calls::all_calls;
 use crate::linkable::Linkable;
 use crate::numbers::{function_keys, function_list};
 use ebpf_base::Text;
-use ebpf_linker::{Body, Fault, Reference, Tables};
+use ebpf_linker::{Body, Fault, Functions, Reference, Tables};
 use ebpf_model::{Function, RelocationError};
 use std::alloc::{AllocError, Global};
 
@@ -76,6 +76,16 @@ impl<'a> NumberedFunctions<'a> {
             calls,
             tables: Tables::new(),
         })
+    }
+
+    /// The functions as the linker takes them.
+    pub(crate) fn linker_functions(&self) -> Functions<'_>
+        ensures bodies { result.bodies.now ≡ self.now.bodies.items }
+        ensures references { result.references.now ≡ self.now.calls.items }
+    {
+        let bodies = self.bodies.as_slice();
+        let calls = self.calls.as_slice();
+        Functions::new(bodies, calls, &self.tables)
     }
 }
 

@@ -24,7 +24,7 @@ pub enum SlotTarget {
 
 /// An address so many bytes further, modulo 2 ^ 64.
 #[tactic(auto, using(crate::proofs::Modulo::wrapped_sum))]
-fn moved(address: u64, bytes: i64) -> u64
+fn moved_address(address: u64, bytes: i64) -> u64
     ensures { result ≡ modulo (pos address +ℤ bytes) }
 {
     address.wrapping_add_signed(bytes)
@@ -57,8 +57,8 @@ fn reference_address(symbol: &Symbol, size: u8, imm: i32) -> Option<u64>
 {
     match symbol.kind {
         SymbolKind::Text => Some(symbol.address),
-        SymbolKind::Section if size == 32 => Some(moved(symbol.address, distance(imm))),
-        SymbolKind::Section if size == 64 => Some(moved(symbol.address, i64::from(imm))),
+        SymbolKind::Section if size == 32 => Some(moved_address(symbol.address, distance(imm))),
+        SymbolKind::Section if size == 64 => Some(moved_address(symbol.address, i64::from(imm))),
         _ => None,
     }
 }
@@ -113,6 +113,6 @@ pub fn own_target(function: &Function, slot: usize, instruction: bpf_insn) -> Sl
     if !instruction.is_pseudo_call() {
         return SlotTarget::Absent;
     }
-    let address = moved(wrapped_offset(function, slot), distance(instruction.imm));
+    let address = moved_address(wrapped_offset(function, slot), distance(instruction.imm));
     SlotTarget::At(function.section_index.0, address)
 }

@@ -1,7 +1,7 @@
 //! Functions and references for tests.
 
-use ebpf_linker::link_map::{NumberedLinkMap, link_map};
-use ebpf_linker::{Body, Fault, LinkedProgram, Reference, Tables, Target, is_sound, lay_out, link};
+use ebpf_linker::link_map::NumberedLinkMap;
+use ebpf_linker::{Body, Fault, Functions, LinkedProgram, Reference, Tables, Target, is_sound};
 use ebpf_parts::insn::{bpf_insn, opcodes};
 use std::alloc::{AllocError, Global};
 
@@ -129,8 +129,9 @@ pub fn linked_at(
     if start >= bodies.len() || calls.len() != bodies.len() || !is_sound(calls, bodies.len()) {
         return Ok(None);
     }
-    match lay_out(alloc, tables, bodies, calls, start)? {
-        Ok(layout) => Ok(Some(Ok(link(alloc, tables, bodies, calls, &layout)?))),
+    let functions = Functions::new(bodies, calls, tables);
+    match functions.lay_out(alloc, start)? {
+        Ok(layout) => Ok(Some(Ok(functions.link(alloc, &layout)?))),
         Err(fault) => Ok(Some(Err(fault))),
     }
 }
@@ -154,8 +155,9 @@ pub fn link_map_of(
         return Ok(None);
     }
     let tables = Tables::new();
-    match lay_out(alloc, &tables, bodies, calls, 0)? {
-        Ok(layout) => Ok(Some(Ok(link_map(alloc, &tables, bodies, calls, &layout)?))),
+    let functions = Functions::new(bodies, calls, &tables);
+    match functions.lay_out(alloc, 0)? {
+        Ok(layout) => Ok(Some(Ok(functions.link_map(alloc, &layout)?))),
         Err(fault) => Ok(Some(Err(fault))),
     }
 }

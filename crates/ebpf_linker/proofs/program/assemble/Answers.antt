@@ -10,17 +10,17 @@ use Rattle.ebpf_linker.proofs.program.assemble.Goals as goal
 pub bodies_slot_count-size-requires-clause-copy_bases : goal.bodies_slot_count-size-requires-clause-copy_bases
 bodies_slot_count-size-requires-clause-copy_bases c =
     let (before, count, is) = c.in_ok-bases.ensures.copy_bases in
-    ap length (c.deref.ensures.value ∙ is) ∙ length-with_bases c.args.bodies.now _ before c.args.copies.now ∙ count
+    ap length (c.deref.ensures.value ∙ is) ∙ length-with_bases c.args.functions.now.bodies.now _ before c.args.copies.now ∙ count
 
 pub write_copies-requires-clause-bases : goal.write_copies-requires-clause-bases
 write_copies-requires-clause-bases c =
     let (before, count, is) = c.in_ok-bases.ensures.copy_bases in
-    ap length (c.deref-2.ensures.value ∙ is) ∙ length-with_bases c.args.bodies.now _ before c.args.copies.now ∙ count
+    ap length (c.deref-2.ensures.value ∙ is) ∙ length-with_bases c.args.functions.now.bodies.now _ before c.args.copies.now ∙ count
 
 pub returns : goal.returns
 returns c =
-    let B = c.args.bodies.now in
-    let C = c.args.calls.now in
+    let B = c.args.functions.now.bodies.now in
+    let C = c.args.functions.now.references.now in
     let p = c.args.start in
     let ks = c.args.copies.now in
     let first = ap length (body_read B p no_body c.requires.ready.start) in
