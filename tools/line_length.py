@@ -183,7 +183,10 @@ def term_lines(text, indent, prefix, end=""):
 
 
 def clause_lines(line):
-    """A clause on a line of its own, over several."""
+    """A clause on a line of its own, over several; a ghost field's code, `by { .. }`, gets a line of its own."""
+    field, by, code = line.partition("} by {")
+    if by:
+        return [*clause_lines(field + "}"), " " * (len(line) - len(line.lstrip()) + 4) + "by {" + code]
     found = CLAUSE.match(line)
     if not found:
         return [line]
