@@ -183,10 +183,7 @@ def term_lines(text, indent, prefix, end=""):
 
 
 def clause_lines(line):
-    """A clause on a line of its own, over several; a ghost field's code, `by { .. }`, gets a line of its own."""
-    field, by, code = line.partition("} by {")
-    if by:
-        return [*clause_lines(field + "}"), " " * (len(line) - len(line.lstrip()) + 4) + "by {" + code]
+    """A clause on a line of its own, over several."""
     found = CLAUSE.match(line)
     if not found:
         return [line]
@@ -264,8 +261,12 @@ def broken_line(line, is_spec):
 
 
 def is_limited(line, is_spec):
-    """Whether the limit holds for a line."""
-    return is_spec or re.match(r" *(ensures|requires|ghost [a-z_]+:|ghost [a-z_]+ =)", line) is not None
+    """Whether the limit holds for a line: of code, only for terms, but not for imports, attributes and a ghost field's code."""
+    if is_spec:
+        return True
+    if re.match(r" *(//|#\[|(pub )?(ghost )?use )", line) or "} by {" in line:
+        return False
+    return re.match(r" *(ensures|requires|ghost [a-z_]+:|ghost [a-z_]+ =)", line) is not None or set(line) & set("≡→λ×∷≤") != set()
 
 
 def words_of(text):

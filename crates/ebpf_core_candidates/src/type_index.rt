@@ -311,8 +311,7 @@ impl<'a> TypeIndex<'a> {
         local: &Btf,
     ) -> Result<KindsIndex<'a>, BtfError>
         ensures types { IfOk result (λ index. index.info ≡ btf.now) }
-        ensures names { IfOk result (λ index. (kind : BtfKind) (id : ℕ) (t : BtfType) (name : List ℕ) → is_among_kinds kinds.now kind ≡ true → slice_get local.now.types id ≡ Some t
-            → is_among_kinds kinds.now (kind_of t) ≡ true → type_name local.now t ≡ Ok name → has_named index kind name ≡ true) }
+        ensures names { IfOk result (λ index. (kind : BtfKind) (id : ℕ) (t : BtfType) (name : List ℕ) → is_among_kinds kinds.now kind ≡ true → slice_get local.now.types id ≡ Some t → is_among_kinds kinds.now (kind_of t) ≡ true → type_name local.now t ≡ Ok name → has_named index kind name ≡ true) }
         ensures kinds { IfOk result (λ index. (kind : BtfKind) (name : List ℕ) → has_named index kind name ≡ true → is_among_kinds kinds.now kind ≡ true) }
         ensures memory { IfErr result (λ e. e ≡ OutOfMemory) }
     {

@@ -162,8 +162,7 @@ impl<'a> TypeNames<'a> {
     #[tactic(auto, using(crate::proofs::Names::same_key))]
     pub fn is_one_name(&self, left: u32, right: u32) -> bool
         ensures one { OnTrue result (type_key_at self.now left ≡ type_key_at self.now right) }
-        ensures told { (one other : BtfType) → slice_get self.now.types left ≡ Some one → slice_get self.now.types right ≡ Some other
-            → kind_of one ≡ kind_of other → name_off one ≡ name_off other → result ≡ true }
+        ensures told { (one other : BtfType) → slice_get self.now.types left ≡ Some one → slice_get self.now.types right ≡ Some other → kind_of one ≡ kind_of other → name_off one ≡ name_off other → result ≡ true }
     {
         let (left, right) = (self.btf.head(left as usize), self.btf.head(right as usize));
         let (Some(left), Some(right)) = (left, right) else {

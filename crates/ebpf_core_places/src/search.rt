@@ -69,8 +69,7 @@ fn search(
 ) -> Result<Answer, PlaceFault>
     requires depth { inside ≤ 64 }
     requires room { bits ≤ inside * 2 ^ 32 }
-    ensures gives { let name_search = member_search wanted.entry.local.now wanted.entry.target.now wanted.entry.name.now wanted.entry.local_type in
-        Gives is_place_memory result (run_search name_search entries (view name_search (64 - inside) inside bits (members_in wanted.entry.target.now.types parent))) }
+    ensures gives { let name_search = member_search wanted.entry.local.now wanted.entry.target.now wanted.entry.name.now wanted.entry.local_type in Gives is_place_memory result (run_search name_search entries (view name_search (64 - inside) inside bits (members_in wanted.entry.target.now.types parent))) }
     ensures small { IsSmall result }
 {
     let Some(ty) = type_at(wanted.target, parent) else {
@@ -115,8 +114,7 @@ fn search(
 /// Looks through all members of a type.
 #[tactic(auto, unfolding(crate::specs::Members::first_fitting))]
 fn find(wanted: WantedMember<'_>, parent: u32) -> Result<Option<FoundMember>, PlaceFault>
-    ensures same { let name_search = member_search wanted.entry.local.now wanted.entry.target.now wanted.entry.name.now wanted.entry.local_type in
-        Gives is_place_memory result (first_fitting name_search search_entries (members_in wanted.entry.target.now.types parent)) }
+    ensures same { let name_search = member_search wanted.entry.local.now wanted.entry.target.now wanted.entry.name.now wanted.entry.local_type in Gives is_place_memory result (first_fitting name_search search_entries (members_in wanted.entry.target.now.types parent)) }
     ensures small { IsFoundSmall result }
 {
     match search(wanted, parent, 0, 0, SEARCH_ENTRIES)? {

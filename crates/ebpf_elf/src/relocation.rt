@@ -108,8 +108,7 @@ impl SymbolTable<'_> {
         ensures from { IfSome result (λ j. from ≤ j) }
         ensures below { IfSome result (λ j. j < self.now.table.count) }
         ensures holds { IfSome result (λ j. holds_relocations self.now.table.bytes.now self.now.index j ≡ true) }
-        ensures rest { IfSome result (λ j. relocation_sections_from self.now.table.bytes.now self.now.index from self.now.table.count
-            ≡ record { file = self.now.table.bytes.now; index = j } ∷ relocation_sections_from self.now.table.bytes.now self.now.index (j + 1) self.now.table.count) }
+        ensures rest { IfSome result (λ j. relocation_sections_from self.now.table.bytes.now self.now.index from self.now.table.count ≡ record { file = self.now.table.bytes.now; index = j } ∷ relocation_sections_from self.now.table.bytes.now self.now.index (j + 1) self.now.table.count) }
     {
         for j in from..self.table.count {
             if self.holds_relocations(j) {
@@ -145,9 +144,7 @@ impl<'a> Model for ElfRelocationSection<'a> {
 
     ghost view = { λ s. record { file = s.table.bytes.now; index = s.index } };
 
-    ghost invariant = { λ s. (s.target ≡ relocated_section record { file = s.table.bytes.now; index = s.index })
-        × (s.extent ≡ extent_of record { file = s.table.bytes.now; index = s.index })
-        × (0 < s.extent.count → s.extent.offset + s.extent.entry_size * s.extent.count ≤ length s.table.bytes.now) };
+    ghost invariant = { λ s. (s.target ≡ relocated_section record { file = s.table.bytes.now; index = s.index }) × (s.extent ≡ extent_of record { file = s.table.bytes.now; index = s.index }) × (0 < s.extent.count → s.extent.offset + s.extent.entry_size * s.extent.count ≤ length s.table.bytes.now) };
 }
 
 /// The section with this index, which holds relocations against a symbol table.
