@@ -46,7 +46,7 @@ pub struct SectionInputs<'s> {
     pub metadata: &'s FileMetadata,
     pub records: RecordsByName<'s>,
     pub declared: Option<BtfDefinedMaps<'s>>,
-    ghost infos: { records.found ≡ metadata.now.btf_ext },
+    ghost infos: { records ≡ metadata.now.btf_ext },
     ghost declared_are: { declared ≡ types_in_reading metadata.now.reading metadata.now.btf },
 }
 

@@ -275,6 +275,22 @@ pub struct RecordsByName<'e> {
     ghost are: { AreRecordsOf found table },
 }
 
+impl<'e> Model for RecordsByName<'e> {
+    ghost use Rattle.ebpf_base.specs.Maps.{coded_text, text_cmp};
+    ghost use Rattle.ebpf_ext.specs.ExtReading.{ExtInfo};
+    ghost use Rattle.ebpf_ext.specs.contracts.ext_infos.FuncSecInfo as func_rows;
+    ghost use Rattle.ebpf_ext.specs.contracts.ext_infos.LineSecInfo as line_rows;
+    ghost use Rattle.std.specs.Coded.{codes};
+    ghost use Rattle.std.specs.FinMap as map;
+    ghost use Rattle.std.specs.Prelude.{Option};
+
+    ghost Value = { Option ExtInfo };
+
+    ghost coded = { Prim.hlevel (codes, map.code {R = text_cmp} coded_text func_rows.the_row.coded, map.code {R = text_cmp} coded_text line_rows.the_row.coded) };
+
+    ghost view = { λ r. r.found };
+}
+
 impl<'e> RecordsByName<'e> {
     /// The contents of a section `.BTF.ext`, with the records of sections of these names gathered.
     #[tactic(auto, using(crate::proofs::Records::none_are))]
@@ -283,7 +299,7 @@ impl<'e> RecordsByName<'e> {
         ext: &'e Option<BtfExt>,
         names: &[&str],
     ) -> Result<RecordsByName<'e>, ParseError>
-        ensures infos { IfOk result (λ r. r.found ≡ ext.now) }
+        ensures infos { IfOk result (λ r. r ≡ ext.now) }
         ensures memory { IfErr result (λ e. is_parse_memory e ≡ true) }
     {
         let found = FoundRecords::find(alloc, ext, names)?;
@@ -297,7 +313,7 @@ impl<'e> RecordsByName<'e> {
 
     /// The func info and line info of the section with a name, where its records are gathered.
     pub fn of(&self, name: &str) -> Option<&SectionRecords<'e>>
-        ensures { IfSome result (λ r. r.now ≡ func_and_line_info_of self.now.found name.now) }
+        ensures { IfSome result (λ r. r.now ≡ func_and_line_info_of self.now name.now) }
     {
         self.table.get(name)
     }
