@@ -79,7 +79,7 @@ TYPES = {
     "extern_types::KsymsError": ("ebpf_ksyms/src/error.rt", "The errors of `resolve_externs` (stage `ksyms`)."),
     "ebpf_kconfig::KconfigError": ("ebpf_kconfig/src/error.rt", "The errors of `kconfig`, `define_kconfig`, `kconfig_value` and `kconfig_number`."),
     "ebpf_initial_slots::InitialSlotError": ("ebpf_initial_slots/src/error.rt", "The errors of `initial_slots`. `readelf -r` shows the relocations of `.maps`."),
-    "ebpf_kernel_types::KernelTypesError": ("ebpf_kernel_types/src/error.rt", "The errors of `kernel_types`. `bpftool btf dump file FILE` shows the types."),
+    "ebpf_btf_load::KernelTypesError": ("ebpf_btf_load/src/error.rt", "The errors of `kernel_types`. `bpftool btf dump file FILE` shows the types."),
 }
 
 DAMAGED = "build the file again, and look at it with `readelf -S`: it is cut or damaged"
@@ -188,13 +188,13 @@ ADVICE = {
     "ebpf_initial_slots::InitialSlotError::NoValues": "declare `__array(values, ..)` as the last member",
     "ebpf_initial_slots::InitialSlotError::OutsideValues": "give values only to the member `values`, which is the last member",
     "ebpf_initial_slots::InitialSlotError::Misaligned": "declare the member with libbpf's `__array`",
-    "ebpf_kernel_types::KernelTypesError::ElfError": DAMAGED,
-    "ebpf_kernel_types::KernelTypesError::BtfError": "see the `BtfError` that it holds",
-    "ebpf_kernel_types::KernelTypesError::NoSectionSize": "compile again: the section is empty or was stripped",
-    "ebpf_kernel_types::KernelTypesError::NotAVariable": BTF_DAMAGED,
-    "ebpf_kernel_types::KernelTypesError::NoSymbol": "don't strip symbols",
-    "ebpf_kernel_types::KernelTypesError::UnsupportedExtern": "declare it as `bool`, `enum libbpf_tristate`, `char`, an integer or `char NAME[N]`",
-    "ebpf_kernel_types::KernelTypesError::TooLarge": "split the object",
+    "ebpf_btf_load::KernelTypesError::ElfError": DAMAGED,
+    "ebpf_btf_load::KernelTypesError::BtfError": "see the `BtfError` that it holds",
+    "ebpf_btf_load::KernelTypesError::NoSectionSize": "compile again: the section is empty or was stripped",
+    "ebpf_btf_load::KernelTypesError::NotAVariable": BTF_DAMAGED,
+    "ebpf_btf_load::KernelTypesError::NoSymbol": "don't strip symbols",
+    "ebpf_btf_load::KernelTypesError::UnsupportedExtern": "declare it as `bool`, `enum libbpf_tristate`, `char`, an integer or `char NAME[N]`",
+    "ebpf_btf_load::KernelTypesError::TooLarge": "split the object",
     "prepare::Explained::Maps": "if no map of the section has a descriptor, give one by name for each map that an instruction refers to; if the section has no map, the object has nothing that the instruction can refer to",
 }
 

@@ -4,7 +4,7 @@ usage: make_rows.py
 
 A new row: in the module on its subject, an object by its types, sections and symbols, and the types that come out otherwise
 (`taken`) or the sentence of the refusal (`refused`). What comes out is written by hand, from the definitions of
-crates/ebpf_kernel_types/specs, and never taken from what the program prints.
+crates/ebpf_btf_load/specs, and never taken from what the program prints.
 """
 import sys
 from pathlib import Path

@@ -5,8 +5,8 @@ use Rattle.capi_rows.specs.declared.refusal.Refusal.{Refusal}
 use Rattle.ebpf_base.specs.Faults.{fault_of}
 use Rattle.ebpf_btf.specs.TypeInfo.{TypeInfo}
 use Rattle.ebpf_core_relo.specs.Records as relocating_types
-use Rattle.ebpf_kernel_types.specs.KernelTypes.{kernel_types_of, is_kernel_types_memory}
-use Rattle.ebpf_kernel_types.specs.declared.error.KernelTypesError.{KernelTypesError}
+use Rattle.ebpf_btf_load.specs.KernelTypes.{kernel_types_of, is_kernel_types_memory}
+use Rattle.ebpf_btf_load.specs.declared.error.KernelTypesError.{KernelTypesError}
 use Rattle.ebpf_ksyms.specs.Addresses as resolving
 use Rattle.ebpf_ksyms.specs.Sources.{IsRefusedBy, IsResolvedBy, Text}
 use Rattle.ebpf_model.specs.Memory as relocating

@@ -64,7 +64,7 @@ pub extern "C" fn ebpf_programs(
 }
 
 /// Lists the maps of an object: a row each in byte order of their names, and the names in `text`, a zero byte behind
-/// each. The ids of types are those that a map is created with (`ebpf_loading::map_types`), an inner map's by the same
+/// each. The ids of types are those that a map is created with (`ebpf_load_info::map_types`), an inner map's by the same
 /// types; 0 where the object has none.
 ///
 /// # Answers

@@ -13,7 +13,7 @@ use capi_rows::info::{ebpf_object_info, info_of};
 use capi_rows::reads::{
     read_func_infos, read_line_infos, read_map_data, read_section_name, read_slots,
 };
-use ebpf_ext::{bpf_func_info, bpf_line_info};
+use ebpf_btf_ext::{bpf_func_info, bpf_line_info};
 use ebpf_object::Object;
 use ebpf_parts::insn::bpf_insn;
 use std::alloc::Global;

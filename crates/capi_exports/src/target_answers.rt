@@ -13,8 +13,8 @@ use capi_rows::reads::text_of;
 use capi_rows::refusal::{Refusal, ebpf_refusal};
 use capi_rows::refusals::kernel_types_refusal;
 use ebpf_base::Items;
-use ebpf_kernel_types::kernel_types;
-use ebpf_loading::{AttachTarget, attach_target};
+use ebpf_btf_load::kernel_types;
+use ebpf_load_info::{AttachTarget, attach_target};
 use std::alloc::Global;
 
 /// The number of what is known of a target.
@@ -95,7 +95,7 @@ fn types_for_kernel(alloc: Global, file: &[u8]) -> Result<Items<u8>, Refusal>
 
 /// Writes the types of a file as the kernel takes them (`BPF_BTF_LOAD`), and how many bytes they are: 0 where the file has
 /// no section .BTF. They are its .BTF, but for the sizes and offsets of sections, the linkage of what is hidden, and the
-/// externs of .ksyms and .kconfig (`ebpf_kernel_types::kernel_types`); ids and offsets of strings stay.
+/// externs of .ksyms and .kconfig (`ebpf_btf_load::kernel_types`); ids and offsets of strings stay.
 ///
 /// # Answers
 ///

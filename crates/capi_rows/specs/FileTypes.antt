@@ -17,7 +17,7 @@ use Rattle.ebpf_btf.specs.declared.error.BtfError.{BtfError}
 use Rattle.ebpf_elf.specs.Faults.{faults}
 use Rattle.ebpf_elf.specs.Headers.{ei_data}
 use Rattle.ebpf_elf.specs.Sections.{SectionOf, data_faults, data_of}
-use Rattle.ebpf_kernel_types.specs.KernelTypes.{btf_section}
+use Rattle.ebpf_btf_load.specs.KernelTypes.{btf_section}
 use Rattle.ebpf_object.specs.TypedExterns.{has_typed}
 use Rattle.ebpf_object.specs.declared.object.Object.{Object}
 use Rattle.ebpf_parsing.specs.FileTypes.{has_relocations}

@@ -1,8 +1,8 @@
 -- What C reads of maps. Numbers are the kernel's; 0 says that there is none.
 use Rattle.std.specs.Prelude.{ℕ, List, Option, Some, None, length, is_some}
 use Rattle.ebpf_btf.specs.TypeInfo.{TypeInfo}
-use Rattle.ebpf_loading.specs.MapTypeIds.{map_type_ids, no_type_ids}
-use Rattle.ebpf_loading.specs.declared.map_type_ids.MapTypeIds.{MapTypeIds}
+use Rattle.ebpf_load_info.specs.MapTypeIds.{map_type_ids, no_type_ids}
+use Rattle.ebpf_load_info.specs.declared.map_type_ids.MapTypeIds.{MapTypeIds}
 use Rattle.ebpf_parts.specs.Maps.{map_type_of, key_size_of, value_size_of, max_entries_of, map_flags_of, map_extra_of, pinning_of, bytes_of, section_index_of, section_kind_of, inner_of}
 use Rattle.ebpf_parts.specs.declared.maps.either.Map.{Map}
 use Rattle.ebpf_parts.specs.declared.maps.definition.PinningType.{PinningType}

@@ -12,8 +12,8 @@ use Rattle.ebpf_initial_slots.specs.declared.error.InitialSlotError.{InitialSlot
 use Rattle.ebpf_initial_slots.specs.declared.error.InitialSlotError.TheVariants as initial
 use Rattle.ebpf_kconfig.specs.declared.error.KconfigError.{KconfigError}
 use Rattle.ebpf_kconfig.specs.declared.error.KconfigError.TheVariants as kconfig
-use Rattle.ebpf_kernel_types.specs.declared.error.KernelTypesError.{KernelTypesError}
-use Rattle.ebpf_kernel_types.specs.declared.error.KernelTypesError.TheVariants as kernel
+use Rattle.ebpf_btf_load.specs.declared.error.KernelTypesError.{KernelTypesError}
+use Rattle.ebpf_btf_load.specs.declared.error.KernelTypesError.TheVariants as kernel
 use Rattle.ebpf_ksyms.specs.declared.error.KsymsError.{KsymsError}
 use Rattle.ebpf_ksyms.specs.declared.error.KsymsError.TheVariants as ksyms
 use Rattle.ebpf_object.specs.declared.prepare_error.PrepareError.{PrepareError}

@@ -2,8 +2,8 @@
 use Rattle.std.specs.Prelude.{ℕ, List, Option, Some, None, Result, Ok, Err}
 use Rattle.std.specs.FinMap.{FinMap, entries, get}
 use Rattle.ebpf_base.specs.Maps.{key_cmp, text_cmp}
-use Rattle.ebpf_ext.specs.declared.ext_infos.bpf_func_info.{bpf_func_info}
-use Rattle.ebpf_ext.specs.declared.ext_infos.bpf_line_info.{bpf_line_info}
+use Rattle.ebpf_btf_ext.specs.declared.ext_infos.bpf_func_info.{bpf_func_info}
+use Rattle.ebpf_btf_ext.specs.declared.ext_infos.bpf_line_info.{bpf_line_info}
 use Rattle.ebpf_object.specs.declared.object.Object.{Object}
 use Rattle.ebpf_model.specs.declared.function.Program.{Program}
 use Rattle.ebpf_parts.specs.Maps.{bytes_of}

@@ -74,7 +74,7 @@ fn types_of_section(
 }
 
 /// The types of the first section .BTF of a file, where they can be read.
-#[tactic(auto, unfolding(crate::specs::FileTypes::file_types, ebpf_kernel_types::specs::KernelTypes::btf_section))]
+#[tactic(auto, unfolding(crate::specs::FileTypes::file_types, ebpf_btf_load::specs::KernelTypes::btf_section))]
 fn file_types(alloc: Global, file: &[u8]) -> Result<Option<Btf>, AllocError>
     ensures { IfOk result (λ types. types ≡ file_types file.now) }
 {

@@ -13,7 +13,7 @@ use crate::entries::Entry;
 use crate::programs::{ebpf_program, program_row};
 use crate::reads::text_of;
 use ebpf_btf::Btf;
-use ebpf_loading::{MapTypeIds, map_types};
+use ebpf_load_info::{MapTypeIds, map_types};
 use ebpf_object::Object;
 use ebpf_parts::EbpfSectionKind;
 use ebpf_parts::maps::{Map, PinningType};

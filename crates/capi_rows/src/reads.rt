@@ -14,7 +14,7 @@ use crate::entries::value_by_bytes;
 use crate::programs::name_of_section;
 use crate::variables::{bytes_in, ebpf_value};
 use ebpf_base::{ByName, Items};
-use ebpf_ext::{bpf_func_info, bpf_line_info};
+use ebpf_btf_ext::{bpf_func_info, bpf_line_info};
 use ebpf_model::Function;
 use ebpf_object::Object;
 use ebpf_parts::insn::bpf_insn;

@@ -11,7 +11,7 @@ use ebpf_core::RelocationError;
 use ebpf_core_relo::BtfRelocationError;
 use ebpf_initial_slots::InitialSlotError;
 use ebpf_kconfig::KconfigError;
-use ebpf_kernel_types::KernelTypesError;
+use ebpf_btf_load::KernelTypesError;
 use ebpf_ksyms::KsymsError;
 use ebpf_object::prepare::PrepareError;
 use std::alloc::{AllocError, Global};

@@ -1,6 +1,6 @@
 -- What a CO-RE record of a kind is about.
-use Rattle.ebpf_ext.specs.declared.relocation.RelocationKind.{RelocationKind}
-use Rattle.ebpf_ext.specs.declared.relocation.RelocationKind.TheVariants as relocation_kinds
+use Rattle.ebpf_btf_ext.specs.declared.relocation.RelocationKind.{RelocationKind}
+use Rattle.ebpf_btf_ext.specs.declared.relocation.RelocationKind.TheVariants as relocation_kinds
 use Rattle.cli_common.specs.declared.kinds.Kind.{Kind}
 use Rattle.cli_common.specs.declared.kinds.Kind.TheVariants as kinds
 

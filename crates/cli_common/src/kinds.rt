@@ -3,7 +3,7 @@
 ghost use Rattle.std.specs.Prelude.{◌≡◌};
 ghost use Rattle.cli_common.specs.RecordKinds.{kind_of};
 
-use ebpf_ext::RelocationKind;
+use ebpf_btf_ext::RelocationKind;
 
 /// What a finding is about: what a record asks, or something else that a kernel has to have.
 #[derive(Clone, Copy, PartialEq, Eq, PartialOrd, Ord)]

@@ -2,7 +2,7 @@
 
 use ebpf_base::Text;
 use ebpf_btf::Btf;
-use ebpf_ext::bpf_line_info;
+use ebpf_btf_ext::bpf_line_info;
 use ebpf_model::Function;
 use std::alloc::{AllocError, Global};
 

@@ -2,7 +2,7 @@
 
 use ebpf_btf::Btf;
 use ebpf_core_relo::{Absence, RecordOutcome, RecordResult, RecordSlot};
-use ebpf_ext::Relocation;
+use ebpf_btf_ext::Relocation;
 use ebpf_object::Object;
 use std::alloc::{AllocError, Global};
 

@@ -6,7 +6,7 @@ use cli_common::names::{EscapedName, write_value};
 use cli_common::record_names::{RecordSubject, absence_words, has_sign};
 use cli_common::refuse::Stop;
 use ebpf_btf::Btf;
-use ebpf_ext::{Relocation, RelocationKind};
+use ebpf_btf_ext::{Relocation, RelocationKind};
 use std::alloc::{AllocError, Global};
 use std::io::{self, Write};
 

@@ -4,7 +4,7 @@ use Rattle.std.specs.Prelude.{count_by, min, slice_index_or, unwrap_or}
 use Rattle.std.proofs.lemmas.List.{get_or_default}
 use Rattle.std.proofs.lemmas.List.Sums.{sum_by-append, sum_by-cons}
 use Rattle.ebpf_base.proofs.Lists.{rest_more}
-use Rattle.ebpf_ext.specs.declared.relocation.Relocation.{Relocation}
+use Rattle.ebpf_btf_ext.specs.declared.relocation.Relocation.{Relocation}
 use Rattle.std.specs.BTreeMap.{BTreeMap, Updates, get}
 use Rattle.std.specs.Cmp.{IsTotalOrder, nat_cmp_total, on_total, then_total}
 use Rattle.std.specs.FinMap.{from_entries, get_tied}

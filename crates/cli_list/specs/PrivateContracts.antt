@@ -6,7 +6,7 @@ use Rattle.std.specs.FinMap.{FinMap, get, insert}
 use Rattle.std.specs.List.{flat_map}
 use Rattle.std.specs.declared.cmp.Ordering.{Ordering}
 use Rattle.ebpf_base.specs.Maps.{key_cmp}
-use Rattle.ebpf_ext.specs.declared.relocation.Relocation.{Relocation}
+use Rattle.ebpf_btf_ext.specs.declared.relocation.Relocation.{Relocation}
 use Rattle.cli_list.specs.RecordCounts.{asks, count_at}
 use Rattle.cli_list.specs.declared.layout.ListedLayout.{ListedLayout}
 use Rattle.ebpf_model.specs.Symbols.{FunctionKey}

@@ -4,8 +4,8 @@ use Rattle.std.specs.BTreeMap.{BTreeMap, get}
 use Rattle.std.specs.List.{flat_map}
 use Rattle.std.specs.Ordering.{eq_by_cmp, nat_cmp, ordering_then}
 use Rattle.std.specs.declared.cmp.Ordering.{Ordering}
-use Rattle.ebpf_ext.specs.ExtReading.{ExtInfo}
-use Rattle.ebpf_ext.specs.declared.relocation.Relocation.{Relocation}
+use Rattle.ebpf_btf_ext.specs.ExtReading.{ExtInfo}
+use Rattle.ebpf_btf_ext.specs.declared.relocation.Relocation.{Relocation}
 use Rattle.ebpf_object.specs.declared.object.Object.{Object}
 use Rattle.cli_common.specs.RecordKinds.{kind_of}
 use Rattle.cli_common.specs.contracts.kinds.KindOrd.TheImpl as kind_ord

@@ -9,7 +9,7 @@ use cli_common::kinds::Kind;
 use cli_common::types::add_type;
 use ebpf_base::Items;
 use ebpf_btf::Btf;
-use ebpf_ext::Relocation;
+use ebpf_btf_ext::Relocation;
 use ebpf_object::Object;
 use std::alloc::{AllocError, Global};
 use std::collections::BTreeMap;

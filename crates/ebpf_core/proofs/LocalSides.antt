@@ -13,7 +13,7 @@ use Rattle.ebpf_base.specs.Faults.{if_ok}
 use Rattle.ebpf_btf.specs.TypeInfo.{TypeInfo}
 use Rattle.ebpf_btf.specs.Steps.{resolved, type_at}
 use Rattle.ebpf_btf.specs.Strings.{text_at, type_name}
-use Rattle.ebpf_ext.specs.declared.relocation.Relocation.{Relocation}
+use Rattle.ebpf_btf_ext.specs.declared.relocation.Relocation.{Relocation}
 use Rattle.ebpf_core_candidates.proofs.Refusals.{by_answer}
 use Rattle.ebpf_core.specs.LocalPaths.{all_of, part_step, spot_after, accessors, field_path, local_path, path_for, spot_at_element, basis_of, FieldLeads, NoPart, NoRoot, NoField, ToField, IsRead, LocalPathLeads, OfType, NoType, OfVariant, OfField, LocalSideIs, NoLocalType, NoName, NoString, NoAccessors, NotResolved, NoPath, Led, AccessorsLead, Arrived, Refused, Onward, accessor_of, number_of_digits}
 use Rattle.ebpf_core.specs.Answers.{each, Tells, of_types}

@@ -13,9 +13,9 @@ use Rattle.ebpf_core.specs.Outcomes.{by_place}
 use Rattle.ebpf_core.specs.declared.matches.FoundMatch.{FoundMatch}
 use Rattle.ebpf_core.specs.declared.matches.FoundMatch.TheVariants as found
 use Rattle.ebpf_btf.specs.TypeInfo.{TypeInfo}
-use Rattle.ebpf_core_places.specs.declared.places.PlaceFault.{PlaceFault}
-use Rattle.ebpf_core_places.specs.declared.places.PlaceFault.TheVariants.{NestingLevel, Btf}
-use Rattle.ebpf_core_places.specs.declared.places.FieldPlace.{FieldPlace}
+use Rattle.ebpf_core.specs.declared.places.PlaceFault.{PlaceFault}
+use Rattle.ebpf_core.specs.declared.places.PlaceFault.TheVariants.{NestingLevel, Btf}
+use Rattle.ebpf_core.specs.declared.places.FieldPlace.{FieldPlace}
 
 -- what holds of a fault of types as one of the record, and of what follows
 pub by_types : {A X : Type 0} (P : Result X RelocationError → Type 0) (r : Result A TypeError) (next : A → Result X RelocationError)

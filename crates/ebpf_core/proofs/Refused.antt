@@ -6,7 +6,7 @@ use Rattle.std.proofs.lemmas.Bool.{and_parts}
 use Rattle.std.proofs.lemmas.Option.{same_Some}
 use Rattle.std.proofs.lemmas.Result.{IfErr-at_err, IfErr-weaker}
 use Rattle.ebpf_btf.specs.TypeInfo.{TypeInfo}
-use Rattle.ebpf_ext.specs.declared.relocation.Relocation.{Relocation}
+use Rattle.ebpf_btf_ext.specs.declared.relocation.Relocation.{Relocation}
 use Rattle.ebpf_base.specs.Faults.{if_ok}
 use Rattle.ebpf_core.specs.Answers.{FirstFails, Tells, each, of_types, without_texts, is_record_memory}
 use Rattle.ebpf_core.specs.LocalPaths.{local_path, LocalSideIs}

@@ -15,16 +15,16 @@ use Rattle.ebpf_btf.specs.Next.{if_some}
 use Rattle.ebpf_btf.specs.TypeInfo.{TypeInfo}
 use Rattle.ebpf_btf.specs.declared.error.BtfError.{BtfError}
 use Rattle.ebpf_btf.specs.declared.types.BtfType.{BtfType}
-use Rattle.ebpf_ext.specs.declared.relocation.Relocation.{Relocation}
+use Rattle.ebpf_btf_ext.specs.declared.relocation.Relocation.{Relocation}
 use Rattle.ebpf_btf.specs.declared.kind.BtfKind.{BtfKind}
 use Rattle.ebpf_btf.specs.Strings.{type_name, text_at}
 use Rattle.ebpf_btf.specs.Types.{is_kind, kind_number, kind_of, array_of, members_of}
 use Rattle.ebpf_btf.specs.Variants.{variants_of}
 use Rattle.ebpf_core_candidates.specs.Candidates.{IndexedTypes, has_named, is_among_kinds}
 use Rattle.ebpf_btf.specs.Steps.{resolved, type_at}
-use Rattle.ebpf_ext.proofs.Relocations.{numbers_of_relocation_kinds}
-use Rattle.ebpf_ext.specs.RelocationKinds.{relocation_kind, relocation_kind_number}
-use Rattle.ebpf_ext.specs.declared.relocation.RelocationKind.{RelocationKind}
+use Rattle.ebpf_btf_ext.proofs.Relocations.{numbers_of_relocation_kinds}
+use Rattle.ebpf_btf_ext.specs.RelocationKinds.{relocation_kind, relocation_kind_number}
+use Rattle.ebpf_btf_ext.specs.declared.relocation.RelocationKind.{RelocationKind}
 use Rattle.ebpf_base.proofs.Maps.{is_equal}
 use Rattle.ebpf_btf.specs.declared.kind.BtfKind.TheVariants as kinds
 use Rattle.ebpf_core.specs.declared.error.RelocationError.{RelocationError}

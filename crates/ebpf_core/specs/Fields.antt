@@ -6,16 +6,16 @@ use Rattle.ebpf_btf.specs.declared.error.BtfError.TheVariants.{InvalidTypeInfo}
 use Rattle.ebpf_base.specs.Faults.{if_ok}
 use Rattle.ebpf_btf.specs.Next.{if_some}
 use Rattle.ebpf_btf.specs.declared.members.BtfMember.{BtfMember}
-use Rattle.ebpf_ext.specs.declared.relocation.RelocationKind.{RelocationKind}
-use Rattle.ebpf_ext.specs.declared.relocation.RelocationKind.TheVariants.{FieldByteOffset, FieldByteSize, FieldExists, FieldSigned, FieldLShift64, FieldRShift64}
+use Rattle.ebpf_btf_ext.specs.declared.relocation.RelocationKind.{RelocationKind}
+use Rattle.ebpf_btf_ext.specs.declared.relocation.RelocationKind.TheVariants.{FieldByteOffset, FieldByteSize, FieldExists, FieldSigned, FieldLShift64, FieldRShift64}
 use Rattle.ebpf_btf.specs.declared.types.BtfType.{BtfType}
 use Rattle.ebpf_btf.specs.declared.types.BtfType.TheVariants.{Ptr, Int}
 use Rattle.ebpf_btf.specs.Steps.{resolved, resolved_type, size_of, type_at}
 use Rattle.ebpf_btf.specs.TypeInfo.{TypeInfo}
 use Rattle.ebpf_btf.specs.Types.{bit_field_size, is_signed, members_of, size_word}
-use Rattle.ebpf_core_places.specs.declared.places.FieldPlace.{FieldPlace}
-use Rattle.ebpf_core_places.specs.declared.places.PlaceEnd.{PlaceEnd}
-use Rattle.ebpf_core_places.specs.declared.places.PlaceEnd.TheVariants.{Element, Member}
+use Rattle.ebpf_core.specs.declared.places.FieldPlace.{FieldPlace}
+use Rattle.ebpf_core.specs.declared.places.PlaceEnd.{PlaceEnd}
+use Rattle.ebpf_core.specs.declared.places.PlaceEnd.TheVariants.{Element, Member}
 use Rattle.ebpf_core.specs.declared.field.Extent.{Extent}
 use Rattle.ebpf_core.specs.declared.field.FieldClass.{FieldClass}
 use Rattle.ebpf_core.specs.declared.field.FieldClass.TheVariants.{Pointer, UnsignedInt, Other}

@@ -4,3 +4,5 @@ pub mod Searches
 pub mod Fields
 pub mod Laws
 pub mod Outcomes
+pub mod Places
+pub mod Members

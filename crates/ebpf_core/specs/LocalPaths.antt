@@ -8,7 +8,7 @@ use Rattle.ebpf_base.specs.Faults.{if_ok}
 use Rattle.ebpf_btf.specs.Next.{if_some}
 use Rattle.ebpf_btf.specs.declared.array.BtfArray.{BtfArray}
 use Rattle.ebpf_btf.specs.declared.members.BtfMember.{BtfMember}
-use Rattle.ebpf_ext.specs.declared.relocation.Relocation.{Relocation}
+use Rattle.ebpf_btf_ext.specs.declared.relocation.Relocation.{Relocation}
 use Rattle.ebpf_btf.specs.declared.types.BtfType.{BtfType}
 use Rattle.ebpf_btf.specs.declared.variants.BtfVariant.{BtfVariant}
 use Rattle.ebpf_btf.specs.Steps.{resolved, resolved_type, type_at}
@@ -16,13 +16,13 @@ use Rattle.ebpf_btf.specs.Strings.{text_at, type_name}
 use Rattle.ebpf_btf.specs.TypeInfo.{TypeInfo}
 use Rattle.ebpf_btf.specs.Types.{array_of, bit_offset, members_of}
 use Rattle.ebpf_btf.specs.Variants.{variants_of}
-use Rattle.ebpf_core_places.specs.declared.places.PlaceEnd.{PlaceEnd}
-use Rattle.ebpf_core_places.specs.declared.places.PlaceEnd.TheVariants.{Element, Member}
-use Rattle.ebpf_core_places.specs.declared.places.Step.{Step}
-use Rattle.ebpf_core_places.specs.declared.places.Step.TheVariants.{Name, Index}
-use Rattle.ebpf_core_places.specs.Places.{checked_place, element_place, is_last_of}
-use Rattle.ebpf_ext.specs.declared.relocation.RelocationKind.{RelocationKind}
-use Rattle.ebpf_ext.specs.declared.relocation.RelocationKind.TheVariants.{FieldByteOffset, FieldByteSize, FieldExists, FieldSigned, FieldLShift64, FieldRShift64, TypeIdLocal, TypeIdTarget, TypeExists, TypeSize, EnumVariantExists, EnumVariantValue}
+use Rattle.ebpf_core.specs.declared.places.PlaceEnd.{PlaceEnd}
+use Rattle.ebpf_core.specs.declared.places.PlaceEnd.TheVariants.{Element, Member}
+use Rattle.ebpf_core.specs.declared.places.Step.{Step}
+use Rattle.ebpf_core.specs.declared.places.Step.TheVariants.{Name, Index}
+use Rattle.ebpf_core.specs.Places.{checked_place, element_place, is_last_of}
+use Rattle.ebpf_btf_ext.specs.declared.relocation.RelocationKind.{RelocationKind}
+use Rattle.ebpf_btf_ext.specs.declared.relocation.RelocationKind.TheVariants.{FieldByteOffset, FieldByteSize, FieldExists, FieldSigned, FieldLShift64, FieldRShift64, TypeIdLocal, TypeIdTarget, TypeExists, TypeSize, EnumVariantExists, EnumVariantValue}
 use Rattle.ebpf_btf.specs.declared.error.BtfError.{BtfError as TypeError}
 use Rattle.ebpf_core.specs.declared.error.RelocationError.{RelocationError}
 use Rattle.ebpf_core.specs.declared.error.RelocationError.TheVariants.{InvalidAccessString, MaximumNestingLevelReached, InvalidAccessIndex, InvalidRelocationKindForType, BtfError}

@@ -12,13 +12,13 @@ use Rattle.ebpf_btf.specs.Steps.{resolved_type, type_at, size_of}
 use Rattle.ebpf_btf.specs.Strings.{is_essential_name_at, type_name}
 use Rattle.ebpf_btf.specs.TypeInfo.{TypeInfo}
 use Rattle.ebpf_btf.specs.Variants.{variants_of}
-use Rattle.ebpf_core_places.specs.declared.places.PlaceFault.{PlaceFault}
-use Rattle.ebpf_core_places.specs.declared.places.PlaceFault.TheVariants.{NestingLevel, Btf}
-use Rattle.ebpf_core_places.specs.declared.places.FieldPlace.{FieldPlace}
-use Rattle.ebpf_core_places.specs.Places.{place_of}
-use Rattle.ebpf_ext.specs.declared.relocation.Relocation.{Relocation}
-use Rattle.ebpf_ext.specs.declared.relocation.RelocationKind.{RelocationKind}
-use Rattle.ebpf_ext.specs.declared.relocation.RelocationKind.TheVariants.{FieldExists, TypeIdTarget, TypeExists, TypeSize, EnumVariantExists, EnumVariantValue}
+use Rattle.ebpf_core.specs.declared.places.PlaceFault.{PlaceFault}
+use Rattle.ebpf_core.specs.declared.places.PlaceFault.TheVariants.{NestingLevel, Btf}
+use Rattle.ebpf_core.specs.declared.places.FieldPlace.{FieldPlace}
+use Rattle.ebpf_core.specs.Places.{place_of}
+use Rattle.ebpf_btf_ext.specs.declared.relocation.Relocation.{Relocation}
+use Rattle.ebpf_btf_ext.specs.declared.relocation.RelocationKind.{RelocationKind}
+use Rattle.ebpf_btf_ext.specs.declared.relocation.RelocationKind.TheVariants.{FieldExists, TypeIdTarget, TypeExists, TypeSize, EnumVariantExists, EnumVariantValue}
 use Rattle.ebpf_core.specs.declared.error.RelocationError.{RelocationError}
 use Rattle.ebpf_core.specs.declared.error.RelocationError.TheVariants.{MaximumNestingLevelReached, BtfError, ConflictingCandidates}
 use Rattle.ebpf_core.specs.declared.paths.NamedPath.{NamedPath}

@@ -6,9 +6,9 @@ use Rattle.std.specs.Ordering.{nat_cmp, ordering_then}
 use Rattle.std.specs.declared.cmp.Ordering.{Ordering}
 use Rattle.ebpf_core_candidates.specs.Candidates.{candidates, candidates_fault, candidates_of_both, candidates_of_both_fault, IndexedTypes, has_named, is_among_kinds}
 use Rattle.ebpf_btf.specs.declared.error.BtfError.{BtfError}
-use Rattle.ebpf_ext.specs.declared.relocation.Relocation.{Relocation}
-use Rattle.ebpf_ext.specs.declared.relocation.RelocationKind.{RelocationKind}
-use Rattle.ebpf_ext.specs.declared.relocation.RelocationKind.TheVariants.{TypeIdLocal}
+use Rattle.ebpf_btf_ext.specs.declared.relocation.Relocation.{Relocation}
+use Rattle.ebpf_btf_ext.specs.declared.relocation.RelocationKind.{RelocationKind}
+use Rattle.ebpf_btf_ext.specs.declared.relocation.RelocationKind.TheVariants.{TypeIdLocal}
 use Rattle.ebpf_btf.specs.declared.types.BtfType.{BtfType}
 use Rattle.ebpf_btf.specs.Steps.{type_at}
 use Rattle.ebpf_btf.specs.Strings.{type_name}
@@ -17,7 +17,7 @@ use Rattle.ebpf_btf.specs.Types.{is_kind, kind_of}
 use Rattle.ebpf_btf.specs.Variants.{variants_of}
 use Rattle.ebpf_base.specs.Faults.{if_ok}
 use Rattle.ebpf_btf.specs.declared.kind.BtfKind.{BtfKind}
-use Rattle.ebpf_ext.specs.RelocationKinds.{relocation_kind_number}
+use Rattle.ebpf_btf_ext.specs.RelocationKinds.{relocation_kind_number}
 use Rattle.ebpf_btf.specs.declared.kind.BtfKind.TheVariants as kinds
 use Rattle.ebpf_core.specs.declared.error.RelocationError.{RelocationError}
 use Rattle.ebpf_core.specs.declared.outcome.Outcome.{Outcome}

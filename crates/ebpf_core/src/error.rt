@@ -7,8 +7,8 @@ ghost use Rattle.ebpf_core.specs.declared.error.RelocationError.TheVariants as e
 
 use ebpf_base::{Items, Text};
 use ebpf_btf::{BtfError, BtfKind};
-use ebpf_core_places::Step;
-use ebpf_ext::RelocationKind;
+use crate::Step;
+use ebpf_btf_ext::RelocationKind;
 use std::alloc::{AllocError, AllocFailed, Global};
 use std::fmt;
 use thiserror::Error;

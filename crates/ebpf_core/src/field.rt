@@ -5,8 +5,8 @@ ghost use Rattle.ebpf_btf.specs.Steps.{size_of};
 ghost use Rattle.ebpf_core.specs.Fields.{member_number, class_of, element_value, field_value, member_extent, loaded_field, member_with_index, member_field_value, shift, value_of_member, value_with, container_start, bit_field_extent, container, container_holds, is_container, plain_extent};
 
 use ebpf_btf::{Btf, BtfError, BtfMember, BtfType};
-use ebpf_core_places::{FieldPlace, PlaceEnd};
-use ebpf_ext::RelocationKind;
+use crate::{FieldPlace, PlaceEnd};
+use ebpf_btf_ext::RelocationKind;
 
 /// The class of a field, by which a load of the field may change its size.
 #[derive(Clone, Copy, Debug, PartialEq, Eq)]

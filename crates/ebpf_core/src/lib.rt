@@ -9,8 +9,12 @@ mod field;
 pub mod laws;
 mod local_walk;
 mod matches;
+mod member_search;
 mod outcome;
 mod paths;
+pub mod place_laws;
+mod place_walk;
+mod places;
 mod search;
 
 pub use error::RelocationError;
@@ -18,3 +22,8 @@ pub use field::{FieldClass, LoadedField};
 pub use outcome::{Outcome, outcome_among};
 pub use paths::{LocalPath, NamedPath, local_path};
 pub use search::{CoreSearch, Question, question_of};
+pub use places::{
+    FieldPlace, PlaceEnd, PlaceFault, Step, checked_place, element_place, is_last_of,
+};
+pub use member_search::{FoundMember, find_member};
+pub use place_walk::place_in;

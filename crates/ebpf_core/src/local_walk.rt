@@ -11,7 +11,7 @@ use crate::error::{
 use crate::paths::NamedPath;
 use ebpf_base::{Items, Text};
 use ebpf_btf::{Btf, BtfArray, BtfMember, BtfType, Rows};
-use ebpf_core_places::{FieldPlace, PlaceEnd, Step, checked_place, element_place, is_last_of};
+use crate::{FieldPlace, PlaceEnd, Step, checked_place, element_place, is_last_of};
 use std::alloc::Global;
 
 /// The position of a path in a local type.

@@ -5,8 +5,8 @@ ghost use Rattle.std.specs.Result.{result_ok};
 ghost use Rattle.ebpf_btf.specs.Variants.{variants_of};
 ghost use Rattle.ebpf_core.specs.Answers.{Tells, of_types, each};
 ghost use Rattle.ebpf_core.specs.Outcomes.{by_place, first_variant, found_at_candidate, matches, type_name_at, variant_in, values_agree, field_in, match_value, match_of_number, type_value, variant_value};
-ghost use Rattle.ebpf_core_places.specs.Places.{place_of};
-ghost use Rattle.ebpf_core_places.specs.declared.places.PlaceFault.TheVariants.{NestingLevel};
+ghost use Rattle.ebpf_core.specs.Places.{place_of};
+ghost use Rattle.ebpf_core.specs.declared.places.PlaceFault.TheVariants.{NestingLevel};
 ghost use Rattle.ebpf_core.specs.Fields.{field_value};
 
 use crate::error::{RelocationError, too_nested};
@@ -15,8 +15,8 @@ use crate::paths::NamedPath;
 use ebpf_base::{Items, Text};
 use ebpf_btf::{Btf, BtfError, BtfType};
 use ebpf_core_candidates::types_are_compatible;
-use ebpf_core_places::{FieldPlace, PlaceFault, Step, place_in};
-use ebpf_ext::RelocationKind;
+use crate::{FieldPlace, PlaceFault, Step, place_in};
+use ebpf_btf_ext::RelocationKind;
 use std::alloc::Global;
 
 /// The end of a path in a type that matches.

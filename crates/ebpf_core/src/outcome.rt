@@ -13,8 +13,8 @@ use crate::matches::{MatchValue, match_values, matches_among, type_name_at};
 use crate::paths::{LocalPath, NamedPath};
 use ebpf_base::{Items, Text};
 use ebpf_btf::Btf;
-use ebpf_core_places::{FieldPlace, Step};
-use ebpf_ext::{Relocation, RelocationKind};
+use crate::{FieldPlace, Step};
+use ebpf_btf_ext::{Relocation, RelocationKind};
 use std::alloc::Global;
 
 /// The outcome of a record.

@@ -12,8 +12,8 @@ use crate::error::{
 use crate::local_walk::field_path;
 use ebpf_base::{Items, Text};
 use ebpf_btf::{Btf, BtfType, BtfVariant};
-use ebpf_core_places::{FieldPlace, Step};
-use ebpf_ext::{Relocation, RelocationKind};
+use crate::{FieldPlace, Step};
+use ebpf_btf_ext::{Relocation, RelocationKind};
 use std::alloc::{AllocError, Global};
 
 /// The subject of a record, by the names that its local type has.

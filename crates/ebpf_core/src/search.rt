@@ -16,7 +16,7 @@ use crate::paths::{LocalPath, local_path};
 use ebpf_base::Items;
 use ebpf_btf::{Btf, BtfError, BtfKind, BtfType};
 use ebpf_core_candidates::{KindsIndex, TypeIndex};
-use ebpf_ext::{Relocation, RelocationKind};
+use ebpf_btf_ext::{Relocation, RelocationKind};
 use std::alloc::{AllocError, Global};
 use std::collections::BTreeMap;
 use std::marker::Model;

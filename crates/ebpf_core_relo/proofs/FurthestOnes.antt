@@ -6,11 +6,11 @@ use Rattle.std.proofs.lemmas.Option.{same_Some}
 use Rattle.ebpf_btf.specs.TypeInfo.{TypeInfo}
 use Rattle.ebpf_base.specs.Faults.{if_ok}
 use Rattle.ebpf_core_candidates.proofs.Refusals.{by_test}
-use Rattle.ebpf_core_places.specs.Places.{root_spot, place_after, onward, place_of, next_spot}
-use Rattle.ebpf_core_places.specs.declared.places.PlaceFault.{PlaceFault}
-use Rattle.ebpf_core_places.specs.declared.places.Step.{Step}
-use Rattle.ebpf_core_places.specs.declared.places.Step.TheVariants.{Name, Index}
-use Rattle.ebpf_core_places.specs.declared.walk.TargetSpot.{TargetSpot}
+use Rattle.ebpf_core.specs.Places.{root_spot, place_after, onward, place_of, next_spot}
+use Rattle.ebpf_core.specs.declared.places.PlaceFault.{PlaceFault}
+use Rattle.ebpf_core.specs.declared.places.Step.{Step}
+use Rattle.ebpf_core.specs.declared.places.Step.TheVariants.{Name, Index}
+use Rattle.ebpf_core.specs.declared.place_walk.TargetSpot.{TargetSpot}
 use Rattle.ebpf_core_relo.specs.Absences.{further, greatest, is_place, leads, reach, ComesFurthest, FurthestComesFurthest, NoneLeads, furthest, nowhere}
 use Rattle.ebpf_core_relo.specs.declared.absence.Furthest.{Furthest}
 

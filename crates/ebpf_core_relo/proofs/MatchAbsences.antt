@@ -6,13 +6,13 @@ use Rattle.std.proofs.lemmas.Bool.{cases_lt}
 use Rattle.std.proofs.lemmas.Option.{same_Some, slice_get_past}
 use Rattle.ebpf_btf.specs.TypeInfo.{TypeInfo}
 use Rattle.ebpf_btf.specs.declared.error.BtfError.{BtfError}
-use Rattle.ebpf_ext.specs.declared.relocation.Relocation.{Relocation}
-use Rattle.ebpf_core_places.specs.Places.{place_of}
-use Rattle.ebpf_core_places.specs.declared.places.PlaceFault.{PlaceFault}
-use Rattle.ebpf_core_places.specs.declared.places.PlaceFault.TheVariants.{NestingLevel, Btf}
-use Rattle.ebpf_core_places.specs.declared.places.FieldPlace.{FieldPlace}
-use Rattle.ebpf_core_places.specs.declared.places.Step.{Step}
-use Rattle.ebpf_core_places.specs.declared.places.Step.TheVariants.{Name, Index}
+use Rattle.ebpf_btf_ext.specs.declared.relocation.Relocation.{Relocation}
+use Rattle.ebpf_core.specs.Places.{place_of}
+use Rattle.ebpf_core.specs.declared.places.PlaceFault.{PlaceFault}
+use Rattle.ebpf_core.specs.declared.places.PlaceFault.TheVariants.{NestingLevel, Btf}
+use Rattle.ebpf_core.specs.declared.places.FieldPlace.{FieldPlace}
+use Rattle.ebpf_core.specs.declared.places.Step.{Step}
+use Rattle.ebpf_core.specs.declared.places.Step.TheVariants.{Name, Index}
 use Rattle.ebpf_core.proofs.MatchSteps.{kept_with, match_more, no_candidates}
 use Rattle.ebpf_core.proofs.Searching.{outcomes_rest_on_questions, same_record}
 use Rattle.ebpf_base.specs.Faults.{if_ok}

@@ -18,14 +18,14 @@ use Rattle.ebpf_btf.specs.declared.error.BtfError.TheVariants.{UnknownBtfType}
 use Rattle.ebpf_btf.specs.declared.members.BtfMember.{BtfMember}
 use Rattle.ebpf_btf.specs.declared.types.BtfType.{BtfType}
 use Rattle.ebpf_core_candidates.specs.Compatibility.{fields_compatible}
-use Rattle.ebpf_core_places.proofs.Members.{known_members, known_role}
-use Rattle.ebpf_core_places.specs.Members.{MemberSearch, Member, if_read, member_search, indexed_member, members_from, members_in, named_role, role, anonymous_levels, anonymous_role, ViewEntry, below as under, view_entry, flat_view, is_misfit, empty_view, own, view, answer_member, or_on, run_search, search_entries, first_fitting, stop_by}
-use Rattle.ebpf_core_places.specs.declared.places.PlaceFault.{PlaceFault}
-use Rattle.ebpf_core_places.specs.declared.places.PlaceFault.TheVariants.{NestingLevel}
-use Rattle.ebpf_core_places.specs.declared.search.Role.{Role}
-use Rattle.ebpf_core_places.specs.declared.search.Role.TheVariants.{Anonymous, Other, Fitting, Misfit}
-use Rattle.ebpf_core_places.specs.declared.search.Answer.{Answer}
-use Rattle.ebpf_core_places.specs.declared.search.Answer.TheVariants.{Found, Absent}
+use Rattle.ebpf_core.proofs.Members.{known_members, known_role}
+use Rattle.ebpf_core.specs.Members.{MemberSearch, Member, if_read, member_search, indexed_member, members_from, members_in, named_role, role, anonymous_levels, anonymous_role, ViewEntry, below as under, view_entry, flat_view, is_misfit, empty_view, own, view, answer_member, or_on, run_search, search_entries, first_fitting, stop_by}
+use Rattle.ebpf_core.specs.declared.places.PlaceFault.{PlaceFault}
+use Rattle.ebpf_core.specs.declared.places.PlaceFault.TheVariants.{NestingLevel}
+use Rattle.ebpf_core.specs.declared.member_search.Role.{Role}
+use Rattle.ebpf_core.specs.declared.member_search.Role.TheVariants.{Anonymous, Other, Fitting, Misfit}
+use Rattle.ebpf_core.specs.declared.member_search.Answer.{Answer}
+use Rattle.ebpf_core.specs.declared.member_search.Answer.TheVariants.{Found, Absent}
 use Rattle.ebpf_core_relo.specs.Absences.{NamesAreMisfits, has_member, is_or_has, members_of_id}
 use Rattle.std.proofs.lemmas.List.{drop_all, drop_more}
 

@@ -21,7 +21,7 @@ use Rattle.ebpf_parts.specs.declared.insn.bpf_insn.{bpf_insn}
 use Rattle.ebpf_base.proofs.Maps.{key_exact, is_equal}
 use Rattle.ebpf_base.specs.Maps.{key_cmp, key_total}
 use Rattle.ebpf_model.specs.declared.function.Function.{Function}
-use Rattle.ebpf_ext.specs.declared.relocation.Relocation.{Relocation}
+use Rattle.ebpf_btf_ext.specs.declared.relocation.Relocation.{Relocation}
 use Rattle.ebpf_base.specs.Faults.{if_ok}
 use Rattle.ebpf_core.specs.Searches.{outcome_of}
 use Rattle.ebpf_core_relo.specs.RecordOutcomes.{goes_on}

@@ -10,7 +10,7 @@ use Rattle.std.proofs.lemmas.Result.{IfOk-at_ok}
 use Rattle.std.proofs.lemmas.List.{map-append}
 use Rattle.ebpf_base.proofs.Maps.{key_exact, is_equal}
 use Rattle.ebpf_base.specs.Maps.{key_cmp, key_total}
-use Rattle.ebpf_ext.specs.declared.relocation.Relocation.{Relocation}
+use Rattle.ebpf_btf_ext.specs.declared.relocation.Relocation.{Relocation}
 use Rattle.ebpf_core_candidates.proofs.Refusals.{by_answer, by_option, ok_parts, same_ok}
 use Rattle.ebpf_core.specs.Searches.{outcome_of}
 use Rattle.ebpf_core.specs.declared.error.RelocationError.{RelocationError}

@@ -8,7 +8,7 @@ use Rattle.ebpf_base.specs.Faults.{if_ok}
 use Rattle.ebpf_btf.specs.Next.{if_some}
 use Rattle.ebpf_btf.specs.Strings.{text_at}
 use Rattle.ebpf_btf.specs.declared.error.BtfError.{BtfError as TypeError}
-use Rattle.ebpf_ext.specs.declared.relocation.Relocation.{Relocation}
+use Rattle.ebpf_btf_ext.specs.declared.relocation.Relocation.{Relocation}
 use Rattle.ebpf_core.proofs.Refused.{outcome_first, outcome_refuses}
 use Rattle.ebpf_core_candidates.proofs.Refusals.{by_answer, by_option, ok_parts, same_ok}
 use Rattle.ebpf_core.specs.Searches.{outcome_of}

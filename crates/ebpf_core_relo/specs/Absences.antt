@@ -9,15 +9,15 @@ use Rattle.ebpf_btf.specs.Types.{members_of}
 use Rattle.ebpf_btf.specs.declared.error.BtfError.{BtfError}
 use Rattle.ebpf_btf.specs.declared.members.BtfMember.{BtfMember}
 use Rattle.ebpf_btf.specs.declared.types.BtfType.{BtfType}
-use Rattle.ebpf_core_places.specs.Members.{anonymous_levels, member_search, members_in, is_misfit, view, search_entries, first_fitting}
-use Rattle.ebpf_core_places.specs.Places.{place_of}
-use Rattle.ebpf_core_places.specs.declared.places.PlaceFault.{PlaceFault}
-use Rattle.ebpf_core_places.specs.declared.places.FieldPlace.{FieldPlace}
-use Rattle.ebpf_core_places.specs.declared.places.PlaceEnd.{PlaceEnd}
-use Rattle.ebpf_core_places.specs.declared.places.PlaceEnd.TheVariants.{Element, Member}
-use Rattle.ebpf_core_places.specs.declared.places.Step.{Step}
-use Rattle.ebpf_core_places.specs.declared.places.Step.TheVariants.{Name, Index}
-use Rattle.ebpf_ext.specs.declared.relocation.Relocation.{Relocation}
+use Rattle.ebpf_core.specs.Members.{anonymous_levels, member_search, members_in, is_misfit, view, search_entries, first_fitting}
+use Rattle.ebpf_core.specs.Places.{place_of}
+use Rattle.ebpf_core.specs.declared.places.PlaceFault.{PlaceFault}
+use Rattle.ebpf_core.specs.declared.places.FieldPlace.{FieldPlace}
+use Rattle.ebpf_core.specs.declared.places.PlaceEnd.{PlaceEnd}
+use Rattle.ebpf_core.specs.declared.places.PlaceEnd.TheVariants.{Element, Member}
+use Rattle.ebpf_core.specs.declared.places.Step.{Step}
+use Rattle.ebpf_core.specs.declared.places.Step.TheVariants.{Name, Index}
+use Rattle.ebpf_btf_ext.specs.declared.relocation.Relocation.{Relocation}
 use Rattle.ebpf_core.specs.Fields.{member_with_index}
 use Rattle.ebpf_core.specs.LocalPaths.{local_path}
 use Rattle.ebpf_core.specs.Searches.{candidates_for, outcome_of}

@@ -4,7 +4,7 @@ use Rattle.std.specs.FinMap.{FinMap, get, empty}
 use Rattle.ebpf_base.specs.Maps.{key_cmp, text_cmp}
 use Rattle.ebpf_btf.specs.Strings.{text_at}
 use Rattle.ebpf_btf.specs.declared.error.BtfError.{BtfError}
-use Rattle.ebpf_ext.specs.declared.relocation.Relocation.{Relocation}
+use Rattle.ebpf_btf_ext.specs.declared.relocation.Relocation.{Relocation}
 use Rattle.ebpf_core.specs.Searches.{outcome_of, Sides}
 use Rattle.ebpf_core.specs.declared.outcome.Outcome.{Outcome}
 use Rattle.ebpf_parts.specs.Slots.{class_ld}

@@ -2,13 +2,13 @@
 
 ghost use Rattle.std.specs.Prelude.{◌≡◌, IfOk, ◌≤◌, length, max};
 ghost use Rattle.ebpf_btf.specs.Strings.{is_text, text_at};
-ghost use Rattle.ebpf_core_places.specs.Places.{place_of};
+ghost use Rattle.ebpf_core.specs.Places.{place_of};
 ghost use Rattle.ebpf_core_relo.specs.Absences.{absence_among, field_absence, has_member, is_member_of, members_of_id, name_absence, type_of_end, furthest, leads, reach};
 
 use crate::error::unless_memory_of_places;
 use ebpf_btf::{Btf, BtfMember, Rows};
 use ebpf_core::NamedPath;
-use ebpf_core_places::{PlaceEnd, Step, place_in};
+use ebpf_core::{PlaceEnd, Step, place_in};
 use std::alloc::AllocError;
 
 /// The maximum number of anonymous members around a name that is looked for.

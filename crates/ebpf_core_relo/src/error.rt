@@ -4,12 +4,12 @@ ghost use Rattle.std.specs.Prelude.{◌≡◌, [], false, IfOk, OnOk};
 ghost use Rattle.ebpf_core.specs.declared.error.RelocationError.TheVariants.{OutOfMemory};
 ghost use Rattle.ebpf_core.specs.Answers.{is_record_memory};
 ghost use Rattle.ebpf_btf.specs.Memory as types;
-ghost use Rattle.ebpf_core_places.specs.Places as places;
+ghost use Rattle.ebpf_core.specs.Places as places;
 
 use ebpf_base::Text;
 use ebpf_btf::BtfError;
 use ebpf_core::RelocationError;
-use ebpf_core_places::PlaceFault;
+use ebpf_core::PlaceFault;
 use ebpf_parts::Within;
 use std::alloc::{AllocError, Global};
 use thiserror::Error;

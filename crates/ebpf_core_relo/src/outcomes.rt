@@ -16,7 +16,7 @@ use ebpf_base::{ByKey, ByName, Items};
 use ebpf_btf::{Btf, BtfError};
 use ebpf_core::{Outcome, RelocationError};
 use ebpf_elf::SectionIndex;
-use ebpf_ext::{BtfExt, Relocation};
+use ebpf_btf_ext::{BtfExt, Relocation};
 use ebpf_model::Function;
 use ebpf_parts::insn::bpf_insn;
 use std::alloc::{AllocError, Global};

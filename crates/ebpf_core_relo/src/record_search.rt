@@ -15,7 +15,7 @@ use crate::spans::FunctionSpans;
 use ebpf_base::{ByKey, Items};
 use ebpf_btf::Btf;
 use ebpf_core::{CoreSearch, NamedPath, Outcome, Question, local_path, question_of};
-use ebpf_ext::Relocation;
+use ebpf_btf_ext::Relocation;
 use ebpf_parts::insn::bpf_insn;
 use std::alloc::{AllocError, Global};
 use std::collections::BTreeMap;

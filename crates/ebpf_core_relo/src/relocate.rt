@@ -13,7 +13,7 @@ use ebpf_base::{ByKey, ByName, Items};
 use ebpf_btf::Btf;
 use ebpf_core::CoreSearch;
 use ebpf_elf::SectionIndex;
-use ebpf_ext::BtfExt;
+use ebpf_btf_ext::BtfExt;
 use ebpf_model::Function;
 use ebpf_parts::insn::bpf_insn;
 use std::alloc::Global;

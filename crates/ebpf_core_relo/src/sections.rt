@@ -17,7 +17,7 @@ use crate::spans::{FunctionSpans, Span, span_in};
 use ebpf_base::{ByKey, Items, Text};
 use ebpf_btf::BtfError;
 use ebpf_core::{CoreSearch, Outcome, RelocationError};
-use ebpf_ext::Relocation;
+use ebpf_btf_ext::Relocation;
 use ebpf_parts::insn::bpf_insn;
 use std::alloc::{AllocError, Global};
 

@@ -148,7 +148,7 @@ fn put_map(
 /// - the map `.kconfig` is put to its maps: an array of one entry that programs only read (flags 128), whose data are the
 ///   values, by descending alignment, then ascending size, then name, each at the next offset that its alignment divides,
 ///   zeros between them. It stands in section 0, no section's index, and has no symbol. Its value's type is the DATASEC
-///   (`ebpf_loading::map_types`, where the DATASEC states this size or 0);
+///   (`ebpf_load_info::map_types`, where the DATASEC states this size or 0);
 /// - each extern symbol that has the name of one is a definition in section 0 at the extern's offset, so that
 ///   `Object::relocate_maps` with the map among those handed in writes what refers to it.
 ///

@@ -14,7 +14,7 @@ use Rattle.ebpf_elf.specs.Sections.{SectionOf, header, data_of, sections}
 use Rattle.ebpf_elf.specs.Symbols.{SymbolOf, entry, symbols, symbol_name, symbol_kind, symbol_section_index}
 use Rattle.ebpf_elf.specs.declared.constants.TheConstants.{SHT_NOBITS}
 use Rattle.ebpf_elf.specs.declared.symbol.SymbolEntry.{SymbolEntry}
-use Rattle.ebpf_ext.specs.ExtReading.{ExtInfo}
+use Rattle.ebpf_btf_ext.specs.ExtReading.{ExtInfo}
 use Rattle.ebpf_model.specs.Symbols.{FunctionKey}
 use Rattle.ebpf_model.specs.declared.function.Function.{Function}
 use Rattle.ebpf_parsing.specs.FileContents.{own_symbols, functions, function_entries, programs_as, program_entries}

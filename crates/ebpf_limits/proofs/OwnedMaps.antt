@@ -10,12 +10,12 @@ use Rattle.ebpf_base.proofs.TextMaps.{text_exact}
 use Rattle.ebpf_btf.specs.Next.{if_some}
 use Rattle.ebpf_btf.specs.TypeInfo.{TypeInfo}
 use Rattle.ebpf_btf.specs.declared.error.BtfError.{BtfError}
-use Rattle.ebpf_declarations.specs.DataSections.{given, DatasecMatch, Named, UnreadableName, datasec_match}
-use Rattle.ebpf_declarations.specs.Maps.{declared, map_at, entry_map, type_maps, map_with_symbol, matched_maps as maps_of_entries, TypesInReading, types_in_reading}
-use Rattle.ebpf_declarations.specs.declared.members.MapDefinitions.{MapDefinitions}
+use Rattle.ebpf_btf_decls.specs.DataSections.{given, DatasecMatch, Named, UnreadableName, datasec_match}
+use Rattle.ebpf_btf_decls.specs.Maps.{declared, map_at, entry_map, type_maps, map_with_symbol, matched_maps as maps_of_entries, TypesInReading, types_in_reading}
+use Rattle.ebpf_btf_decls.specs.declared.members.MapDefinitions.{MapDefinitions}
 use Rattle.ebpf_elf.specs.Sections.{SectionOf, header, sections, section_name}
 use Rattle.ebpf_elf.specs.Symbols.{SymbolOf, entry, symbols, symbol_name, symbol_section_index}
-use Rattle.ebpf_ext.specs.ExtReading.{ExtInfo}
+use Rattle.ebpf_btf_ext.specs.ExtReading.{ExtInfo}
 use Rattle.ebpf_limits.specs.OwnedBytes.{SectionFacts, facts_of, facts_at, named_bytes, contents_by, contents_bytes, map_row, total}
 use Rattle.ebpf_limits.proofs.Counts.{Among, Counted, covered, all_map, all_flat_map, all_of, name_within, total_append, total_map}
 use Rattle.ebpf_limits.proofs.OwnedFunctions.{data_short}

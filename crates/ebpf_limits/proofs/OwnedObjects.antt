@@ -4,7 +4,7 @@ use Rattle.ebpf_base.specs.Faults.{first_in, Refuses}
 use Rattle.ebpf_base.proofs.Faults.{both_None}
 use Rattle.ebpf_elf.specs.Faults.{faults}
 use Rattle.ebpf_elf.specs.Symbols.{symbols}
-use Rattle.ebpf_ext.specs.ExtReading.{ExtInfo}
+use Rattle.ebpf_btf_ext.specs.ExtReading.{ExtInfo}
 use Rattle.ebpf_limits.specs.OwnedBytes.{license_bytes, type_information_bytes, all_facts, made_bytes, owned_bytes, ObjectsOwnWhatIsMade, readable_ext}
 use Rattle.ebpf_limits.proofs.OwnedTypes.{ext_owned, license_owned, types_owned, ext_same}
 use Rattle.ebpf_limits.proofs.OwnedTables.{externs_owned, all_parts, symbols_owned, names_owned}

@@ -11,7 +11,7 @@ use Rattle.std.proofs.lemmas.List.FromFn.{length-map-range_with_len}
 use Rattle.ebpf_elf.specs.Relocations.{relocation_sections, relocated_section, entry_count, table_entry, table_entries, entries_for, relocations}
 use Rattle.ebpf_elf.specs.Sections.{SectionOf, sections}
 use Rattle.ebpf_elf.specs.declared.relocation.ElfRelocation.{ElfRelocation}
-use Rattle.ebpf_ext.specs.ExtReading.{ExtInfo}
+use Rattle.ebpf_btf_ext.specs.ExtReading.{ExtInfo}
 use Rattle.ebpf_limits.specs.OwnedBytes.{entry_bytes, facts_of, facts_at, relocation_bytes, relocations_row, total}
 use Rattle.ebpf_limits.proofs.Counts.{Among, Counted, covered, all_map, all_flat_map, all_of}
 use Rattle.ebpf_limits.proofs.OwnedTables.{facts_in, sections_all, facts_here}

@@ -9,7 +9,7 @@ use Rattle.std.specs.Ordering.{eq_by_cmp}
 use Rattle.ebpf_elf.specs.Sections.{sections, SectionOf, section_name}
 use Rattle.ebpf_elf.specs.Symbols.{SymbolOf, entry, symbol_name, symbol_kind, symbol_section_index, symbols}
 use Rattle.ebpf_elf.specs.declared.symbol.SymbolEntry.{SymbolEntry}
-use Rattle.ebpf_ext.specs.ExtReading.{ExtInfo}
+use Rattle.ebpf_btf_ext.specs.ExtReading.{ExtInfo}
 use Rattle.ebpf_parsing.specs.Symbols.{is_text_symbol, file_symbols, symbol_of, symbol_entry, symbol_table, SymbolValue, is_in_section, section_symbols, weak_named}
 use Rattle.ebpf_parts.specs.declared.section.EbpfSectionKind.{EbpfSectionKind}
 use Rattle.ebpf_parts.specs.declared.section.EbpfSectionKind.TheVariants.{Undefined, Maps, BtfMaps, Program as Programs, Data, Rodata, Bss, Text, Btf, BtfExt, License, Version}
@@ -30,8 +30,8 @@ use Rattle.ebpf_btf.specs.Steps.{type_at, resolved}
 use Rattle.ebpf_btf.specs.Strings.{type_name}
 use Rattle.ebpf_btf.specs.declared.error.BtfError.{BtfError}
 use Rattle.ebpf_btf.specs.declared.members.DataSecEntry.{DataSecEntry}
-use Rattle.ebpf_declarations.specs.DataSections.{given, matched_entries}
-use Rattle.ebpf_declarations.specs.Externs.{extern_of, new_extern, extern_types, ksyms_datasec}
+use Rattle.ebpf_btf_decls.specs.DataSections.{given, matched_entries}
+use Rattle.ebpf_btf_decls.specs.Externs.{extern_of, new_extern, extern_types, ksyms_datasec}
 use Rattle.ebpf_model.specs.declared.symbol.ExternDesc.{ExternDesc}
 use Rattle.ebpf_limits.specs.OwnedBytes.{facts_of, SectionFacts, facts_at, function_bytes, named_bytes, placed_by, placed_in, symbol_bytes, total, section_entry_bytes, named_row, symbol_row}
 use Rattle.ebpf_limits.proofs.Counts.{Among, Counted, covered, all_append, all_map, all_flat_map, all_filter, all_of, found_among, name_within, each_at}

@@ -23,14 +23,14 @@ use Rattle.ebpf_btf.specs.declared.types.BtfType.{BtfType}
 use Rattle.ebpf_btf.specs.declared.types.BtfType.TheVariants.{Unknown}
 use Rattle.ebpf_btf.proofs.Lengths.{length_of_all}
 use Rattle.ebpf_btf.proofs.Spelling.{found_spelled}
-use Rattle.ebpf_declarations.specs.Externs.{extern_types, types_with, first_function_or_fault, ksyms_datasec, with_named, with_word, word_id, int_at, the_word, variable_at}
-use Rattle.ebpf_declarations.specs.DataSections.{matched_entries}
-use Rattle.ebpf_declarations.specs.declared.externs.FunctionOrFault.{FunctionOrFault}
-use Rattle.ebpf_declarations.specs.declared.externs.FunctionOrFault.TheVariants.{Function, UnreadableType}
+use Rattle.ebpf_btf_decls.specs.Externs.{extern_types, types_with, first_function_or_fault, ksyms_datasec, with_named, with_word, word_id, int_at, the_word, variable_at}
+use Rattle.ebpf_btf_decls.specs.DataSections.{matched_entries}
+use Rattle.ebpf_btf_decls.specs.declared.externs.FunctionOrFault.{FunctionOrFault}
+use Rattle.ebpf_btf_decls.specs.declared.externs.FunctionOrFault.TheVariants.{Function, UnreadableType}
 use Rattle.ebpf_elf.specs.Headers.{ei_data}
 use Rattle.ebpf_elf.specs.Sections.{SectionOf, data_faults, data_of}
-use Rattle.ebpf_ext.specs.ExtFormat.{ext_header_fault, func_part, line_part, core_relo_part, part_fault, part_length, part_start, record_size, sections_start, sections_end, sec_name_off_at, num_info_at, section_end, info_sec_fault, func_infos, line_infos, func_record, line_record, core_relos_at, core_relo_at, all_ok}
-use Rattle.ebpf_ext.specs.ExtReading.{read_ext, ExtInfo, checked_section, named_func_info, named_line_info, section_core_relos, func_section, line_section, core_relo_section, sections_from, part_sections, func_sections, line_sections, core_relo_sections}
+use Rattle.ebpf_btf_ext.specs.ExtFormat.{ext_header_fault, func_part, line_part, core_relo_part, part_fault, part_length, part_start, record_size, sections_start, sections_end, sec_name_off_at, num_info_at, section_end, info_sec_fault, func_infos, line_infos, func_record, line_record, core_relos_at, core_relo_at, all_ok}
+use Rattle.ebpf_btf_ext.specs.ExtReading.{read_ext, ExtInfo, checked_section, named_func_info, named_line_info, section_core_relos, func_section, line_section, core_relo_section, sections_from, part_sections, func_sections, line_sections, core_relo_sections}
 use Rattle.ebpf_parsing.specs.FileTypes.{types_of_file, btf_in, btf_of, btf_fault, types_fault_in, types_section, ext_in, ext_of, ext_beside, ext_fault, ext_fault_in, ext_fault_beside, ext_section, file_types_fault}
 use Rattle.ebpf_parsing.specs.LicenseAndVersion.{license_in, license_as, license_fault_in, license_fault_as, license_text}
 use Rattle.ebpf_parsing.specs.Sections.{first_section_named}
@@ -43,9 +43,9 @@ use Rattle.ebpf_base.specs.Maps.{put_all, text_cmp, text_total}
 use Rattle.ebpf_btf.proofs.InOrder.{items_length}
 use Rattle.ebpf_btf.specs.Strings.{text_at}
 use Rattle.ebpf_btf.specs.declared.error.BtfError.TheVariants.{InvalidHeader, InvalidInfo}
-use Rattle.ebpf_ext.specs.declared.ext_infos.FuncSecInfo.{FuncSecInfo}
-use Rattle.ebpf_ext.specs.declared.ext_infos.LineSecInfo.{LineSecInfo}
-use Rattle.ebpf_ext.specs.declared.relocation.Relocation.{Relocation}
+use Rattle.ebpf_btf_ext.specs.declared.ext_infos.FuncSecInfo.{FuncSecInfo}
+use Rattle.ebpf_btf_ext.specs.declared.ext_infos.LineSecInfo.{LineSecInfo}
+use Rattle.ebpf_btf_ext.specs.declared.relocation.Relocation.{Relocation}
 use Rattle.ebpf_limits.specs.OwnedBytes.{entry_bytes, license_bytes, types_in_bytes, types_bytes, readable_data, readable_types, readable_ext, ext_beside_types, data_in, funcs_row, lines_row, core_row, ext_bytes, part_bytes, ext_in_bytes, total}
 use Rattle.ebpf_limits.proofs.OwnedFunctions.{range_short}
 use Rattle.ebpf_limits.proofs.Counts.{Counted, covered, all_of}

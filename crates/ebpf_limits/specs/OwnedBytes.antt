@@ -8,7 +8,7 @@ use Rattle.ebpf_btf.specs.Reading.{type_info_of}
 use Rattle.ebpf_btf.specs.TypeInfo.{TypeInfo}
 use Rattle.ebpf_elf.specs.Headers.{ei_data}
 use Rattle.ebpf_elf.specs.Sections.{SectionOf, data_faults, data_of, header, sections, section_name}
-use Rattle.ebpf_ext.specs.ExtReading.{ExtInfo, read_ext, func_info_at, line_info_at}
+use Rattle.ebpf_btf_ext.specs.ExtReading.{ExtInfo, read_ext, func_info_at, line_info_at}
 use Rattle.ebpf_parsing.specs.FileTypes.{types_section, ext_section}
 use Rattle.ebpf_parsing.specs.Sections.{first_section_named, is_kind_of_code}
 use Rattle.ebpf_base.specs.declared.endianness.Endianness.{Endianness}
@@ -18,12 +18,12 @@ use Rattle.ebpf_elf.specs.Relocations.{relocation_sections, relocated_section, e
 use Rattle.ebpf_elf.specs.Symbols.{SymbolOf, entry, symbols, symbol_name, symbol_kind, symbol_section_index}
 use Rattle.ebpf_elf.specs.declared.relocation.ElfRelocation.{ElfRelocation}
 use Rattle.ebpf_elf.specs.declared.symbol.SymbolEntry.{SymbolEntry}
-use Rattle.ebpf_ext.specs.ExtFormat.{func_part, line_part, core_relo_part, part_length}
-use Rattle.ebpf_ext.specs.declared.ext_infos.FuncSecInfo.{FuncSecInfo}
-use Rattle.ebpf_ext.specs.declared.ext_infos.LineSecInfo.{LineSecInfo}
-use Rattle.ebpf_ext.specs.declared.ext_infos.bpf_func_info.{bpf_func_info}
-use Rattle.ebpf_ext.specs.declared.ext_infos.bpf_line_info.{bpf_line_info}
-use Rattle.ebpf_ext.specs.declared.relocation.Relocation.{Relocation}
+use Rattle.ebpf_btf_ext.specs.ExtFormat.{func_part, line_part, core_relo_part, part_length}
+use Rattle.ebpf_btf_ext.specs.declared.ext_infos.FuncSecInfo.{FuncSecInfo}
+use Rattle.ebpf_btf_ext.specs.declared.ext_infos.LineSecInfo.{LineSecInfo}
+use Rattle.ebpf_btf_ext.specs.declared.ext_infos.bpf_func_info.{bpf_func_info}
+use Rattle.ebpf_btf_ext.specs.declared.ext_infos.bpf_line_info.{bpf_line_info}
+use Rattle.ebpf_btf_ext.specs.declared.relocation.Relocation.{Relocation}
 use Rattle.ebpf_model.specs.Symbols.{FunctionKey}
 use Rattle.ebpf_model.specs.declared.function.Function.{Function}
 use Rattle.ebpf_model.specs.declared.function.Program.{Program}

@@ -8,7 +8,7 @@ ghost use Rattle.ebpf_elf.specs.Symbols.{entry, symbol_kind};
 ghost use Rattle.ebpf_sections.specs.Symbols.{is_text_symbol};
 
 use ebpf_elf::{ElfFile, ElfSection, ElfSymbol, SymbolKind};
-use ebpf_ext::{BtfExt, bpf_func_info, bpf_line_info};
+use ebpf_btf_ext::{BtfExt, bpf_func_info, bpf_line_info};
 use ebpf_parts::EbpfSectionKind;
 use ebpf_parts::insn::bpf_insn;
 use ebpf_sections::info_records::{NamesSlot, is_in_order, lower_bound};

@@ -3,14 +3,14 @@
 ghost use Rattle.std.specs.Prelude.{◌≡◌, ◌<◌, ◌≤◌, ◌^◌, IfOk};
 ghost use Rattle.std.specs.Result.{result_ok};
 ghost use Rattle.ebpf_btf.specs.Reading.{type_info_of};
-ghost use Rattle.ebpf_ext.specs.ExtReading.{read_ext};
+ghost use Rattle.ebpf_btf_ext.specs.ExtReading.{read_ext};
 ghost use Rattle.ebpf_limits.specs.OwnedBytes.{license_bytes, type_information_bytes, types_in_bytes, part_bytes, ext_in_bytes, readable_data, data_named, readable_types, readable_ext};
 
 use crate::symbols::ENTRY;
 use ebpf_base::numbers::read_u32;
 use ebpf_btf::{Btf, BtfError, Endianness};
 use ebpf_elf::{ElfFile, ElfSection};
-use ebpf_ext::BtfExt;
+use ebpf_btf_ext::BtfExt;
 use std::alloc::{AllocError, Global};
 
 /// The data of a section; empty if it is outside the file.
@@ -113,7 +113,7 @@ fn types_bytes(order: Endianness, bytes: &[u8], types: &Option<Btf>) -> u128
 }
 
 /// The number of bytes of a part of `.BTF.ext`, whose offset and length are at `at` in the header.
-#[tactic(auto, unfolding(ebpf_ext::specs::ExtFormat::part_length, ebpf_btf::specs::Reading::header_length))]
+#[tactic(auto, unfolding(ebpf_btf_ext::specs::ExtFormat::part_length, ebpf_btf::specs::Reading::header_length))]
 fn part_bytes(order: Endianness, bytes: &[u8], at: usize) -> u128
     requires { at ≤ 24 }
     ensures exact { result ≡ part_bytes order bytes.now at }

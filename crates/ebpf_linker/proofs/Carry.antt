@@ -2,8 +2,8 @@
 use Rattle.std.proofs.Common.{◌≡◌, ◌≢◌, ℕ, ◌+◌, Bool, true, false, List, [], ◌∷◌, ◌++◌, map, length, Option, Some, None, refl, sym, ap, ◌∙◌, subst, inl, inr, arith}
 use Rattle.std.specs.Prelude.{option_map, slice_get, pos, ◌-ℤ◌, if◌then◌else◌, ◌||◌}
 use Rattle.ebpf_base.specs.Faults.{first_of}
-use Rattle.ebpf_ext.specs.declared.ext_infos.bpf_func_info.{bpf_func_info}
-use Rattle.ebpf_ext.specs.declared.ext_infos.bpf_line_info.{bpf_line_info}
+use Rattle.ebpf_btf_ext.specs.declared.ext_infos.bpf_func_info.{bpf_func_info}
+use Rattle.ebpf_btf_ext.specs.declared.ext_infos.bpf_line_info.{bpf_line_info}
 use Rattle.ebpf_linker.proofs.Checked.{checked_names}
 use Rattle.ebpf_linker.proofs.OneResult.{no_longer}
 use Rattle.ebpf_linker.proofs.Renamed.{renamed, Numbers, SameReferences, AllNumbers, number_at, all_numbers, among_to, among_from, last_to, last_number, numbers_of, distinct_from, faulty_from, distinct_to, walk_numbers, reached_number, walk_to, walk_from, simple_to, simple_from, end_from, key_path_to, key_path_from, key_path_number, in_order_to, names_from}

@@ -7,8 +7,8 @@ use Rattle.std.proofs.lemmas.List.Elements.{All-set}
 use Rattle.std.proofs.lemmas.Option.{slice_get-get_or}
 use Rattle.ebpf_base.proofs.Lists.{rest_more}
 use Rattle.ebpf_base.specs.Faults.{first_of}
-use Rattle.ebpf_ext.specs.declared.ext_infos.bpf_func_info.{bpf_func_info}
-use Rattle.ebpf_ext.specs.declared.ext_infos.bpf_line_info.{bpf_line_info}
+use Rattle.ebpf_btf_ext.specs.declared.ext_infos.bpf_func_info.{bpf_func_info}
+use Rattle.ebpf_btf_ext.specs.declared.ext_infos.bpf_line_info.{bpf_line_info}
 use Rattle.ebpf_linker.proofs.Checked.{content_read}
 use Rattle.ebpf_linker.proofs.Whole.{length-copied_slots}
 use Rattle.ebpf_linker.specs.Copies.{body_at, with_bases, bodies_slot_count, copied_slots, linked_copies, Fit, references_of_copy, references_of_copies, linked_reference, with_linked_reference}

@@ -1,7 +1,7 @@
 //! A function before linking, and a program after it.
 
 use ebpf_base::Items;
-use ebpf_ext::{bpf_func_info, bpf_line_info};
+use ebpf_btf_ext::{bpf_func_info, bpf_line_info};
 use ebpf_parts::insn::bpf_insn;
 
 /// The part of a function that linking reads.

@@ -8,7 +8,7 @@ ghost use Rattle.ebpf_linker.specs.Numbered.{functions_by_number};
 ghost use Rattle.ebpf_linker.specs.Result.{func_moved, line_moved, linked_func_info, linked_line_info, has_lines, count_if};
 
 use crate::body::Body;
-use ebpf_ext::{bpf_func_info, bpf_line_info};
+use ebpf_btf_ext::{bpf_func_info, bpf_line_info};
 use std::alloc::{AllocError, Global};
 
 /// A line info entry, moved from the first line of its function to a base.

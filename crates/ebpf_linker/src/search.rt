@@ -12,7 +12,7 @@ use crate::body::Body;
 use crate::functions::Functions;
 use crate::reference::{Fault, Target};
 use crate::tables::{Tables, unmark};
-use ebpf_ext::bpf_line_info;
+use ebpf_btf_ext::bpf_line_info;
 use std::alloc::{AllocError, Global};
 
 /// A frame of the search, which is depth-first: a function whose references are being followed, its place in the order, and

@@ -8,7 +8,7 @@ use Rattle.std.specs.FinMap.{FinMap, get, entries, find, get-entries}
 use Rattle.std.specs.List.{list_any}
 use Rattle.std.specs.Ordering.{eq_by_cmp}
 use Rattle.ebpf_base.specs.Maps.{text_cmp, key_cmp, key_total}
-use Rattle.ebpf_ext.specs.ExtReading.{ExtInfo}
+use Rattle.ebpf_btf_ext.specs.ExtReading.{ExtInfo}
 use Rattle.ebpf_btf.specs.TypeInfo.{TypeInfo}
 use Rattle.ebpf_core_relo.proofs.RecordRuns.{put_slots_stand, records_alone_are_carried}
 use Rattle.ebpf_core_relo.specs.RecordOutcomes.{Touches, Carries}

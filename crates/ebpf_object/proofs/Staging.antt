@@ -16,7 +16,7 @@ use Rattle.ebpf_object.specs.declared.prepare_error.PrepareError.{PrepareError}
 use Rattle.ebpf_object.specs.declared.prepare_error.PrepareError.TheVariants.{Parse, Types, Maps, Ksyms, Externs, Calls, OutOfMemory}
 use Rattle.ebpf_parts.specs.declared.maps.either.Map.{Map}
 use Rattle.ebpf_parts.specs.declared.reading.Reading.{Reading}
-use Rattle.ebpf_passes.specs.Maps.{GivenMap, LentMap, given_map}
+use Rattle.ebpf_reloc.specs.Maps.{GivenMap, LentMap, given_map}
 
 -- what follows of an answer
 module _ {U E : Type 0} where

@@ -22,8 +22,8 @@ use Rattle.ebpf_base.proofs.Maps.{get-view}
 use Rattle.ebpf_base.proofs.TextMaps.{entries-text}
 use Rattle.ebpf_base.specs.Maps.{text_cmp, text_total, lent_bytes, by_bytes}
 use Rattle.ebpf_object.specs.Patches.{global_of, globals_of, overwritten}
-use Rattle.ebpf_passes.specs.Maps.{GivenMap, LentMap, given_map}
-use Rattle.ebpf_passes.specs.Passes.{HoldsOfGivenMaps}
+use Rattle.ebpf_reloc.specs.Maps.{GivenMap, LentMap, given_map}
+use Rattle.ebpf_reloc.specs.Passes.{HoldsOfGivenMaps}
 
 -- an iterator that gives all of a list
 module _ {Z : Type 0} (s : IntoIter LentMap Z) (all : List LentMap) (items : into_iter_items s ≡ all) (len : into_iter_len s ≡ length all) where

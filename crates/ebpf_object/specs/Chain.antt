@@ -6,7 +6,7 @@ use Rattle.ebpf_object.specs.LinkedPrograms.{linkable_of, programs_in_order, Pro
 use Rattle.ebpf_object.specs.Stages.{RelocatesTypes}
 use Rattle.ebpf_object.specs.WrittenSlots.{with_maps, with_externs}
 use Rattle.ebpf_object.specs.declared.object.Object.{Object}
-use Rattle.ebpf_passes.specs.Maps.{GivenMap}
+use Rattle.ebpf_reloc.specs.Maps.{GivenMap}
 use Rattle.ebpf_model.specs.Symbols.{TextSections}
 
 -- the passes that were made: the types that functions were relocated to; the sections of code and the maps with

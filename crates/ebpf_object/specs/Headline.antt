@@ -11,9 +11,9 @@
 -- slot. No public field is written by hand between the calls.
 use Rattle.std.specs.Prelude.{◌≡◌, ◌⊎◌, ℕ, ◌+◌, List, ◌∷◌, Option, Some, None, option_map, Ok, if◌then◌else◌, slice_get, MatchBool}
 use Rattle.std.specs.FinMap.{get}
-use Rattle.ebpf_ext.specs.ExtReading.{ExtInfo}
+use Rattle.ebpf_btf_ext.specs.ExtReading.{ExtInfo}
 use Rattle.ebpf_btf.specs.TypeInfo.{TypeInfo}
-use Rattle.ebpf_ext.specs.declared.relocation.Relocation.{Relocation}
+use Rattle.ebpf_btf_ext.specs.declared.relocation.Relocation.{Relocation}
 use Rattle.ebpf_core_relo.specs.RecordOutcomes.{records_with_sections, Touches, WritesAlone, Carries}
 use Rattle.ebpf_core_relo.specs.Records.{RelocationInputs, Written, own_slots, relocation_inputs_between, slots_written}
 use Rattle.ebpf_ksyms.specs.Sources.{Source}

@@ -19,7 +19,7 @@ use Rattle.ebpf_object.specs.declared.object.Object.{Object}
 use Rattle.ebpf_object.specs.declared.prepare.Steps.{Steps}
 use Rattle.ebpf_object.specs.declared.prepare_error.PrepareError.{PrepareError}
 use Rattle.ebpf_parts.specs.declared.maps.either.Map.{Map}
-use Rattle.ebpf_passes.specs.Maps.{GivenMap}
+use Rattle.ebpf_reloc.specs.Maps.{GivenMap}
 use Rattle.ebpf_reloc.specs.Linking.{IsFirstRefusal}
 
 -- the name of a map, and its descriptor

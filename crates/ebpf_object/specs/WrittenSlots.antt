@@ -8,13 +8,13 @@ use Rattle.ebpf_core_relo.specs.Records.{Written, relocation_inputs_between, slo
 use Rattle.ebpf_core_relo.specs.declared.error.BtfRelocationError.{BtfRelocationError}
 use Rattle.ebpf_core_relo.specs.declared.outcomes.RecordOutcome.{RecordOutcome}
 use Rattle.ebpf_core_relo.specs.declared.outcomes.RecordOutcomes.{RecordOutcomes}
-use Rattle.ebpf_ext.specs.ExtReading.{ExtInfo}
+use Rattle.ebpf_btf_ext.specs.ExtReading.{ExtInfo}
 use Rattle.ebpf_model.specs.Symbols.{TextSections, FunctionKey}
 use Rattle.ebpf_model.specs.declared.error.EbpfRelocationError.{EbpfRelocationError}
 use Rattle.ebpf_model.specs.declared.function.Function.{Function}
 use Rattle.ebpf_object.specs.declared.object.Object.{Object}
-use Rattle.ebpf_passes.specs.Maps.{GivenMap}
-use Rattle.ebpf_passes.specs.Passes.{with_map_fds, map_fault, externs_written, extern_fault}
+use Rattle.ebpf_reloc.specs.Maps.{GivenMap}
+use Rattle.ebpf_reloc.specs.Passes.{with_map_fds, map_fault, externs_written, extern_fault}
 
 -- the object with the descriptors of some maps
 abbrev pub with_maps : Object → TextSections → List GivenMap → Object

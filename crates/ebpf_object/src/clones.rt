@@ -5,7 +5,7 @@ ghost use Rattle.std.specs.Prelude.{◌≡◌, IfOk};
 use crate::object::Object;
 use ebpf_base::{ByIndex, ByKey, ByName, ByOffset, BySection, Items};
 use ebpf_btf::Btf;
-use ebpf_ext::BtfExt;
+use ebpf_btf_ext::BtfExt;
 use ebpf_parsing::ObjectTables;
 use ebpf_parts::Relocation;
 use std::alloc::AllocError;

@@ -4,9 +4,9 @@
 pub use ebpf_core::{
     CoreSearch, FieldClass, LoadedField, LocalPath, NamedPath, Outcome, local_path, outcome_among,
 };
-pub use ebpf_core_places::{FieldPlace, PlaceEnd, Step};
+pub use ebpf_core::{FieldPlace, PlaceEnd, Step};
 pub use ebpf_core_relo::{
     Absence, BtfRelocationError, RecordOutcome, RecordOutcomes, RecordResult, RecordSlot,
     RelocationError,
 };
-pub use ebpf_ext::{Relocation, RelocationKind};
+pub use ebpf_btf_ext::{Relocation, RelocationKind};

@@ -21,7 +21,7 @@ pub use ebpf_parsing::laws::{
     sections_tile, stated_gives_nothing_broad, symbols_stand_at_their_indices,
 };
 pub use ebpf_parts::laws::{kinds_of_names_agree, names_are_read};
-pub use ebpf_passes::laws::{offsets_add_up, passes_keep_shapes};
+pub use ebpf_reloc::pass_laws::{offsets_add_up, passes_keep_shapes};
 pub use ebpf_reloc::laws::{
     link_maps_match, link_maps_refuse_alike, one_link_map, one_result, plain_slots_stay,
 };

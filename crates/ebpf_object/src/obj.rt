@@ -4,7 +4,7 @@ pub use crate::explained_parse::ExplainedParse;
 pub use crate::object::Object;
 pub use ebpf_base::{ByIndex, ByKey, ByName, ByNumber, ByOffset, BySection, Items, Text};
 pub use ebpf_btf::{Btf, BtfError, Endianness};
-pub use ebpf_ext::{
+pub use ebpf_btf_ext::{
     BtfExt, FuncInfo, FuncSecInfo, LineInfo, LineSecInfo, bpf_func_info, bpf_line_info,
 };
 pub use ebpf_model::{ExternDesc, Function, Program, Symbol};

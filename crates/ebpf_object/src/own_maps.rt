@@ -9,8 +9,8 @@ ghost use Rattle.ebpf_object.specs.Stages.{Wrapped, own_maps, fds_written, fds_f
 ghost use Rattle.ebpf_object.specs.Names.{has_function_in};
 ghost use Rattle.ebpf_object.specs.WrittenSlots.{with_maps, maps_fault};
 ghost use Rattle.ebpf_object.specs.declared.prepare_error.PrepareError.TheVariants.{Maps};
-ghost use Rattle.ebpf_passes.specs.Maps.{given_map};
-ghost use Rattle.ebpf_passes.specs.Relocated.{out_of_memory};
+ghost use Rattle.ebpf_reloc.specs.Maps.{given_map};
+ghost use Rattle.ebpf_reloc.specs.Relocated.{out_of_memory};
 ghost use Rattle.ebpf_model.specs.Memory.{is_memory_at};
 ghost use Rattle.ebpf_model.specs.Symbols.{text_sections_in};
 

@@ -7,8 +7,8 @@ ghost use Rattle.ebpf_core_relo.specs.Records.{is_memory_in_section, without_tex
 ghost use Rattle.ebpf_model.specs.Memory.{is_memory_at};
 ghost use Rattle.ebpf_model.specs.Symbols.{text_sections_in};
 ghost use Rattle.ebpf_object.specs.WrittenSlots.{relocated_slots, AreRelocatedToTypes, with_maps, maps_fault, with_externs, externs_fault};
-ghost use Rattle.ebpf_passes.specs.Passes.{HoldsOfGivenMaps};
-ghost use Rattle.ebpf_passes.specs.Relocated.{out_of_memory};
+ghost use Rattle.ebpf_reloc.specs.Passes.{HoldsOfGivenMaps};
+ghost use Rattle.ebpf_reloc.specs.Relocated.{out_of_memory};
 
 use crate::object::Object;
 use ebpf_base::{ByKey, Items};
@@ -98,7 +98,7 @@ impl Object {
         ensures err { OnErr result (self.new ≡ self.old) }
     {
         let alloc = self.allocator();
-        ebpf_passes::relocate_maps(
+        ebpf_reloc::relocate_maps(
             alloc,
             &mut self.functions,
             &self.symbol_table,
@@ -137,7 +137,7 @@ impl Object {
             return Ok(());
         }
         let alloc = self.allocator();
-        ebpf_passes::relocate_externs(
+        ebpf_reloc::relocate_externs(
             alloc,
             &mut self.functions,
             &self.symbol_table,

@@ -7,7 +7,7 @@ use Rattle.ebpf_base.proofs.Mapped.{put_all-flat_map}
 use Rattle.ebpf_base.specs.Faults.{or_else, first_some}
 use Rattle.ebpf_base.specs.Maps.{put_all, text_cmp}
 use Rattle.ebpf_btf.specs.TypeInfo.{TypeInfo}
-use Rattle.ebpf_declarations.specs.Maps.{TypesInReading, types_in_reading}
+use Rattle.ebpf_btf_decls.specs.Maps.{TypesInReading, types_in_reading}
 use Rattle.ebpf_elf.specs.Relocations.{relocation_sections, relocated_section, table_entries}
 use Rattle.ebpf_elf.specs.Sections.{SectionOf}
 use Rattle.ebpf_elf.specs.declared.relocation.ElfRelocation.{ElfRelocation}

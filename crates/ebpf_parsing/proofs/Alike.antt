@@ -11,8 +11,8 @@ use Rattle.ebpf_base.specs.Faults.{or_else, first_of, first_in, first_some}
 use Rattle.ebpf_base.specs.Maps.{put_all, text_cmp}
 use Rattle.ebpf_base.specs.declared.endianness.Endianness.TheVariants.{Little}
 use Rattle.ebpf_btf.specs.TypeInfo.{TypeInfo}
-use Rattle.ebpf_declarations.proofs.BothReadings.{broad_declares_as_stated}
-use Rattle.ebpf_declarations.specs.Maps.{btf_maps_fault, types_in_reading}
+use Rattle.ebpf_btf_decls.proofs.BothReadings.{broad_declares_as_stated}
+use Rattle.ebpf_btf_decls.specs.Maps.{btf_maps_fault, types_in_reading}
 use Rattle.ebpf_elf.specs.Faults.{faults}
 use Rattle.ebpf_elf.specs.Headers.{ei_data}
 use Rattle.ebpf_elf.specs.Sections.{SectionOf, sections}

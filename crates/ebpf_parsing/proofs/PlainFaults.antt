@@ -9,9 +9,9 @@ use Rattle.ebpf_btf.specs.Next.{if_some}
 use Rattle.ebpf_btf.specs.TypeInfo.{TypeInfo}
 use Rattle.ebpf_btf.specs.declared.error.BtfError.{BtfError as TypeError}
 use Rattle.ebpf_btf.specs.declared.error.BtfError.TheVariants.{InvalidSymbolName}
-use Rattle.ebpf_declarations.specs.DataSections.{DatasecMatch, Named, UnreadableName, datasec_match}
-use Rattle.ebpf_declarations.specs.Maps.{declared, map_with_symbol, map_at, entry_map, matched_maps_fault as fault_of_entries, type_maps_fault, btf_maps_fault, TypesInReading, types_in_reading}
-use Rattle.ebpf_declarations.specs.declared.members.MapDefinitions.{MapDefinitions}
+use Rattle.ebpf_btf_decls.specs.DataSections.{DatasecMatch, Named, UnreadableName, datasec_match}
+use Rattle.ebpf_btf_decls.specs.Maps.{declared, map_with_symbol, map_at, entry_map, matched_maps_fault as fault_of_entries, type_maps_fault, btf_maps_fault, TypesInReading, types_in_reading}
+use Rattle.ebpf_btf_decls.specs.declared.members.MapDefinitions.{MapDefinitions}
 use Rattle.ebpf_elf.specs.Faults.{faults}
 use Rattle.ebpf_elf.specs.Headers.{ei_data}
 use Rattle.ebpf_elf.specs.Relocations.{relocations}

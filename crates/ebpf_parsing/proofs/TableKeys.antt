@@ -18,10 +18,10 @@ use Rattle.ebpf_btf.specs.Strings.{type_name}
 use Rattle.ebpf_btf.specs.TypeInfo.{TypeInfo}
 use Rattle.ebpf_btf.specs.declared.error.BtfError.{BtfError}
 use Rattle.ebpf_btf.specs.declared.members.DataSecEntry.{DataSecEntry}
-use Rattle.ebpf_declarations.specs.DataSections.{given, matched_entries, DatasecMatch, Named, UnreadableName, datasec_match}
-use Rattle.ebpf_declarations.specs.Externs.{extern_of, extern_types, ksyms_datasec}
-use Rattle.ebpf_declarations.specs.Maps.{declared, map_at, entry_map, type_maps, map_with_symbol, matched_maps as maps_of_entries, TypesInReading, types_in_reading}
-use Rattle.ebpf_declarations.specs.declared.members.MapDefinitions.{MapDefinitions}
+use Rattle.ebpf_btf_decls.specs.DataSections.{given, matched_entries, DatasecMatch, Named, UnreadableName, datasec_match}
+use Rattle.ebpf_btf_decls.specs.Externs.{extern_of, extern_types, ksyms_datasec}
+use Rattle.ebpf_btf_decls.specs.Maps.{declared, map_at, entry_map, type_maps, map_with_symbol, matched_maps as maps_of_entries, TypesInReading, types_in_reading}
+use Rattle.ebpf_btf_decls.specs.declared.members.MapDefinitions.{MapDefinitions}
 use Rattle.ebpf_elf.specs.Symbols.{symbol_table_section as table_of, symbols_in}
 use Rattle.ebpf_elf.specs.declared.relocation.ElfRelocation.{ElfRelocation}
 use Rattle.ebpf_model.specs.declared.symbol.ExternDesc.{ExternDesc}

@@ -8,7 +8,7 @@ use Rattle.ebpf_base.proofs.Faults.{both_None}
 use Rattle.ebpf_base.proofs.Maps.{key_exact, is_equal}
 use Rattle.ebpf_base.specs.Faults.{first_some}
 use Rattle.ebpf_base.specs.Maps.{key_cmp, key_total}
-use Rattle.ebpf_ext.specs.ExtReading.{ExtInfo}
+use Rattle.ebpf_btf_ext.specs.ExtReading.{ExtInfo}
 use Rattle.ebpf_model.specs.declared.function.Function.{Function}
 use Rattle.ebpf_parts.specs.Sections.{SectionValue}
 use Rattle.ebpf_parts.specs.declared.section.EbpfSectionKind.{EbpfSectionKind}

@@ -12,7 +12,7 @@ use Rattle.ebpf_elf.specs.Headers.{ei_data}
 use Rattle.ebpf_elf.specs.Sections.{SectionOf}
 use Rattle.ebpf_elf.specs.declared.relocation.ElfRelocation.{ElfRelocation}
 use Rattle.ebpf_elf.specs.declared.section.SectionIndex.{SectionIndex}
-use Rattle.ebpf_ext.specs.ExtReading.{ExtInfo}
+use Rattle.ebpf_btf_ext.specs.ExtReading.{ExtInfo}
 use Rattle.ebpf_model.specs.Symbols.{FunctionKey}
 use Rattle.ebpf_model.specs.declared.function.Function.{Function}
 use Rattle.ebpf_model.specs.declared.function.Program.{Program}

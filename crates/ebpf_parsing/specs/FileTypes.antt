@@ -9,11 +9,11 @@ use Rattle.ebpf_base.specs.declared.endianness.Endianness.{Endianness}
 use Rattle.ebpf_btf.specs.Reading.{type_info_of}
 use Rattle.ebpf_btf.specs.TypeInfo.{TypeInfo}
 use Rattle.ebpf_btf.specs.declared.error.BtfError.{BtfError as TypeError}
-use Rattle.ebpf_declarations.specs.Externs.{extern_types, externs, extern_declarations_fault}
+use Rattle.ebpf_btf_decls.specs.Externs.{extern_types, externs, extern_declarations_fault}
 use Rattle.ebpf_elf.specs.Headers.{ei_data}
 use Rattle.ebpf_elf.specs.Sections.{SectionOf}
 use Rattle.ebpf_elf.specs.declared.section.SectionIndex.{SectionIndex}
-use Rattle.ebpf_ext.specs.ExtReading.{ExtInfo, read_ext}
+use Rattle.ebpf_btf_ext.specs.ExtReading.{ExtInfo, read_ext}
 use Rattle.ebpf_model.specs.declared.symbol.ExternDesc.{ExternDesc}
 use Rattle.ebpf_parts.specs.Sections.{section_of, section_fault}
 use Rattle.ebpf_parts.specs.declared.error.ParseError.{ParseError}

@@ -4,7 +4,7 @@ use Rattle.std.specs.Prelude.{ℕ, ◌^◌, not, List, [], ◌∷◌, Option, No
 use Rattle.ebpf_base.specs.Faults.{first_of, or_else, first_some}
 use Rattle.ebpf_base.specs.Numbers.{number_at}
 use Rattle.ebpf_base.specs.declared.endianness.Endianness.TheVariants.{Little}
-use Rattle.ebpf_declarations.specs.Maps.{btf_maps, btf_maps_fault, TypesInReading}
+use Rattle.ebpf_btf_decls.specs.Maps.{btf_maps, btf_maps_fault, TypesInReading}
 use Rattle.ebpf_parts.specs.Sections.{SectionValue}
 use Rattle.ebpf_parts.specs.declared.error.ParseError.{ParseError}
 use Rattle.ebpf_parts.specs.declared.error.ParseError.TheVariants.{InvalidMapDefinition, InvalidSymbol, NoSymbolsForSection, NoBTF}

@@ -4,9 +4,9 @@ use Rattle.std.specs.Ordering.{nat_cmp}
 use Rattle.std.specs.Prelude.{ℕ, List, [], ◌∷◌, map, length, Option, None, ◌==◌}
 use Rattle.ebpf_base.specs.Faults.{or_else, first_of}
 use Rattle.ebpf_btf.specs.TypeInfo.{TypeInfo}
-use Rattle.ebpf_declarations.specs.Maps.{types_in_reading}
+use Rattle.ebpf_btf_decls.specs.Maps.{types_in_reading}
 use Rattle.ebpf_elf.specs.declared.relocation.ElfRelocation.{ElfRelocation}
-use Rattle.ebpf_ext.specs.ExtReading.{ExtInfo}
+use Rattle.ebpf_btf_ext.specs.ExtReading.{ExtInfo}
 use Rattle.ebpf_model.specs.Symbols.{FunctionKey}
 use Rattle.ebpf_model.specs.declared.function.Function.{Function}
 use Rattle.ebpf_model.specs.declared.function.Program.{Program}

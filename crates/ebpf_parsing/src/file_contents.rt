@@ -17,7 +17,7 @@ use crate::object_tables::{ObjectTables, read_sections};
 use ebpf_base::{ByIndex, ByName, Items};
 use ebpf_btf::{Btf, Endianness};
 use ebpf_elf::{ElfFile, SectionIndex};
-use ebpf_ext::BtfExt;
+use ebpf_btf_ext::BtfExt;
 use ebpf_model::{ExternDesc, Symbol};
 use ebpf_parts::{ParseError, Reading};
 use ebpf_sections::license::{read_license, read_version};

@@ -5,9 +5,9 @@ ghost use Rattle.std.specs.Result.{result_ok};
 ghost use Rattle.ebpf_base.specs.Faults.{Refuses, fault_of};
 ghost use Rattle.ebpf_base.specs.Maps.{put_all};
 ghost use Rattle.ebpf_btf.specs.Reading.{type_info_of};
-ghost use Rattle.ebpf_declarations.specs.Externs.{extern_types};
+ghost use Rattle.ebpf_btf_decls.specs.Externs.{extern_types};
 ghost use Rattle.ebpf_elf.specs.Headers.{ei_data};
-ghost use Rattle.ebpf_ext.specs.ExtReading.{read_ext};
+ghost use Rattle.ebpf_btf_ext.specs.ExtReading.{read_ext};
 ghost use Rattle.ebpf_parts.specs.Memory.{is_parse_memory};
 ghost use Rattle.ebpf_parts.specs.declared.error.ParseError.TheVariants.{BtfError as TypeFault};
 ghost use Rattle.ebpf_parsing.specs.FileTypes.{btf_of, btf_fault, ext_of, ext_fault, ext_beside, ext_fault_beside, ext_names_beside, ext_in, ext_fault_in, ext_section, names_in, type_names, type_info_names, file_types_fault, externs_beside, externs_fault_beside};
@@ -16,9 +16,9 @@ ghost use Rattle.ebpf_sections.specs.Symbols.{file_symbols, symbols_fault};
 
 use ebpf_base::ByName;
 use ebpf_btf::{Btf, Endianness};
-use ebpf_declarations::{collect_externs, may_declare_externs, parse_error};
+use ebpf_btf_decls::{collect_externs, may_declare_externs, parse_error};
 use ebpf_elf::{ElfFile, SectionIndex};
-use ebpf_ext::BtfExt;
+use ebpf_btf_ext::BtfExt;
 use ebpf_model::ExternDesc;
 use ebpf_parts::{ParseError, Section};
 use ebpf_sections::relocations::RelocationTable;
@@ -169,7 +169,7 @@ pub struct FileExterns {
 
 impl FileExterns {
     /// The externs of a file, whose symbols have names, beside its types.
-    #[tactic(auto, using(crate::proofs::TypeErrors::infos), unfolding(ebpf_declarations::specs::Externs::types_with, ebpf_declarations::specs::Externs::types_fault))]
+    #[tactic(auto, using(crate::proofs::TypeErrors::infos), unfolding(ebpf_btf_decls::specs::Externs::types_with, ebpf_btf_decls::specs::Externs::types_fault))]
     pub fn read(
         alloc: Global,
         file: &ElfFile<'_>,

@@ -3,14 +3,14 @@
 ghost use Rattle.std.specs.Prelude.{◌≡◌, IfOk, IfErr, OnOk, true, ◌≤◌, ◌<◌, ◌+◌, ◌*◌, length, slice_index};
 ghost use Rattle.ebpf_base.specs.Faults.{Refuses, first_some};
 ghost use Rattle.ebpf_base.specs.Maps.{put_all};
-ghost use Rattle.ebpf_declarations.specs.Maps.{types_in_reading};
+ghost use Rattle.ebpf_btf_decls.specs.Maps.{types_in_reading};
 ghost use Rattle.ebpf_parts.specs.Memory.{is_parse_memory};
 ghost use Rattle.ebpf_parsing.specs.Maps.{data_bytes, data_flags, data_map, data_map_fault, word_at, legacy_pinning, definition_of, legacy_map, legacy_fault, legacy_maps, legacy_maps_fault, btf_defined_maps, btf_defined_maps_fault};
 ghost use Rattle.ebpf_parsing.specs.ObjectTables.{last_maps};
 
 use ebpf_base::{ByName, Items, Text};
 use ebpf_btf::Btf;
-use ebpf_declarations::{BtfDefinedMaps, parse_error};
+use ebpf_btf_decls::{BtfDefinedMaps, parse_error};
 use ebpf_parts::maps::{LegacyMap, Map, PinningType, bpf_map_def};
 use ebpf_parts::{EbpfSectionKind, ParseError, Reading, Section};
 use ebpf_sections::sections::{SectionNames, is_index};

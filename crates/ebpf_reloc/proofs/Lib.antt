@@ -3,3 +3,5 @@ pub mod Keys
 pub mod CallsRefer
 pub mod SoFar
 pub mod OneResult
+pub mod Runs
+pub mod MapChains

@@ -5,3 +5,6 @@ pub mod Linking
 pub mod Laws
 -- What only private contracts and proofs name.
 pub mod PrivateContracts
+pub mod Relocated
+pub mod Passes
+pub mod Maps

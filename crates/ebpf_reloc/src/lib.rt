@@ -2,14 +2,20 @@
 #![tactic(auto)]
 
 mod calls;
+mod edit;
+mod externs;
+mod functions;
 pub mod laws;
 mod layout;
 mod link_map;
 mod linkable;
 mod linking;
+mod maps;
 mod numbered;
 mod numbers;
+pub mod pass_laws;
 mod slot_target;
+mod slots;
 
 pub use ebpf_model::{
     EbpfRelocationError, ExternDesc, Function, Relocation, RelocationError, Symbol,
@@ -18,3 +24,5 @@ pub use link_map::{CodeCopy, LinkMap, PlacedReference};
 pub use linkable::Linkable;
 pub use linking::{LinkedFunction, ProgramKey, number_functions, relocate_calls};
 pub use numbered::NumberedFunctions;
+pub use externs::relocate_externs;
+pub use maps::relocate_maps;

@@ -12,7 +12,7 @@ use crate::link_map::LinkMap;
 use crate::linkable::Linkable;
 use crate::numbered::NumberedFunctions;
 use ebpf_base::ByKey;
-use ebpf_ext::{FuncSecInfo, LineSecInfo};
+use ebpf_btf_ext::{FuncSecInfo, LineSecInfo};
 use ebpf_linker::{LinkedProgram, ProgramLayout};
 use ebpf_model::{EbpfRelocationError, Function};
 use std::alloc::{AllocError, Global};

@@ -19,9 +19,9 @@ use Rattle.ebpf_base.proofs.Lists.{filter-filter, filter-map, map-map}
 use Rattle.ebpf_base.proofs.Maps.{strictly_sorted, same_keys}
 use Rattle.ebpf_base.proofs.TextMaps.{text_exact}
 use Rattle.ebpf_base.specs.Maps.{text_cmp, text_total}
-use Rattle.ebpf_ext.specs.ExtReading.{func_info_at, line_info_at, no_func_info, no_line_info, ExtInfo}
-use Rattle.ebpf_ext.specs.declared.ext_infos.FuncSecInfo.{FuncSecInfo}
-use Rattle.ebpf_ext.specs.declared.ext_infos.LineSecInfo.{LineSecInfo}
+use Rattle.ebpf_btf_ext.specs.ExtReading.{func_info_at, line_info_at, no_func_info, no_line_info, ExtInfo}
+use Rattle.ebpf_btf_ext.specs.declared.ext_infos.FuncSecInfo.{FuncSecInfo}
+use Rattle.ebpf_btf_ext.specs.declared.ext_infos.LineSecInfo.{LineSecInfo}
 use Rattle.ebpf_sections.specs.Records.{slot_at, is_at_slot, is_slot_among, is_among_slots, indices_with, FuncAndLineInfo, func_and_line_info_of, AreRecordsOf, found_funcs, found_lines}
 use Rattle.ebpf_sections.specs.declared.info_records.RecordIndex.{RecordIndex}
 use Rattle.ebpf_sections.proofs.InOrder.{none_passes, stands_at}

@@ -4,11 +4,11 @@ use Rattle.std.specs.List.{range_with_len}
 use Rattle.std.specs.List.Sorted.{IsPartitionPoint}
 use Rattle.std.specs.Prelude.{ℕ, ◌+◌, ◌-◌, ◌/◌, ◌&&◌, Bool, List, map, filter, Option, Some, None, ◌==◌, nat_le, nat_lt, ◌<◌, ◌≤◌, true, [], ◌∷◌, ◌≡◌, slice_index_or, unwrap_or}
 use Rattle.ebpf_base.specs.Maps.{text_cmp}
-use Rattle.ebpf_ext.specs.ExtReading.{func_info_at, line_info_at, ExtInfo}
-use Rattle.ebpf_ext.specs.declared.ext_infos.FuncSecInfo.{FuncSecInfo}
-use Rattle.ebpf_ext.specs.declared.ext_infos.LineSecInfo.{LineSecInfo}
-use Rattle.ebpf_ext.specs.declared.ext_infos.bpf_func_info.{bpf_func_info}
-use Rattle.ebpf_ext.specs.declared.ext_infos.bpf_line_info.{bpf_line_info}
+use Rattle.ebpf_btf_ext.specs.ExtReading.{func_info_at, line_info_at, ExtInfo}
+use Rattle.ebpf_btf_ext.specs.declared.ext_infos.FuncSecInfo.{FuncSecInfo}
+use Rattle.ebpf_btf_ext.specs.declared.ext_infos.LineSecInfo.{LineSecInfo}
+use Rattle.ebpf_btf_ext.specs.declared.ext_infos.bpf_func_info.{bpf_func_info}
+use Rattle.ebpf_btf_ext.specs.declared.ext_infos.bpf_line_info.{bpf_line_info}
 use Rattle.ebpf_sections.specs.declared.info_records.RecordIndex.{RecordIndex}
 
 -- ---- the func info and line info of a function: the records of its section in `.BTF.ext` that stand at its slots

@@ -16,7 +16,7 @@ ghost use Rattle.ebpf_sections.specs.Records.{RowsBeginAt, is_among_slots, rises
 ghost use Rattle.ebpf_sections.specs.declared.info_records.RecordIndex.{RecordIndex};
 
 use ebpf_base::Items;
-use ebpf_ext::{bpf_func_info, bpf_line_info};
+use ebpf_btf_ext::{bpf_func_info, bpf_line_info};
 use ebpf_parts::ParseError;
 use std::alloc::Global;
 use std::cell::Cell;

@@ -2,7 +2,7 @@
 
 use ebpf_base::Items;
 use ebpf_btf::Btf;
-use ebpf_ext::BtfExt;
+use ebpf_btf_ext::BtfExt;
 use ebpf_parts::Reading;
 
 /// The properties of an object that its programs and functions share.

@@ -1,13 +1,13 @@
 //! The func info and line info of a section, and those of the sections of a file by their names.
 
 ghost use Rattle.std.specs.Prelude.{◌≡◌, IfOk, IfErr, true, IfSome, []};
-ghost use Rattle.ebpf_ext.specs.ExtReading.{func_info_at, line_info_at};
+ghost use Rattle.ebpf_btf_ext.specs.ExtReading.{func_info_at, line_info_at};
 ghost use Rattle.ebpf_parts.specs.Memory.{is_parse_memory};
 ghost use Rattle.ebpf_sections.specs.Records.{FuncAndLineInfo, funcs_at, lines_in, found_funcs, found_lines, func_info_of, line_info_of, func_size_of, line_size_of, func_and_line_info_of, AreRecordsOf};
 
 use crate::info_records::{InfoRecord, InfoRecords};
 use ebpf_base::ByName;
-use ebpf_ext::{BtfExt, FoundSections, FuncSecInfo, LineSecInfo, bpf_func_info, bpf_line_info};
+use ebpf_btf_ext::{BtfExt, FoundSections, FuncSecInfo, LineSecInfo, bpf_func_info, bpf_line_info};
 use ebpf_parts::ParseError;
 use std::alloc::{AllocError, Global};
 use std::marker::Model;
@@ -179,9 +179,9 @@ pub struct FoundRecords<'e> {
 
 impl<'e> Model for FoundRecords<'e> {
     ghost use Rattle.ebpf_base.specs.Maps.{coded_text, text_cmp};
-    ghost use Rattle.ebpf_ext.specs.ExtReading.{ExtInfo};
-    ghost use Rattle.ebpf_ext.specs.contracts.ext_infos.FuncSecInfo as func_rows;
-    ghost use Rattle.ebpf_ext.specs.contracts.ext_infos.LineSecInfo as line_rows;
+    ghost use Rattle.ebpf_btf_ext.specs.ExtReading.{ExtInfo};
+    ghost use Rattle.ebpf_btf_ext.specs.contracts.ext_infos.FuncSecInfo as func_rows;
+    ghost use Rattle.ebpf_btf_ext.specs.contracts.ext_infos.LineSecInfo as line_rows;
     ghost use Rattle.std.specs.Coded.{codes};
     ghost use Rattle.std.specs.FinMap as map;
     ghost use Rattle.std.specs.Prelude.{Option};
@@ -277,9 +277,9 @@ pub struct RecordsByName<'e> {
 
 impl<'e> Model for RecordsByName<'e> {
     ghost use Rattle.ebpf_base.specs.Maps.{coded_text, text_cmp};
-    ghost use Rattle.ebpf_ext.specs.ExtReading.{ExtInfo};
-    ghost use Rattle.ebpf_ext.specs.contracts.ext_infos.FuncSecInfo as func_rows;
-    ghost use Rattle.ebpf_ext.specs.contracts.ext_infos.LineSecInfo as line_rows;
+    ghost use Rattle.ebpf_btf_ext.specs.ExtReading.{ExtInfo};
+    ghost use Rattle.ebpf_btf_ext.specs.contracts.ext_infos.FuncSecInfo as func_rows;
+    ghost use Rattle.ebpf_btf_ext.specs.contracts.ext_infos.LineSecInfo as line_rows;
     ghost use Rattle.std.specs.Coded.{codes};
     ghost use Rattle.std.specs.FinMap as map;
     ghost use Rattle.std.specs.Prelude.{Option};

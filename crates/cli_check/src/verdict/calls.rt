@@ -4,7 +4,7 @@ use crate::verdict::findings::FindingKey;
 use crate::verdict::judged_program::SlotRef;
 use crate::verdict::judging::{Answers, Judge};
 use cli_common::kinds::Kind;
-use ebpf_loading::KernelNumbers;
+use ebpf_load_info::KernelNumbers;
 use ebpf_object::Object;
 use ebpf_parts::insn::bpf_insn;
 use ebpf_parts::insn::opcodes::{ABSENT_KFUNC, CALL, POISON_CALL};

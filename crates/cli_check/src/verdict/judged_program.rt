@@ -12,7 +12,7 @@ use ebpf_object::Object;
 use ebpf_object::prepare::{PrepareError, numbered_descriptors, relocate_own_maps};
 use ebpf_object::relocation::{CodeCopy, LinkedFunction, ProgramKey, ProgramMaps};
 use ebpf_parts::insn::bpf_insn;
-use ebpf_reach::reached_slots;
+use ebpf_reachability::reached_slots;
 use std::alloc::{AllocError, Global};
 use std::collections::HashSet;
 

@@ -9,7 +9,7 @@ use cli_common::programs::ObjectProgram;
 use ebpf_base::{ByKey, Items};
 use ebpf_btf::Btf;
 use ebpf_core_relo::{RecordOutcome, RecordOutcomes};
-use ebpf_loading::{AttachTarget, KernelNumbers, attach_target};
+use ebpf_load_info::{AttachTarget, KernelNumbers, attach_target};
 use ebpf_object::Object;
 use ebpf_object::relocation::LinkedFunction;
 use std::alloc::{AllocError, Global};

@@ -6,7 +6,7 @@ use cli_common::programs::ObjectProgram;
 use cli_common::settings::object_settings;
 use ebpf_base::{ByKey, ByName, Items, Text};
 use ebpf_btf::Btf;
-use ebpf_ext::Relocation;
+use ebpf_btf_ext::Relocation;
 use ebpf_model::ExternDesc;
 use ebpf_object::Object;
 use std::alloc::{AllocError, Global};

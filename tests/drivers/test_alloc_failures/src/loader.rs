@@ -3,7 +3,7 @@
 use ebpf_base::{ByName, Endianness, Items};
 use ebpf_initial_slots::initial_slots;
 use ebpf_kconfig::{KconfigExtern, define_kconfig, kconfig, kconfig_number, kconfig_value};
-use ebpf_kernel_types::kernel_types;
+use ebpf_btf_load::kernel_types;
 use ebpf_object::Object;
 use std::alloc::AllocError;
 use std::io;

@@ -2,7 +2,7 @@
 
 use crate::types::ordered;
 use ebpf_btf::{Btf, Endianness};
-use ebpf_ext::{BtfExt, RelocationKind};
+use ebpf_btf_ext::{BtfExt, RelocationKind};
 use std::alloc::{AllocError, Global};
 use test_cases::{Action, Files, beside_copy, front, no_action, shown, tally_each};
 

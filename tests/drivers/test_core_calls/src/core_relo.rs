@@ -2,7 +2,7 @@ use ebpf_base::{ByKey, ByName, Text};
 use ebpf_btf::{Btf, BtfEnum, BtfError, BtfMember, Endianness};
 use ebpf_core_relo::{RecordOutcomes, RecordResult, record_outcomes};
 use ebpf_elf::SectionIndex;
-use ebpf_ext::BtfExt;
+use ebpf_btf_ext::BtfExt;
 use ebpf_model::Function;
 use ebpf_parts::insn::bpf_insn;
 use std::alloc::{AllocError, Global};

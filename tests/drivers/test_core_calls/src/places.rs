@@ -1,6 +1,6 @@
 use ebpf_base::Text;
 use ebpf_btf::{Btf, BtfError};
-use ebpf_core_places::{Step, place_in};
+use ebpf_core::{Step, place_in};
 use std::alloc::{AllocError, Global};
 use std::test::Fail;
 use test_same::shows;

@@ -3,11 +3,11 @@
 use crate::lines::{Lines, Sample};
 use ebpf_btf::BtfError;
 use ebpf_elf::ElfReadError;
-use ebpf_kernel_types::KernelTypesError;
+use ebpf_btf_load::KernelTypesError;
 use cli_common::variant_name;
 
 impl Sample for KernelTypesError {
-    const TYPE: &'static str = "ebpf_kernel_types::KernelTypesError";
+    const TYPE: &'static str = "ebpf_btf_load::KernelTypesError";
 
     fn variant(&self) -> &'static str {
         variant_name!(

@@ -5,7 +5,7 @@ use ebpf_base::{Items, Text};
 use ebpf_btf::BtfError;
 use ebpf_core::RelocationError;
 use ebpf_core_relo::BtfRelocationError;
-use ebpf_ext::RelocationKind;
+use ebpf_btf_ext::RelocationKind;
 use cli_common::variants::variant_of_type_relocation;
 use std::alloc::{AllocError, Global};
 

@@ -2,7 +2,7 @@
 
 use ebpf_base::{ByIndex, ByKey, ByName, BySection, Items, Text};
 use ebpf_elf::{SectionIndex, SymbolKind};
-use ebpf_ext::{FuncSecInfo, LineSecInfo};
+use ebpf_btf_ext::{FuncSecInfo, LineSecInfo};
 use ebpf_object::Object;
 use ebpf_object::maps::{LegacyMap, Map, PinningType, bpf_map_def};
 use ebpf_object::obj::{EbpfSectionKind, Endianness, ExternDesc, Function, Symbol};

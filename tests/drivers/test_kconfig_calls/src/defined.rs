@@ -4,7 +4,7 @@ use super::asked::{Question, ask};
 use super::objects::kconfig_object;
 use ebpf_base::{ByName, Items};
 use ebpf_kconfig::{KconfigError, define_kconfig};
-use ebpf_loading::map_types;
+use ebpf_load_info::map_types;
 use ebpf_model::Symbol;
 use ebpf_object::Object;
 use ebpf_parts::maps::Map;

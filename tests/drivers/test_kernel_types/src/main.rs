@@ -2,7 +2,7 @@
 //! `none` where it has no types, `refused: ..` where they can't be made.
 #![tactic(auto)]
 
-use ebpf_kernel_types::kernel_types;
+use ebpf_btf_load::kernel_types;
 use std::{env, fs, io};
 
 /// Prints bytes in hexadecimal digits.

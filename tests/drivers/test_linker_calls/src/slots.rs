@@ -4,7 +4,7 @@ use super::functions::{
     Answer, CALLS, CALLS_TWICE, Case, ENDS, EXIT, F, FAULT, G, H, LOAD, NOTHING, PROGRAM,
     TestReference, TestSlots, linked, linked_at, lists, plain, plain_bodies,
 };
-use ebpf_ext::{bpf_func_info, bpf_line_info};
+use ebpf_btf_ext::{bpf_func_info, bpf_line_info};
 use ebpf_linker::{Body, Fault, LinkedProgram, Reference, Tables, Target};
 use ebpf_parts::insn::bpf_insn;
 use std::alloc::{AllocError, Global};

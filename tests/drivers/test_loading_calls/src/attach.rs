@@ -1,7 +1,7 @@
 //! Targets of sections, in small types of a kernel.
 
 use ebpf_btf::{Btf, BtfError};
-use ebpf_loading::attach_target;
+use ebpf_load_info::attach_target;
 use std::alloc::Global;
 use std::test::Fail;
 use test_same::shows;

@@ -1,7 +1,7 @@
 //! Numbers that a kernel knows, by small enumerations.
 
 use ebpf_btf::{Btf, BtfEnum, BtfError};
-use ebpf_loading::KernelNumbers;
+use ebpf_load_info::KernelNumbers;
 use std::alloc::Global;
 use std::test::Fail;
 use test_same::{same_answer, same_text};

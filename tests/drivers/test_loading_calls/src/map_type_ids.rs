@@ -2,7 +2,7 @@
 
 use ebpf_base::Items;
 use ebpf_btf::{Btf, BtfError};
-use ebpf_loading::{MapTypeIds, map_types};
+use ebpf_load_info::{MapTypeIds, map_types};
 use ebpf_parts::EbpfSectionKind;
 use ebpf_parts::maps::{
     BtfMap, BtfMapDef, LegacyMap, Map, PinningType, bpf_map_def, bpf_map_info, parse_map_info,

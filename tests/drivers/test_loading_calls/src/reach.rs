@@ -2,7 +2,7 @@
 
 use ebpf_parts::insn::bpf_insn;
 use ebpf_parts::insn::opcodes::{CALL, EXIT};
-use ebpf_reach::reached_slots;
+use ebpf_reachability::reached_slots;
 use std::alloc::{AllocError, Global};
 use std::test::Fail;
 use test_same::same;

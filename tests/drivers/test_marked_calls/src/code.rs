@@ -3,7 +3,7 @@
 use crate::call::{Call, say};
 use ebpf_btf::{Btf, Endianness};
 use ebpf_elf::{ElfFile, ElfSection};
-use ebpf_ext::BtfExt;
+use ebpf_btf_ext::BtfExt;
 use ebpf_parts::insn::copy_instructions;
 use ebpf_parts::{ProgramSection, Section};
 use std::io;

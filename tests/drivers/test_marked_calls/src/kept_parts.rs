@@ -1,7 +1,7 @@
 //! Calls on what an object keeps: its maps, and the records of `.BTF.ext`.
 
 use crate::call::Call;
-use ebpf_ext::{BtfExt, FoundSections};
+use ebpf_btf_ext::{BtfExt, FoundSections};
 use ebpf_parts::maps::Map;
 use std::alloc::{AllocError, Global};
 use std::io;

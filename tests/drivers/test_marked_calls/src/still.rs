@@ -5,7 +5,7 @@ use ebpf_base::ByName;
 use ebpf_btf::{Btf, BtfMember, BtfType, Rows};
 use ebpf_core_candidates::types_are_compatible;
 use ebpf_elf::{ElfFile, ElfReadError, ElfRelocationSection, ElfSection, ElfSymbol};
-use ebpf_ext::RelocationKind;
+use ebpf_btf_ext::RelocationKind;
 use ebpf_parts::maps::{Map, PinningType, bpf_map_info, bpf_map_type, parse_map_info};
 use ebpf_parts::programs::{XdpAttachType, bpf_attach_type, bpf_prog_type};
 use std::alloc::Global;

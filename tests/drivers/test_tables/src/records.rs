@@ -2,7 +2,7 @@
 
 use ebpf_base::ByKey;
 use ebpf_btf::Btf;
-use ebpf_ext::{BtfExt, Relocation};
+use ebpf_btf_ext::{BtfExt, Relocation};
 use ebpf_model::Function;
 use std::alloc::{AllocError, Global};
 use test_cases::shown;

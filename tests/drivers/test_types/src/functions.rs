@@ -2,7 +2,7 @@
 
 use ebpf_base::{Items, Text};
 use ebpf_elf::SectionIndex;
-use ebpf_ext::{FuncSecInfo, LineSecInfo};
+use ebpf_btf_ext::{FuncSecInfo, LineSecInfo};
 use ebpf_model::Function;
 use ebpf_parts::insn::bpf_insn;
 use std::alloc::Global;

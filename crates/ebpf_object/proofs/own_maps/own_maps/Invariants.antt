@@ -1,6 +1,6 @@
 use Rattle.std.proofs.Common.{◌≡◌, ◌++◌, map, drop}
 use Rattle.ebpf_object.specs.Stages.{own_maps, descriptor_of}
-use Rattle.ebpf_passes.specs.Maps.{given_map}
+use Rattle.ebpf_reloc.specs.Maps.{given_map}
 use Rattle.ebpf_object.proofs.own_maps.own_maps.Given as goal
 
 -- with those of the names that are left, all are there

@@ -2,8 +2,8 @@ use Rattle.std.proofs.Common.{◌≡◌, length, rules, List}
 use Rattle.std.specs.Prelude.{None, Some}
 use Rattle.std.specs.Vec.Iter.{into_iter_len}
 use Rattle.ebpf_object.specs.WrittenSlots.{with_maps, maps_fault}
-use Rattle.ebpf_passes.specs.Maps.{GivenMap}
-use Rattle.ebpf_passes.specs.Relocated.{out_of_memory}
+use Rattle.ebpf_reloc.specs.Maps.{GivenMap}
+use Rattle.ebpf_reloc.specs.Relocated.{out_of_memory}
 use Rattle.ebpf_model.specs.Memory.{is_memory_at}
 use Rattle.ebpf_model.specs.Symbols.{text_sections_in}
 use Rattle.ebpf_object.proofs.Values.{first_ok, given_ok, given_err, second_ok}

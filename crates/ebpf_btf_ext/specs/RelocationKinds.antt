@@ -1,0 +1,44 @@
+-- The kinds of CO-RE relocations by their numbers (the kernel's include/uapi/linux/bpf.h, enum bpf_core_relo_kind).
+use Rattle.std.specs.Prelude.{◌≡◌, ℕ, Option, Some, None, ◌==◌, if◌then◌else◌}
+use Rattle.ebpf_btf_ext.specs.declared.relocation.RelocationKind.{RelocationKind}
+use Rattle.ebpf_btf_ext.specs.declared.relocation.RelocationKind.TheVariants.{FieldByteOffset, FieldByteSize, FieldExists, FieldSigned, FieldLShift64, FieldRShift64, TypeIdLocal, TypeIdTarget, TypeExists, TypeSize, EnumVariantExists, EnumVariantValue}
+
+unfoldable pub relocation_kind_number : RelocationKind → ℕ
+relocation_kind_number FieldByteOffset = 0
+relocation_kind_number FieldByteSize = 1
+relocation_kind_number FieldExists = 2
+relocation_kind_number FieldSigned = 3
+relocation_kind_number FieldLShift64 = 4
+relocation_kind_number FieldRShift64 = 5
+relocation_kind_number TypeIdLocal = 6
+relocation_kind_number TypeIdTarget = 7
+relocation_kind_number TypeExists = 8
+relocation_kind_number TypeSize = 9
+relocation_kind_number EnumVariantExists = 10
+relocation_kind_number EnumVariantValue = 11
+
+-- the kind of a number; there is none past 11
+unfoldable pub relocation_kind : ℕ → Option RelocationKind
+relocation_kind n =
+    if n == 0 then Some FieldByteOffset else
+    (if n == 1 then Some FieldByteSize else
+    (if n == 2 then Some FieldExists else
+    (if n == 3 then Some FieldSigned else
+    (if n == 4 then Some FieldLShift64 else
+    (if n == 5 then Some FieldRShift64 else
+    (if n == 6 then Some TypeIdLocal else
+    (if n == 7 then Some TypeIdTarget else
+    (if n == 8 then Some TypeExists else
+    (if n == 9 then Some TypeSize else
+    (if n == 10 then Some EnumVariantExists else
+    (if n == 11 then Some EnumVariantValue else None)))))))))))
+
+-- ---- the two tables beside each other
+
+-- the kind of a relocation that a number has is the one of the number
+abbrev pub RelocationKindsByNumber : Type 0
+RelocationKindsByNumber = (n : ℕ) (kind : RelocationKind) → relocation_kind n ≡ Some kind → relocation_kind_number kind ≡ n
+
+-- each of them is found by its number
+abbrev pub NumbersOfRelocationKinds : Type 0
+NumbersOfRelocationKinds = (kind : RelocationKind) → relocation_kind (relocation_kind_number kind) ≡ Some kind

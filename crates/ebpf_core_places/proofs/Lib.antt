@@ -1,3 +1,0 @@
-pub mod FirstEntries
-pub mod Members
-pub mod Paths

@@ -1,5 +1,0 @@
-use Rattle.ebpf_loading.proofs.FirstFound.{strips_text}
-use Rattle.ebpf_loading.proofs.texts.without_prefix.Goals as goal
-
-pub returns : goal.returns
-returns c = strips_text c.args.prefix.now c.args.text.now c.strip_prefix.result c.strip_prefix.ensures.cases

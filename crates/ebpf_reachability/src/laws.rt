@@ -1,0 +1,22 @@
+//! What the answer says of runs.
+
+ghost use Rattle.ebpf_reachability.specs.Visits.{AllVisitsAreReached, AnswerIsOne, MachinesAreReached, AnswersCoverMachines, VisitsAreReached};
+
+/// A program has one answer: the least assignment is one.
+pub fn answer_is_one()
+    ensures { AnswerIsOne }
+{}
+
+/// Whatever numbers its registers hold, a machine comes only to slots that are reached, and its registers hold the numbers
+/// that are known there; so the answer tells of each slot to which it comes.
+pub fn machines_are_reached()
+    ensures reached { MachinesAreReached }
+    ensures told { AnswersCoverMachines }
+{}
+
+/// Each place that the machine of the flat program visits is reached, where its decisions heed the numbers that are known;
+/// where none is known, whatever it decides.
+pub fn visits_are_reached()
+    ensures heeding { VisitsAreReached }
+    ensures all { AllVisitsAreReached }
+{}
