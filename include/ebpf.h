@@ -290,10 +290,10 @@ uint32_t ebpf_open_broad(const uint8_t *file, size_t file_len, struct ebpf_handl
 
 /*
  * Opens the object of a file from strangers: a file of some kilobytes can make an object of gigabytes. Parsing is
- * strict if `broad` is 0, else lenient. The call counts the bytes that the object would own before it makes the object.
+ * strict if `lenient` is 0, else lenient. The call counts the bytes that the object would own before it makes the object.
  * Above `most_bytes` it returns 157. docs/BEHAVIOUR.md, 'Limits', says what counts. Numbers: 2, 100 to 199.
  */
-uint32_t ebpf_open_within(const uint8_t *file, size_t file_len, uint32_t broad, uint64_t most_bytes,
+uint32_t ebpf_open_within(const uint8_t *file, size_t file_len, uint32_t lenient, uint64_t most_bytes,
 			  struct ebpf_handle *handle, char *about, size_t about_room, struct ebpf_refusal *refusal);
 
 /* Makes `copy` hold a copy of what `handle` holds; what `copy` held before is closed. Numbers: 2, 3. */

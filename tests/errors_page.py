@@ -115,7 +115,7 @@ ADVICE = {
     "obj::ParseError::MapNotFound": "name a variable in a data section (section 0: the symbol is in no section)",
     "obj::ParseError::MapSymbolNameNotFound": "nothing: no call returns this error",
     "obj::ParseError::NoSymbolsForSection": "don't strip symbols",
-    "obj::ParseError::BigEndianCode": "compile with `-target bpfel`; only lenient parsing (`Reading::Broad`) returns this error",
+    "obj::ParseError::BigEndianCode": "compile with `-target bpfel`; only lenient parsing (`ParseMode::Lenient`) returns this error",
     "obj::ParseError::TooLarge": "raise the limit; only `parse_within` returns this error",
     "obj::ParseError::NoBTF": "compile with `-g`, and don't strip `.BTF`",
     "obj::BtfError::InvalidHeader": BTF_DAMAGED,

@@ -5,7 +5,7 @@ what they must not do.
 usage: fuzz.py [--inputs N] [--seed N] [--from N] [--jobs N] [--keep FOLDER] [--memory MIB] [--library FILE] [PROGRAM..]
 
 PROGRAM is a built ebpf-link (crates/ebpf_link/out/ebpf_link) or ebpf-inspect, FILE a libebpf.a, which a program in C
-(fuzzing/passes.c, built by cc with its sanitizers) opens objects by as the broad reading does, and runs the passes over them.
+(fuzzing/passes.c, built by cc with its sanitizers) opens objects by as lenient parsing does, and runs the passes over them.
 Input number K of a seed is the same each time. Those with even numbers are made from parts: types, records of CO-RE, externs
 of the kernel and of its configuration, maps, programs in sections of each name, and a kernel's types and symbols to match;
 fields are set to their limits, or near them. Those with odd numbers are objects of clang and of rows/ with bytes, words,

@@ -28,7 +28,7 @@ def large(chance, table):
 
 
 def member_of_map(chance, table, depth):
-    """A member's name and type. Large numbers and functions in the place of maps are for the broad reading."""
+    """A member's name and type. Large numbers and functions in the place of maps are for lenient parsing."""
     kind = chance.randrange(8)
     if kind < 4:
         name = chance.choice(NUMBERS if depth == 0 or chance.bad(2) else NUMBERS[:-1])

@@ -20,7 +20,7 @@ LINES = b"ffffffff82a0c940 D init_task\n1000 D v\n2000 T f\n3000 D w [m]\nffffff
 LONGEST = 65536
 
 
-# Names of sections that the broad reading takes alone, and stated ones of the same length.
+# Names of sections that lenient parsing takes alone, and stated ones of the same length.
 RENAMED = {b"\0tc\0": b"\0tp\0", b"?kprobe/": b"kprobe//", b"struct_ops/": b"uprobe/ops/"}
 
 

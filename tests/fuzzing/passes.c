@@ -1,5 +1,5 @@
 /*
- * Opens objects by the broad reading of the library for C, asks each list of them, runs the passes over them, and drops
+ * Opens objects by lenient parsing of the library for C, asks each list of them, runs the passes over them, and drops
  * them.
  *
  * usage: passes < INPUTS      an input is four numbers of 32 bits, lengths of an object, of types and of symbols (2^32 - 1:
@@ -388,7 +388,7 @@ static const char *passes(struct ebpf_handle *object)
 	return "done";
 }
 
-/* Opens the object as the broad reading does, and does all with it. The stage that refused, or `done`. What is listed
+/* Opens the object as lenient parsing does, and does all with it. The stage that refused, or `done`. What is listed
  * at first is kept. */
 static const char *broadly(uint64_t *first)
 {
@@ -408,7 +408,7 @@ static const char *broadly(uint64_t *first)
 	return stage;
 }
 
-/* Reads the object as stated: of what it takes, the broad reading gives the same. */
+/* Reads the object as stated: of what it takes, lenient parsing gives the same. */
 static void as_stated(const char *stage, uint64_t first)
 {
 	struct ebpf_handle object = EBPF_CLOSED_HANDLE;
@@ -416,9 +416,9 @@ static void as_stated(const char *stage, uint64_t first)
 
 	if (!judged("ebpf_open", number, 100, 199, 100, 199) && file.at[5] == 1) {
 		if (!strcmp(stage, "parse"))
-			say("the broad reading refuses what the stated one takes");
+			say("lenient parsing refuses what the stated one takes");
 		else if (list_all(&object) != first)
-			say("the broad reading gives another object than the stated one");
+			say("lenient parsing gives another object than the stated one");
 	}
 	ebpf_close(&object);
 	if (how & 64)

@@ -1,4 +1,4 @@
-// What the broad reading takes alone: sections of code of names that say no kind, an array with its programs, a 64-bit
+// What lenient parsing takes alone: sections of code of names that say no kind, an array with its programs, a 64-bit
 // map_extra, and a license in a longer array.
 typedef unsigned char u8;
 typedef unsigned int u32;

@@ -158,7 +158,7 @@ def extras():
         ("an extra of 64 bits", [wide(5, 0x12345678)], 7, 0x12345678 << 32 | 5),
         ("an extra of 64 bits with a sign", [wide(2**32 - 1, 2**32 - 1, flag=1)], 7, 2**64 - 1),
     ]
-    # The wanted type of the stated reading is a pointer: what none points to is told by the type that it stands for, if any.
+    # The wanted type of strict parsing is a pointer: what none points to is told by the type that it stands for, if any.
     rows = [both(name, extra(*types, member=member), "btf_defined_maps", unexpected(0), said(number)) for name, types, member, number in good]
     rows += [both(name, extra(*types, member=member), "btf_defined_maps", unexpected(0), unexpected(0)) for name, types, member in faulty]
     rows.append(both("an extra of a named type", extra(enum(7), typedef("t", 7), member=8), "btf_defined_maps", unexpected(7), said(7)))

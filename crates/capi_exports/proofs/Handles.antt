@@ -44,7 +44,7 @@ use Rattle.ebpf_object.specs.contracts.object.Object.{the_row}
 use Rattle.ebpf_object.specs.contracts.object.Object as content
 use Rattle.ebpf_object.specs.declared.object.Object.{Object}
 use Rattle.ebpf_parts.specs.declared.maps.either.Map.{Map}
-use Rattle.ebpf_parts.specs.declared.reading.Reading.{Reading}
+use Rattle.ebpf_parts.specs.declared.parse_mode.ParseMode.{ParseMode}
 use Rattle.capi_rows.specs.Descriptors.{have_names}
 use Rattle.capi_rows.specs.FileTypes.{types_if}
 use Rattle.capi_rows.specs.Handles.{IsRefused, WhyHeld, IsSet}
@@ -91,14 +91,14 @@ module _ {M : Type 1} {𝓤 : Ura M} {𝓛 : Logic 𝓤} {K : Type 0} {Γ : List
 
 pub held : (inputs : PreparationInputs) (kernel : Option TypeInfo) (steps : Chosen) (old new : Object)
     → types_if inputs.types ≡ Ok kernel → have_names inputs.text inputs.rows ≡ true → steps ≡ all_passes inputs kernel → Stages steps (Text inputs.symbols) old new
-    → ((reading : Reading) (file : List ℕ) → IsParsed reading file old → Headline steps (Text inputs.symbols) reading file new)
+    → ((mode : ParseMode) (file : List ℕ) → IsParsed mode file old → Headline steps (Text inputs.symbols) mode file new)
     → KeepsOthers old new → HasPreparedHeld inputs old new
 held inputs kernel steps old new spelled named all stages headline others = record {
   kernel = kernel;
   spelled = spelled;
   named = named;
   stages = subst (λ s. Stages s (Text inputs.symbols) old new) all stages;
-  headline = λ reading file parsed. subst (λ s. Headline s (Text inputs.symbols) reading file new) all (headline reading file parsed);
+  headline = λ mode file parsed. subst (λ s. Headline s (Text inputs.symbols) mode file new) all (headline mode file parsed);
   others_stay = others;
 }
 

@@ -10,8 +10,8 @@ use Rattle.ebpf_limits.specs.Within.{within_fault}
 use Rattle.ebpf_object.specs.Objects.{parse_fault_as}
 use Rattle.ebpf_object.specs.contracts.object.Object.{the_row}
 use Rattle.ebpf_object.specs.declared.object.Object.{Object}
-use Rattle.ebpf_parts.specs.declared.reading.Reading.{Reading}
-use Rattle.ebpf_parts.specs.declared.reading.Reading.TheVariants.{Stated, Broad}
+use Rattle.ebpf_parts.specs.declared.parse_mode.ParseMode.{ParseMode}
+use Rattle.ebpf_parts.specs.declared.parse_mode.ParseMode.TheVariants.{Strict, Lenient}
 use Rattle.capi_rows.specs.Handles.{CannotParse}
 
 -- the right to take and free memory; any two free the same blocks
@@ -26,13 +26,13 @@ handle_owns p (Some x) = box_owns (ghosts.dealloc_token heap) the_row p x
 -- ---- why a file can't be opened, and not within a limit
 
 -- the fault of a file by a reading
-abbrev pub CannotOpen : Reading → List ℕ → Refusal → Type 0
-CannotOpen reading file = CannotParse (parse_fault_as reading file)
+abbrev pub CannotOpen : ParseMode → List ℕ → Refusal → Type 0
+CannotOpen mode file = CannotParse (parse_fault_as mode file)
 
 -- the reading of a flag
-abbrev pub reading_of : ℕ → Reading
-reading_of broad = if broad == 0 then Stated else Broad
+abbrev pub parse_mode_of : ℕ → ParseMode
+parse_mode_of lenient = if lenient == 0 then Strict else Lenient
 
 -- its fault by a reading and within so many bytes
-abbrev pub CannotOpenWithin : Reading → ℕ → List ℕ → Refusal → Type 0
-CannotOpenWithin reading most file = CannotParse (within_fault reading most file)
+abbrev pub CannotOpenWithin : ParseMode → ℕ → List ℕ → Refusal → Type 0
+CannotOpenWithin mode most file = CannotParse (within_fault mode most file)

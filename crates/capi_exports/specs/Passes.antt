@@ -19,8 +19,8 @@ use Rattle.ebpf_object.specs.Prepared.{IsFirstPrepareFault, IsParsed, IsStageFau
 use Rattle.ebpf_object.specs.WrittenSlots.{relocated_slots, AreRelocatedToTypes, with_externs, externs_fault}
 use Rattle.ebpf_object.specs.Stages.{Chosen}
 use Rattle.ebpf_object.specs.declared.object.Object.{Object}
-use Rattle.ebpf_parts.specs.declared.reading.Reading.{Reading}
-use Rattle.ebpf_parts.specs.declared.reading.Reading.TheVariants.{Stated}
+use Rattle.ebpf_parts.specs.declared.parse_mode.ParseMode.{ParseMode}
+use Rattle.ebpf_parts.specs.declared.parse_mode.ParseMode.TheVariants.{Strict}
 use Rattle.ebpf_reloc.specs.Linking.{IsFirstRefusal}
 use Rattle.capi_rows.specs.Descriptors.{descriptors_in, have_names, NamesFirst}
 use Rattle.capi_rows.specs.FileTypes.{types_in, types_if, CannotRead, CannotReadIf}
@@ -111,14 +111,14 @@ pub record HasPrepared (file : List ℕ) (inputs : PreparationInputs) (o : Objec
   pub kernel : Option TypeInfo
   pub spelled : types_if inputs.types ≡ Ok kernel
   pub named : have_names inputs.text inputs.rows ≡ true
-  pub headline : Headline (all_passes inputs kernel) (Text inputs.symbols) Stated file o
+  pub headline : Headline (all_passes inputs kernel) (Text inputs.symbols) Strict file o
   pub others_stay : KeepsOthers (object_of file) o
 
 -- a stage has the first fault
 pub record HasFault (file : List ℕ) (inputs : PreparationInputs) (r : Refusal) : Type 0 where
   pub kernel : Option TypeInfo
   pub spelled : types_if inputs.types ≡ Ok kernel
-  pub refusal : IsRefusal (RefusesPreparing (IsFirstPrepareFault (all_passes inputs kernel) (Text inputs.symbols) Stated file)) prepare_refusal r
+  pub refusal : IsRefusal (RefusesPreparing (IsFirstPrepareFault (all_passes inputs kernel) (Text inputs.symbols) Strict file)) prepare_refusal r
 
 -- the names are looked at first, then the types are read, then come the stages
 abbrev pub CannotPrepare : List ℕ → PreparationInputs → Refusal → Type 0
@@ -137,7 +137,7 @@ pub record HasPreparedHeld (inputs : PreparationInputs) (old new : Object) : Typ
   pub spelled : types_if inputs.types ≡ Ok kernel
   pub named : have_names inputs.text inputs.rows ≡ true
   pub stages : Stages (all_passes inputs kernel) (Text inputs.symbols) old new
-  pub headline : (reading : Reading) (file : List ℕ) → IsParsed reading file old → Headline (all_passes inputs kernel) (Text inputs.symbols) reading file new
+  pub headline : (mode : ParseMode) (file : List ℕ) → IsParsed mode file old → Headline (all_passes inputs kernel) (Text inputs.symbols) mode file new
   pub others_stay : KeepsOthers old new
 
 -- a stage has the first fault

@@ -2,9 +2,9 @@
 
 ghost use Rattle.std.specs.Prelude.{◌≡◌, ◌⊎◌, ◌<◌, IfOk, IfErr, None, Some, MatchOption};
 ghost use Rattle.capi_rows.specs.Handles.{IsRefused};
-ghost use Rattle.capi_exports.specs.Handles.{CannotOpen, CannotOpenWithin, reading_of};
+ghost use Rattle.capi_exports.specs.Handles.{CannotOpen, CannotOpenWithin, parse_mode_of};
 ghost use Rattle.ebpf_object.specs.Objects.{object_as, object_of, parse_fault, parse_fault_as};
-ghost use Rattle.ebpf_parts.specs.declared.reading.Reading.TheVariants.{Broad, Stated};
+ghost use Rattle.ebpf_parts.specs.declared.parse_mode.ParseMode.TheVariants.{Lenient, Strict};
 ghost use Rattle.ebpf_limits.specs.Within.{within_fault};
 
 use crate::handle::ebpf_handle;
@@ -13,17 +13,17 @@ use capi_rows::faults::parse_refusal;
 use capi_rows::refusal::{Refusal, ebpf_refusal, tell};
 use ebpf_limits::{Limits, parse_within};
 use ebpf_object::Object;
-use ebpf_object::obj::Reading;
+use ebpf_object::obj::ParseMode;
 use std::alloc::{AllocError, Global};
 
 /// The object of a file by a reading, in a box.
-fn open_object(alloc: Global, file: &[u8], reading: Reading) -> Result<Box<Object>, Refusal>
-    ensures object { IfOk result (λ b. b.value ≡ object_as reading file.now) }
-    ensures sound { IfOk result (λ _. parse_fault_as reading file.now ≡ None) }
-    ensures why { IfErr result (CannotOpen reading file.now) }
+fn open_object(alloc: Global, file: &[u8], mode: ParseMode) -> Result<Box<Object>, Refusal>
+    ensures object { IfOk result (λ b. b.value ≡ object_as mode file.now) }
+    ensures sound { IfOk result (λ _. parse_fault_as mode file.now ≡ None) }
+    ensures why { IfErr result (CannotOpen mode file.now) }
     ensures refuses { IfErr result (λ r. 0 < r.number) }
 {
-    match Object::parse_as(alloc, file, reading) {
+    match Object::parse_as(alloc, file, mode) {
         Ok(object) => Ok(Box::new(alloc, object)?),
         Err(error) => Err(parse_refusal(error)),
     }
@@ -33,16 +33,16 @@ fn open_object(alloc: Global, file: &[u8], reading: Reading) -> Result<Box<Objec
 fn open(
     alloc: Global,
     file: &[u8],
-    reading: Reading,
+    mode: ParseMode,
     handle: &mut ebpf_handle,
     about: &mut [u8],
     report: &mut ebpf_refusal,
 ) -> u32
-    ensures opened { result ≡ DONE → (handle.new.object ≡ Some (object_as reading file.now)) × (parse_fault_as reading file.now ≡ None) }
+    ensures opened { result ≡ DONE → (handle.new.object ≡ Some (object_as mode file.now)) × (parse_fault_as mode file.now ≡ None) }
     ensures quiet { result ≡ DONE → (about.new ≡ about.old) × (report.new ≡ report.old) }
-    ensures refused { ¬ (result ≡ DONE) → IsRefused (CannotOpen reading file.now) result handle.old.object handle.new.object about.old about.new report.new }
+    ensures refused { ¬ (result ≡ DONE) → IsRefused (CannotOpen mode file.now) result handle.old.object handle.new.object about.old about.new report.new }
 {
-    match open_object(alloc, file, reading) {
+    match open_object(alloc, file, mode) {
         Ok(object) => {
             handle.put(alloc, object);
             DONE
@@ -66,9 +66,9 @@ pub extern "C" fn ebpf_open(
 ) -> u32
     ensures opened { result ≡ DONE → (handle.new.object ≡ Some (object_of file.now)) × (parse_fault file.now ≡ None) }
     ensures quiet { result ≡ DONE → (about.new ≡ about.old) × (report.new ≡ report.old) }
-    ensures refused { ¬ (result ≡ DONE) → IsRefused (CannotOpen Stated file.now) result handle.old.object handle.new.object about.old about.new report.new }
+    ensures refused { ¬ (result ≡ DONE) → IsRefused (CannotOpen Strict file.now) result handle.old.object handle.new.object about.old about.new report.new }
 {
-    open(alloc, file, Reading::Stated, handle, about, report)
+    open(alloc, file, ParseMode::Strict, handle, about, report)
 }
 
 /// Opens the object of a file that is read broadly, where every section of code is a program's, whatever its name. What the
@@ -85,11 +85,11 @@ pub extern "C" fn ebpf_open_broad(
     about: &mut [u8],
     report: &mut ebpf_refusal,
 ) -> u32
-    ensures opened { result ≡ DONE → (handle.new.object ≡ Some (object_as Broad file.now)) × (parse_fault_as Broad file.now ≡ None) }
+    ensures opened { result ≡ DONE → (handle.new.object ≡ Some (object_as Lenient file.now)) × (parse_fault_as Lenient file.now ≡ None) }
     ensures quiet { result ≡ DONE → (about.new ≡ about.old) × (report.new ≡ report.old) }
-    ensures refused { ¬ (result ≡ DONE) → IsRefused (CannotOpen Broad file.now) result handle.old.object handle.new.object about.old about.new report.new }
+    ensures refused { ¬ (result ≡ DONE) → IsRefused (CannotOpen Lenient file.now) result handle.old.object handle.new.object about.old about.new report.new }
 {
-    open(alloc, file, Reading::Broad, handle, about, report)
+    open(alloc, file, ParseMode::Lenient, handle, about, report)
 }
 
 /// A copy of an object, in a box of its own.
@@ -134,13 +134,13 @@ pub extern "C" fn ebpf_close(alloc: Global, handle: &mut ebpf_handle)
 }
 
 /// The reading that a flag asks for.
-fn reading_of(broad: u32) -> Reading
-    ensures { result ≡ reading_of broad }
+fn parse_mode_of(lenient: u32) -> ParseMode
+    ensures { result ≡ parse_mode_of lenient }
 {
-    if broad == 0 {
-        Reading::Stated
+    if lenient == 0 {
+        ParseMode::Strict
     } else {
-        Reading::Broad
+        ParseMode::Lenient
     }
 }
 
@@ -148,21 +148,21 @@ fn reading_of(broad: u32) -> Reading
 fn open_object_within(
     alloc: Global,
     file: &[u8],
-    reading: Reading,
+    mode: ParseMode,
     most_bytes: u64,
 ) -> Result<Box<Object>, Refusal>
-    ensures object { IfOk result (λ b. b.value ≡ object_as reading file.now) }
-    ensures sound { IfOk result (λ _. within_fault reading most_bytes file.now ≡ None) }
-    ensures why { IfErr result (CannotOpenWithin reading most_bytes file.now) }
+    ensures object { IfOk result (λ b. b.value ≡ object_as mode file.now) }
+    ensures sound { IfOk result (λ _. within_fault mode most_bytes file.now ≡ None) }
+    ensures why { IfErr result (CannotOpenWithin mode most_bytes file.now) }
     ensures refuses { IfErr result (λ r. 0 < r.number) }
 {
-    match parse_within(alloc, file, reading, Limits { most_bytes }) {
+    match parse_within(alloc, file, mode, Limits { most_bytes }) {
         Ok(object) => Ok(Box::new(alloc, object)?),
         Err(error) => Err(parse_refusal(error)),
     }
 }
 
-/// Opens the object of a file, read broadly where `broad` is not 0, where what is made of the file owns at most `most_bytes`
+/// Opens the object of a file, lenient where `lenient` is not 0, where what is made of the file owns at most `most_bytes`
 /// bytes; that is counted before it is made. What the handle held before is closed.
 ///
 /// # Answers
@@ -172,17 +172,17 @@ fn open_object_within(
 pub extern "C" fn ebpf_open_within(
     alloc: Global,
     file: &[u8],
-    broad: u32,
+    lenient: u32,
     most_bytes: u64,
     handle: &mut ebpf_handle,
     about: &mut [u8],
     report: &mut ebpf_refusal,
 ) -> u32
-    ensures opened { result ≡ DONE → (handle.new.object ≡ Some (object_as (reading_of broad) file.now)) × (within_fault (reading_of broad) most_bytes file.now ≡ None) }
+    ensures opened { result ≡ DONE → (handle.new.object ≡ Some (object_as (parse_mode_of lenient) file.now)) × (within_fault (parse_mode_of lenient) most_bytes file.now ≡ None) }
     ensures quiet { result ≡ DONE → (about.new ≡ about.old) × (report.new ≡ report.old) }
-    ensures refused { ¬ (result ≡ DONE) → IsRefused (CannotOpenWithin (reading_of broad) most_bytes file.now) result handle.old.object handle.new.object about.old about.new report.new }
+    ensures refused { ¬ (result ≡ DONE) → IsRefused (CannotOpenWithin (parse_mode_of lenient) most_bytes file.now) result handle.old.object handle.new.object about.old about.new report.new }
 {
-    match open_object_within(alloc, file, reading_of(broad), most_bytes) {
+    match open_object_within(alloc, file, parse_mode_of(lenient), most_bytes) {
         Ok(object) => {
             handle.put(alloc, object);
             DONE

@@ -2,14 +2,14 @@
 
 ghost use Rattle.std.specs.Prelude.{IfOk};
 ghost use Rattle.ebpf_object.specs.Prepared.{IsParsed};
-ghost use Rattle.ebpf_parts.specs.declared.reading.Reading.TheVariants.{Broad};
+ghost use Rattle.ebpf_parts.specs.declared.parse_mode.ParseMode.TheVariants.{Lenient};
 
 use crate::embedded::{ObjectRange, embedded_objects};
 use crate::machines::{machine_name, other_machine};
 use crate::refusal::{FileRefusal, READING};
 use crate::refuse::{Stop, read_given, refuse_parsing, refused};
 use ebpf_object::Object;
-use ebpf_parts::{ParseError, Reading};
+use ebpf_parts::{ParseError, ParseMode};
 use std::alloc::{AllocError, Global};
 use std::io::{self, Read};
 use std::{env, fs};
@@ -138,14 +138,14 @@ pub fn read_object(
 /// The object of a file's bytes, read broadly. Little is stated of it, so that what calls this isn't proved over all that
 /// is stated of parsing.
 fn parsed(alloc: Global, file: &[u8]) -> Result<Object, ParseError>
-    ensures { IfOk result (IsParsed Broad file.now) }
+    ensures { IfOk result (IsParsed Lenient file.now) }
 {
-    Object::parse_as(alloc, file, Reading::Broad)
+    Object::parse_as(alloc, file, ParseMode::Lenient)
 }
 
 /// The object of a file's bytes, read broadly; one that can't be parsed is told.
 pub fn parsed_object(rt: &HostRuntime, json: bool, path: &str, file: &[u8]) -> Result<Object, Stop>
-    ensures { IfOk result (IsParsed Broad file.now) }
+    ensures { IfOk result (IsParsed Lenient file.now) }
 {
     match parsed(rt.alloc(), file) {
         Ok(object) => Ok(object),

@@ -13,7 +13,7 @@ use Rattle.ebpf_object.specs.Objects.{object_as}
 use Rattle.ebpf_object.specs.Prepared.{Stages}
 use Rattle.ebpf_object.specs.Stages.{Chosen}
 use Rattle.ebpf_object.specs.declared.object.Object.{Object}
-use Rattle.ebpf_parts.specs.declared.reading.Reading.TheVariants.{Broad}
+use Rattle.ebpf_parts.specs.declared.parse_mode.ParseMode.TheVariants.{Lenient}
 use Rattle.cli_common.specs.Shown.{shown}
 use Rattle.cli_common.specs.declared.programs.ObjectProgram.{ObjectProgram}
 
@@ -41,5 +41,5 @@ pub record WritesFinished (steps : Chosen) (lines : Source) (parsed : Object) (n
 -- the file, read broadly, is linked, and the writer has got the lines of these of its programs
 pub record HasWritten (file : List ℕ) (types : Option TypeInfo) (lines : Source) (names : List (List ℕ)) (before now : Option (List ℕ)) : Type 0 where
   pub object : Object
-  pub headline : Headline (default_passes types (object_as Broad file).maps) lines Broad file object
+  pub headline : Headline (default_passes types (object_as Lenient file).maps) lines Lenient file object
   pub text : Appends before now (shown_programs object names)

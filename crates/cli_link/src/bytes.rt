@@ -8,7 +8,7 @@ ghost use Rattle.cli_common.specs.SlotText.{head_line, program_text};
 ghost use Rattle.ebpf_ksyms.specs.Sources.{Text};
 ghost use Rattle.cli_link.specs.Written.{shown_lines, program_name, WritesFinished, HasWritten};
 ghost use Rattle.ebpf_object.specs.Prepared.{IsParsed};
-ghost use Rattle.ebpf_parts.specs.declared.reading.Reading.TheVariants.{Broad};
+ghost use Rattle.ebpf_parts.specs.declared.parse_mode.ParseMode.TheVariants.{Lenient};
 ghost use Rattle.cli_common.specs.EscapedName.{shown};
 
 use cli_common::names::EscapedName;
@@ -86,7 +86,7 @@ pub fn write_finished<W: Write>(
     out: &mut W,
 ) -> Result<(), BytesFailure>
     ensures lines { OnOk result (WritesFinished (default_passes kernel.now.types parsed.now.maps) (Text kernel.now.symbols.items) parsed.now (map program_name programs.now) (W.contents out.old) (W.contents out.new)) }
-    ensures done { (file : List ℕ) → IsParsed Broad file parsed.now → OnOk result (HasWritten file kernel.now.types (Text kernel.now.symbols.items) (map program_name programs.now) (W.contents out.old) (W.contents out.new)) }
+    ensures done { (file : List ℕ) → IsParsed Lenient file parsed.now → OnOk result (HasWritten file kernel.now.types (Text kernel.now.symbols.items) (map program_name programs.now) (W.contents out.old) (W.contents out.new)) }
 {
     let object = match finished_object(alloc, parsed, kernel) {
         Ok(object) => object,

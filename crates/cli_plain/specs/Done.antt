@@ -9,7 +9,7 @@ use Rattle.ebpf_btf.specs.TypeInfo.{TypeInfo}
 use Rattle.ebpf_object.specs.Objects.{object_of}
 use Rattle.ebpf_object.specs.Prepared.{IsFirstPrepareFault}
 use Rattle.ebpf_object.specs.Stages.{Chosen}
-use Rattle.ebpf_parts.specs.declared.reading.Reading.TheVariants.{Stated}
+use Rattle.ebpf_parts.specs.declared.parse_mode.ParseMode.TheVariants.{Strict}
 use Rattle.ebpf_btf.specs.Memory as types
 use Rattle.ebpf_object.specs.Prepared as preparing
 use Rattle.cli_common.specs.DefaultPasses.{default_passes}
@@ -67,7 +67,7 @@ is_writers _ = false
 
 -- preparing a file with these passes has this first fault
 abbrev pub IsPreparingFailure : Chosen → Source → List ℕ → Failure → Type 0
-IsPreparingFailure steps lines file (Preparing e) = IsFirstPrepareFault steps lines Stated file e
+IsPreparingFailure steps lines file (Preparing e) = IsFirstPrepareFault steps lines Strict file e
 IsPreparingFailure steps lines file _ = ⊥
 
 -- What a refusal says of the files is so: the kernel's types can't be read, or, where they can, preparing the file has
@@ -75,7 +75,7 @@ IsPreparingFailure steps lines file _ = ⊥
 abbrev pub IsFailureOf : List ℕ → Option (List ℕ) → Source → Option (List ℕ) → Failure → Type 0
 IsFailureOf file btf lines program (Btf e) = kernel_types btf ≡ Err e
 IsFailureOf file btf lines program (Preparing e) =
-    (kernel : Option TypeInfo) × (kernel_types btf ≡ Ok kernel) × IsFirstPrepareFault (default_passes kernel (object_of file).maps) lines Stated file e
+    (kernel : Option TypeInfo) × (kernel_types btf ≡ Ok kernel) × IsFirstPrepareFault (default_passes kernel (object_of file).maps) lines Strict file e
 IsFailureOf file btf lines program (NoProgram name) =
     (o : Object) × IsFileLinked file btf lines o × (program ≡ Some name.now) × (get o.programs name.now ≡ None)
 IsFailureOf file btf lines program (CannotRead path) = ⊥

@@ -9,7 +9,7 @@ use Rattle.ebpf_object.specs.Objects.{object_of}
 use Rattle.ebpf_object.specs.Headline.{Headline}
 use Rattle.ebpf_object.specs.declared.object.Object.{Object}
 use Rattle.cli_common.specs.DefaultPasses.{default_passes}
-use Rattle.ebpf_parts.specs.declared.reading.Reading.TheVariants.{Stated}
+use Rattle.ebpf_parts.specs.declared.parse_mode.ParseMode.TheVariants.{Strict}
 
 abbrev pub read_as_types : Result TypeInfo BtfError → Result (Option TypeInfo) BtfError
 read_as_types (Ok types) = Ok (Some types)
@@ -24,4 +24,4 @@ kernel_types (Some bytes) = read_as_types (type_info_of Little bytes)
 pub record IsFileLinked (file : List ℕ) (btf : Option (List ℕ)) (lines : Source) (o : Object) : Type 0 where
   pub types : Option TypeInfo
   pub kernel : kernel_types btf ≡ Ok types
-  pub headline : Headline (default_passes types (object_of file).maps) lines Stated file o
+  pub headline : Headline (default_passes types (object_of file).maps) lines Strict file o

@@ -17,7 +17,7 @@ use Rattle.ebpf_model.specs.Symbols.{key_address, key_section}
 use Rattle.ebpf_object.specs.Objects.{object_of}
 use Rattle.ebpf_reloc.specs.declared.link_map.CodeCopy.{CodeCopy}
 use Rattle.ebpf_linker.specs.declared.link_map.PlacedReference.{PlacedReference}
-use Rattle.ebpf_parts.specs.declared.reading.Reading.TheVariants.{Stated}
+use Rattle.ebpf_parts.specs.declared.parse_mode.ParseMode.TheVariants.{Strict}
 use Rattle.cli_common.specs.DefaultPasses.{default_passes}
 use Rattle.cli_common.specs.SlotText.{head_line, program_text}
 use Rattle.cli_plain.specs.Linked.{kernel_types}
@@ -80,7 +80,7 @@ reports_text reports None = flat_map report_text reports
 pub record HasInspected (file : List ℕ) (btf : Option (List ℕ)) (lines : Source) (reports : List ProgramReport) : Type 0 where
   pub types : Option TypeInfo
   pub kernel : kernel_types btf ≡ Ok types
-  pub inspected : IsInspected (default_passes types (object_of file).maps) lines Stated file reports
+  pub inspected : IsInspected (default_passes types (object_of file).maps) lines Strict file reports
 
 -- The file is inspected, it has the program that is named, and the writer, whose bytes were these before and are
 -- these now, has got the lines of that program or of all.

@@ -8,7 +8,7 @@ ghost use Rattle.cli_common.specs.DefaultPasses.{default_passes};
 ghost use Rattle.cli_plain.specs.Printed.{report_named, reports_text, HasInspected, HasListed};
 ghost use Rattle.ebpf_inspect.specs.Inspected.{IsInspected};
 ghost use Rattle.ebpf_object.specs.Prepared.{IsParsed};
-ghost use Rattle.ebpf_parts.specs.declared.reading.Reading.TheVariants.{Stated};
+ghost use Rattle.ebpf_parts.specs.declared.parse_mode.ParseMode.TheVariants.{Strict};
 
 use crate::arguments::Words;
 use crate::failure::{Failure, report};
@@ -112,8 +112,8 @@ fn inspect_all<K: SymbolSource>(
     types: Option<&Btf>,
     kallsyms: K,
 ) -> Result<Items<ProgramReport>, Failure<'static>>
-    ensures inspected { (file : List ℕ) → IsParsed Stated file object → IfOk result (IsInspected (default_passes (option_copied types.entry) object.maps) (K.source kallsyms) Stated file) }
-    ensures refused { (file : List ℕ) → IsParsed Stated file object → IfErr result (λ f. MatchBool (is_outside f) ⊤ (IsPreparingFailure (default_passes (option_copied types.entry) object.maps) (K.source kallsyms) file f)) }
+    ensures inspected { (file : List ℕ) → IsParsed Strict file object → IfOk result (IsInspected (default_passes (option_copied types.entry) object.maps) (K.source kallsyms) Strict file) }
+    ensures refused { (file : List ℕ) → IsParsed Strict file object → IfErr result (λ f. MatchBool (is_outside f) ⊤ (IsPreparingFailure (default_passes (option_copied types.entry) object.maps) (K.source kallsyms) file f)) }
 {
     let Ok(names) = object.map_names(alloc) else {
         drop(object);

@@ -12,7 +12,7 @@ ghost use Rattle.cli_common.specs.DefaultPasses.{default_passes};
 ghost use Rattle.cli_plain.specs.Linked.{IsFileLinked};
 ghost use Rattle.cli_plain.specs.Printed.{program_lines, printed};
 ghost use Rattle.ebpf_object.specs.LinkedPrograms.{function_of_named_program};
-ghost use Rattle.ebpf_parts.specs.declared.reading.Reading.TheVariants.{Stated};
+ghost use Rattle.ebpf_parts.specs.declared.parse_mode.ParseMode.TheVariants.{Strict};
 
 use crate::arguments::Words;
 use crate::failure::{Failure, report};
@@ -136,8 +136,8 @@ pub fn prepare_all<K: SymbolSource>(
     types: Option<&Btf>,
     kallsyms: K,
 ) -> Result<Object, Failure<'static>>
-    ensures headline { (file : List ℕ) → IsParsed Stated file object → IfOk result (Headline (default_passes (option_copied types.entry) object.maps) (K.source kallsyms) Stated file) }
-    ensures refused { (file : List ℕ) → IsParsed Stated file object → IfErr result (λ f. MatchBool (is_outside f) ⊤ (IsPreparingFailure (default_passes (option_copied types.entry) object.maps) (K.source kallsyms) file f)) }
+    ensures headline { (file : List ℕ) → IsParsed Strict file object → IfOk result (Headline (default_passes (option_copied types.entry) object.maps) (K.source kallsyms) Strict file) }
+    ensures refused { (file : List ℕ) → IsParsed Strict file object → IfErr result (λ f. MatchBool (is_outside f) ⊤ (IsPreparingFailure (default_passes (option_copied types.entry) object.maps) (K.source kallsyms) file f)) }
 {
     let Ok(names) = object.map_names(alloc) else {
         drop(object);

@@ -5,7 +5,7 @@ ghost use Rattle.cli_common.specs.DefaultPasses.{default_passes};
 ghost use Rattle.ebpf_ksyms.specs.Sources.{Text as TextLines};
 ghost use Rattle.ebpf_object.specs.Headline.{Headline};
 ghost use Rattle.ebpf_object.specs.Prepared.{IsParsed, IsFirstPrepareFault, RefusesPreparing, Stages};
-ghost use Rattle.ebpf_parts.specs.declared.reading.Reading.{Reading};
+ghost use Rattle.ebpf_parts.specs.declared.parse_mode.ParseMode.{ParseMode};
 
 use crate::kernel::Kernel;
 use crate::opened::{Opened, open_file};
@@ -68,8 +68,8 @@ pub fn finished_object(
     kernel: &Kernel,
 ) -> Result<Object, PrepareError>
     ensures stages { IfOk result (Stages (default_passes kernel.now.types object.now.maps) (TextLines kernel.now.symbols.items) object.now) }
-    ensures headline { (reading : Reading) (file : List ℕ) → IsParsed reading file object.now → IfOk result (Headline (default_passes kernel.now.types object.now.maps) (TextLines kernel.now.symbols.items) reading file) }
-    ensures refused { (reading : Reading) (file : List ℕ) → IsParsed reading file object.now → IfErr result (RefusesPreparing (IsFirstPrepareFault (default_passes kernel.now.types object.now.maps) (TextLines kernel.now.symbols.items) reading file)) }
+    ensures headline { (mode : ParseMode) (file : List ℕ) → IsParsed mode file object.now → IfOk result (Headline (default_passes kernel.now.types object.now.maps) (TextLines kernel.now.symbols.items) mode file) }
+    ensures refused { (mode : ParseMode) (file : List ℕ) → IsParsed mode file object.now → IfErr result (RefusesPreparing (IsFirstPrepareFault (default_passes kernel.now.types object.now.maps) (TextLines kernel.now.symbols.items) mode file)) }
 {
     let Ok(names) = object.map_names(alloc) else {
         return Err(PrepareError::OutOfMemory);

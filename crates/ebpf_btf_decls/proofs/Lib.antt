@@ -1,4 +1,4 @@
 pub mod MemberValues
-pub mod BothReadings
+pub mod BothModes
 pub mod NumberedNames
 pub mod SectionMaps

@@ -22,8 +22,8 @@ use Rattle.ebpf_btf_decls.specs.declared.members.MemberValue.{MemberValue}
 use Rattle.ebpf_btf_decls.specs.declared.members.MemberValue.TheVariants.{Number, Pinning, Key, Value, Values, Programs, Extra, Nothing}
 use Rattle.ebpf_parts.specs.declared.maps.definition.BtfMapDef.{BtfMapDef}
 use Rattle.ebpf_parts.specs.declared.maps.definition.PinningType.TheVariants as pinned
-use Rattle.ebpf_parts.specs.declared.reading.Reading.{Reading}
-use Rattle.ebpf_parts.specs.declared.reading.Reading.TheVariants.{Stated, Broad}
+use Rattle.ebpf_parts.specs.declared.parse_mode.ParseMode.{ParseMode}
+use Rattle.ebpf_parts.specs.declared.parse_mode.ParseMode.TheVariants.{Strict, Lenient}
 
 -- ---- definitions that are made member by member
 
@@ -246,10 +246,10 @@ extra_subject : (types : List BtfType) (id : ℕ) (own : Option ℕ) (s : Member
 extra_subject types id None s is = spelled types MapExtra id s is
 extra_subject types id (Some n) s is = let e : Extra n ≡ s = cc in ap subject (sym e)
 
-number_subject : (reading : Reading) (types : List BtfType) (of : MapNumber) (id : ℕ) (s : MemberValue) → number_value reading types of id ≡ Ok s → subject s ≡ about.Number of
-number_subject Stated types of id s is = spelled types of id s is
-number_subject Broad types MapExtra id s is = extra_subject types id (own_number types id) s is
-number_subject Broad types of id s is = spelled types of id s is
+number_subject : (mode : ParseMode) (types : List BtfType) (of : MapNumber) (id : ℕ) (s : MemberValue) → number_value mode types of id ≡ Ok s → subject s ≡ about.Number of
+number_subject Strict types of id s is = spelled types of id s is
+number_subject Lenient types MapExtra id s is = extra_subject types id (own_number types id) s is
+number_subject Lenient types of id s is = spelled types of id s is
 
 -- values are programs or maps
 values_subject : (programs : Bool) (inner : Result BtfMapDef BtfError) (s : MemberValue)
@@ -257,27 +257,27 @@ values_subject : (programs : Bool) (inner : Result BtfMapDef BtfError) (s : Memb
 values_subject true inner s is = let e : Programs ≡ s = cc in ap subject (sym e)
 values_subject false inner s is = by_subject about.Values inner Values s (λ inner. refl) is
 
-plain_subject : (reading : Reading) (types : List BtfType) (m : MapMember) (id : ℕ) (s : MemberValue) → (m ≡ about.Values → ⊥) → plain_value reading types m id ≡ Ok s → subject s ≡ m
+plain_subject : (mode : ParseMode) (types : List BtfType) (m : MapMember) (id : ℕ) (s : MemberValue) → (m ≡ about.Values → ⊥) → plain_value mode types m id ≡ Ok s → subject s ≡ m
 unfolding plain_value
-plain_subject reading types (about.Number of) id s other is = number_subject reading types of id s is
-plain_subject reading types about.Pinning id s other is = by_subject about.Pinning (number types id) (λ n. Pinning (pinning_by_number n)) s (λ n. refl) is
-plain_subject reading types about.Key id s other is = by_subject about.Key (sized_type types id) (λ t. Key t.0 t.1) s (λ t. refl) is
-plain_subject reading types about.Value id s other is = by_subject about.Value (sized_type types id) (λ t. Value t.0 t.1) s (λ t. refl) is
-plain_subject reading types about.Values id s other is = absurd (other refl)
-plain_subject reading types about.Other id s other is = let e : Nothing ≡ s = cc in ap subject (sym e)
+plain_subject mode types (about.Number of) id s other is = number_subject mode types of id s is
+plain_subject mode types about.Pinning id s other is = by_subject about.Pinning (number types id) (λ n. Pinning (pinning_by_number n)) s (λ n. refl) is
+plain_subject mode types about.Key id s other is = by_subject about.Key (sized_type types id) (λ t. Key t.0 t.1) s (λ t. refl) is
+plain_subject mode types about.Value id s other is = by_subject about.Value (sized_type types id) (λ t. Value t.0 t.1) s (λ t. refl) is
+plain_subject mode types about.Values id s other is = absurd (other refl)
+plain_subject mode types about.Other id s other is = let e : Nothing ≡ s = cc in ap subject (sym e)
 
-member_subject : (reading : Reading) (info : TypeInfo) (name : List ℕ) (m : MapMember) (id : ℕ) (s : MemberValue) → member_value_of reading info name m id ≡ Ok s → subject s ≡ m
+member_subject : (mode : ParseMode) (info : TypeInfo) (name : List ℕ) (m : MapMember) (id : ℕ) (s : MemberValue) → member_value_of mode info name m id ≡ Ok s → subject s ≡ m
 unfolding member_value_of
-member_subject reading info name about.Values id s is =
-    by_inner (inner_map_struct info.types name id) (λ held. if are_programs reading info.types held then Ok Programs else if_ok (inner_struct_definition reading info name held) (λ inner. Ok (Values inner))) s
-    (λ held here. values_subject (are_programs reading info.types held) (inner_struct_definition reading info name held) s here) is
-member_subject reading info name m id s is = plain_subject reading info.types m id s (λ no. absurd (cc)) is
+member_subject mode info name about.Values id s is =
+    by_inner (inner_map_struct info.types name id) (λ held. if are_programs mode info.types held then Ok Programs else if_ok (inner_struct_definition mode info name held) (λ inner. Ok (Values inner))) s
+    (λ held here. values_subject (are_programs mode info.types held) (inner_struct_definition mode info name held) s here) is
+member_subject mode info name m id s is = plain_subject mode info.types m id s (λ no. absurd (cc)) is
 
-inner_subject : (reading : Reading) (info : TypeInfo) (name : List ℕ) (m : MapMember) (id : ℕ) (s : MemberValue) → inner_member_value_of reading info name m id ≡ Ok s → subject s ≡ m
+inner_subject : (mode : ParseMode) (info : TypeInfo) (name : List ℕ) (m : MapMember) (id : ℕ) (s : MemberValue) → inner_member_value_of mode info name m id ≡ Ok s → subject s ≡ m
 unfolding inner_member_value_of
-inner_subject reading info name about.Pinning id s is = absurd (cc)
-inner_subject reading info name about.Values id s is = absurd (cc)
-inner_subject reading info name m id s is = plain_subject reading info.types m id s (λ no. absurd (cc)) is
+inner_subject mode info name about.Pinning id s is = absurd (cc)
+inner_subject mode info name about.Values id s is = absurd (cc)
+inner_subject mode info name m id s is = plain_subject mode info.types m id s (λ no. absurd (cc)) is
 
 -- two answers by members that are about one thing
 one_subject : (a b : Result MapMember BtfError) (f g : MapMember → Result MemberValue BtfError) (s t : MemberValue) → a ≡ b
@@ -296,21 +296,21 @@ same_member strings a b same = ap (λ (r : Result (List ℕ) BtfError). if_ok r 
 
 pub later_members : LaterMembersStand
 unfolding member_value
-later_members reading info name before between after earlier later same is =
-    let p : (s : MemberValue) × (member_value reading info name earlier ≡ Ok s) = value_ok (member_value reading info name earlier) is in
-    later_stands (member_value reading info name) before between after earlier later p.0 p.1
-    (λ t said. one_subject (map_member_at info.strings earlier) (map_member_at info.strings later) (λ m. member_value_of reading info name m earlier.btf_type) (λ m. member_value_of reading info name m later.btf_type) p.0 t (same_member info.strings earlier later same)
-    (λ m. member_subject reading info name m earlier.btf_type p.0) (λ m. member_subject reading info name m later.btf_type t) p.1 said)
+later_members mode info name before between after earlier later same is =
+    let p : (s : MemberValue) × (member_value mode info name earlier ≡ Ok s) = value_ok (member_value mode info name earlier) is in
+    later_stands (member_value mode info name) before between after earlier later p.0 p.1
+    (λ t said. one_subject (map_member_at info.strings earlier) (map_member_at info.strings later) (λ m. member_value_of mode info name m earlier.btf_type) (λ m. member_value_of mode info name m later.btf_type) p.0 t (same_member info.strings earlier later same)
+    (λ m. member_subject mode info name m earlier.btf_type p.0) (λ m. member_subject mode info name m later.btf_type t) p.1 said)
     no_definitions
 
 pub later_inner_members : LaterInnerMembersStand
 unfolding inner_member_value
-later_inner_members reading info name before between after earlier later same is =
-    let p : (s : MemberValue) × (inner_member_value reading info name earlier ≡ Ok s) = value_ok (inner_member_value reading info name earlier) is in
+later_inner_members mode info name before between after earlier later same is =
+    let p : (s : MemberValue) × (inner_member_value mode info name earlier ≡ Ok s) = value_ok (inner_member_value mode info name earlier) is in
     ap (λ (r : Result MapDefinitions BtfError). if_ok r (λ d. Ok d.def))
-    (later_stands (inner_member_value reading info name) before between after earlier later p.0 p.1
-    (λ t said. one_subject (map_member_at info.strings earlier) (map_member_at info.strings later) (λ m. inner_member_value_of reading info name m earlier.btf_type) (λ m. inner_member_value_of reading info name m later.btf_type) p.0 t (same_member info.strings earlier later same)
-    (λ m. inner_subject reading info name m earlier.btf_type p.0) (λ m. inner_subject reading info name m later.btf_type t) p.1 said)
+    (later_stands (inner_member_value mode info name) before between after earlier later p.0 p.1
+    (λ t said. one_subject (map_member_at info.strings earlier) (map_member_at info.strings later) (λ m. inner_member_value_of mode info name m earlier.btf_type) (λ m. inner_member_value_of mode info name m later.btf_type) p.0 t (same_member info.strings earlier later same)
+    (λ m. inner_subject mode info name m earlier.btf_type p.0) (λ m. inner_subject mode info name m later.btf_type t) p.1 said)
     no_definitions)
 
 -- ---- the item of a list of one

@@ -19,7 +19,7 @@ use Rattle.ebpf_base.specs.Faults.{first_some, or_else}
 use Rattle.ebpf_base.specs.Maps.{put_all, last_at, text_cmp, text_total}
 use Rattle.ebpf_btf.proofs.InOrder.{drop_some}
 use Rattle.ebpf_btf.specs.Strings.{text_at}
-use Rattle.ebpf_btf_decls.proofs.BothReadings.{equal_numbers}
+use Rattle.ebpf_btf_decls.proofs.BothModes.{equal_numbers}
 use Rattle.ebpf_btf_decls.specs.DataSections.{given}
 use Rattle.ebpf_btf_decls.specs.SectionMaps.{put_at, AreDistinct, AreNumbered, HasNumber, AreKept}
 use Rattle.ebpf_btf_decls.specs.declared.numbered_names.NumberedNames.{NumberedNames}

@@ -36,7 +36,7 @@ use Rattle.ebpf_parts.specs.Memory.{is_parse_memory}
 use Rattle.ebpf_parts.specs.declared.error.ParseError.{ParseError}
 use Rattle.ebpf_parts.specs.declared.error.ParseError.TheVariants as errors
 use Rattle.ebpf_parts.specs.declared.maps.either.Map.{Map}
-use Rattle.ebpf_parts.specs.declared.reading.Reading.{Reading}
+use Rattle.ebpf_parts.specs.declared.parse_mode.ParseMode.{ParseMode}
 
 -- ---- names
 
@@ -122,23 +122,23 @@ one_there m n name put = ap (λ x. is_some (get x name)) put ∙ ap is_some (get
 pub record AreGathered (info : TypeInfo) (start : FinMap text_cmp (List DataSecEntry)) (longest : ℕ) (m : FinMap text_cmp (List DataSecEntry)) (rest : List BtfType) : Type 0 where
   pub stay : Stay start m
   pub within : NamesAreWithin longest m
-  pub maps : (reading : Reading) (q : List ℕ) (es : List DataSecEntry) → get m q ≡ Some es → (symbols : List ℕ → Option ℕ) (section : ℕ)
-      → entries_maps reading info symbols section es ++ flat_map (type_maps reading info symbols section q) rest ≡ btf_maps reading info symbols section q
-  pub fault : (reading : Reading) (q : List ℕ) (es : List DataSecEntry) → get m q ≡ Some es → (symbols : List ℕ → Option ℕ) (section : ℕ)
-      → or_else (entries_fault reading info symbols section es) (first_some (type_maps_fault reading info symbols section q) rest) ≡ btf_maps_fault reading info symbols section q
+  pub maps : (mode : ParseMode) (q : List ℕ) (es : List DataSecEntry) → get m q ≡ Some es → (symbols : List ℕ → Option ℕ) (section : ℕ)
+      → entries_maps mode info symbols section es ++ flat_map (type_maps mode info symbols section q) rest ≡ btf_maps mode info symbols section q
+  pub fault : (mode : ParseMode) (q : List ℕ) (es : List DataSecEntry) → get m q ≡ Some es → (symbols : List ℕ → Option ℕ) (section : ℕ)
+      → or_else (entries_fault mode info symbols section es) (first_some (type_maps_fault mode info symbols section q) rest) ≡ btf_maps_fault mode info symbols section q
 
 pub all_left : (info : TypeInfo) (longest : ℕ) (m : FinMap text_cmp (List DataSecEntry)) → AreWithoutEntries longest m → AreGathered info m longest m info.types
 all_left info longest m wanted_names = record {
   stay = λ q there. there;
   within = record { is = λ q es at. (wanted_names.is q es at).1 };
-  maps = λ reading q es at symbols section. ap (λ l. entries_maps reading info symbols section l ++ flat_map (type_maps reading info symbols section q) info.types) (wanted_names.is q es at).0;
-  fault = λ reading q es at symbols section. ap (λ l. or_else (entries_fault reading info symbols section l) (first_some (type_maps_fault reading info symbols section q) info.types)) (wanted_names.is q es at).0;
+  maps = λ mode q es at symbols section. ap (λ l. entries_maps mode info symbols section l ++ flat_map (type_maps mode info symbols section q) info.types) (wanted_names.is q es at).0;
+  fault = λ mode q es at symbols section. ap (λ l. or_else (entries_fault mode info symbols section l) (first_some (type_maps_fault mode info symbols section q) info.types)) (wanted_names.is q es at).0;
 }
 
 pub none_left : (info : TypeInfo) (start : FinMap text_cmp (List DataSecEntry)) (longest : ℕ) (found : NamedSections) → AreGathered info start longest found.by_name [] → found.unreadable ≡ None → AreFound info found
 none_left info start longest found gathered readable = record {
-  maps = λ reading q es at none symbols section. sym (append-nil (entries_maps reading info symbols section es)) ∙ gathered.maps reading q es at symbols section;
-  fault = λ reading q es at symbols section. ap (λ u. or_else (entries_fault reading info symbols section es) (unreadable_name_fault u)) readable ∙ gathered.fault reading q es at symbols section;
+  maps = λ mode q es at none symbols section. sym (append-nil (entries_maps mode info symbols section es)) ∙ gathered.maps mode q es at symbols section;
+  fault = λ mode q es at symbols section. ap (λ u. or_else (entries_fault mode info symbols section es) (unreadable_name_fault u)) readable ∙ gathered.fault mode q es at symbols section;
 }
 
 -- what a search meets at a type, by its entries and its name
@@ -148,24 +148,24 @@ matched_by es r q = if_some es (λ entries. datasec_match_if entries (if_ok r (�
 abbrev fault_by_name : Option (List DataSecEntry) → Result (List ℕ) BtfError → Option BtfError
 fault_by_name es r = if_some es (λ entries. fault_of r) None
 
-module _ (reading : Reading) (info : TypeInfo) (symbols : List ℕ → Option ℕ) (section : ℕ) (q : List ℕ) where
-  one_maps : (met : Option DatasecMatch) → entries_maps reading info symbols section (matched_entries met) ≡ matched_maps reading info symbols section met
+module _ (mode : ParseMode) (info : TypeInfo) (symbols : List ℕ → Option ℕ) (section : ℕ) (q : List ℕ) where
+  one_maps : (met : Option DatasecMatch) → entries_maps mode info symbols section (matched_entries met) ≡ matched_maps mode info symbols section met
   one_maps None = refl
   one_maps (Some (Named es)) = refl
   one_maps (Some (UnreadableName e)) = refl
 
   one_fault : (es : Option (List DataSecEntry)) (r : Result (List ℕ) BtfError) → fault_by_name es r ≡ None
-      → entries_fault reading info symbols section (matched_entries (matched_by es r q)) ≡ matched_maps_fault reading info symbols section (matched_by es r q)
+      → entries_fault mode info symbols section (matched_entries (matched_by es r q)) ≡ matched_maps_fault mode info symbols section (matched_by es r q)
   one_fault None r none = refl
   one_fault (Some es) (Err e) none = absurd (cc)
   one_fault (Some es) (Ok name) none = by_name (bytes_eq name q)
     where
-      by_name : (b : Bool) → entries_fault reading info symbols section (matched_entries (datasec_match_if es (Ok b))) ≡ matched_maps_fault reading info symbols section (datasec_match_if es (Ok b))
+      by_name : (b : Bool) → entries_fault mode info symbols section (matched_entries (datasec_match_if es (Ok b))) ≡ matched_maps_fault mode info symbols section (datasec_match_if es (Ok b))
       by_name true = refl
       by_name false = refl
 
   last_fault : (es : Option (List DataSecEntry)) (r : Result (List ℕ) BtfError) (e : BtfError) → fault_by_name es r ≡ Some e
-      → matched_maps_fault reading info symbols section (matched_by es r q) ≡ Some (errors.BtfError e)
+      → matched_maps_fault mode info symbols section (matched_by es r q) ≡ Some (errors.BtfError e)
   last_fault None r e is = absurd (cc)
   last_fault (Some es) (Ok name) e is = absurd (cc)
   last_fault (Some es) (Err d) e is = let same : d ≡ e = cc in ap (λ x. Some (errors.BtfError x)) same
@@ -244,36 +244,36 @@ module _ (info : TypeInfo) (t : BtfType) (start : FinMap text_cmp (List DataSecE
   one_less n added readable = record {
     stay = λ q there. added.stay q (gathered.stay q there);
     within = record { is = λ q es there. let p = added.entries q es there in gathered.within.is q p.0 p.1 };
-    maps = λ reading q es there symbols section.
+    maps = λ mode q es there symbols section.
         let p : (had : List DataSecEntry) × (get m q ≡ Some had) × (es ≡ had ++ matched_entries (datasec_match info q t)) = added.entries q es there in
-        let left = flat_map (type_maps reading info symbols section q) rest in
+        let left = flat_map (type_maps mode info symbols section q) rest in
         let more = matched_entries (datasec_match info q t) in
-        ap (λ l. entries_maps reading info symbols section l ++ left) p.2
-        ∙ ap (λ l. l ++ left) (flat_map-append (λ entry. given (entry_map reading info symbols section entry)) p.0 more)
-        ∙ append_assoc (entries_maps reading info symbols section p.0) (entries_maps reading info symbols section more) left
-        ∙ ap (λ l. entries_maps reading info symbols section p.0 ++ (l ++ left)) (one_maps reading info symbols section q (datasec_match info q t))
-        ∙ gathered.maps reading q p.0 p.1 symbols section;
-    fault = λ reading q es there symbols section.
+        ap (λ l. entries_maps mode info symbols section l ++ left) p.2
+        ∙ ap (λ l. l ++ left) (flat_map-append (λ entry. given (entry_map mode info symbols section entry)) p.0 more)
+        ∙ append_assoc (entries_maps mode info symbols section p.0) (entries_maps mode info symbols section more) left
+        ∙ ap (λ l. entries_maps mode info symbols section p.0 ++ (l ++ left)) (one_maps mode info symbols section q (datasec_match info q t))
+        ∙ gathered.maps mode q p.0 p.1 symbols section;
+    fault = λ mode q es there symbols section.
         let p : (had : List DataSecEntry) × (get m q ≡ Some had) × (es ≡ had ++ matched_entries (datasec_match info q t)) = added.entries q es there in
-        let left = first_some (type_maps_fault reading info symbols section q) rest in
+        let left = first_some (type_maps_fault mode info symbols section q) rest in
         let more = matched_entries (datasec_match info q t) in
-        ap (λ l. or_else (entries_fault reading info symbols section l) left) p.2
-        ∙ ap (λ l. or_else l left) (first_some-append (λ entry. fault_of (entry_map reading info symbols section entry)) p.0 more)
-        ∙ or_else-assoc (entries_fault reading info symbols section p.0) (entries_fault reading info symbols section more) left
-        ∙ ap (λ l. or_else (entries_fault reading info symbols section p.0) (or_else l left)) (one_fault reading info symbols section q (datasec_entries t) (text_at info.strings (name_off t)) readable)
-        ∙ gathered.fault reading q p.0 p.1 symbols section;
+        ap (λ l. or_else (entries_fault mode info symbols section l) left) p.2
+        ∙ ap (λ l. or_else l left) (first_some-append (λ entry. fault_of (entry_map mode info symbols section entry)) p.0 more)
+        ∙ or_else-assoc (entries_fault mode info symbols section p.0) (entries_fault mode info symbols section more) left
+        ∙ ap (λ l. or_else (entries_fault mode info symbols section p.0) (or_else l left)) (one_fault mode info symbols section q (datasec_entries t) (text_at info.strings (name_off t)) readable)
+        ∙ gathered.fault mode q p.0 p.1 symbols section;
   }
 
   -- a name that can't be read
   pub stopped : (offset : ℕ) (n : FinMap text_cmp (List DataSecEntry)) (found : NamedSections) → n ≡ m → datasec_name_fault info t ≡ Some (InvalidStringOffset offset) → found ≡ record { by_name = n; unreadable = Some offset } → AreFound info found
   unfolding datasec_match datasec_name_fault type_maps_fault
   stopped offset n found same is made = record {
-    maps = λ reading q es at none symbols section. let wrong : Some offset ≡ None = sym (ap (λ (f : NamedSections). f.unreadable) made) ∙ none in absurd (cc);
-    fault = λ reading q es at symbols section.
-        ap (λ (f : NamedSections). or_else (entries_fault reading info symbols section es) (unreadable_name_fault f.unreadable)) made
-        ∙ ap (λ x. or_else (entries_fault reading info symbols section es) (or_else x (first_some (type_maps_fault reading info symbols section q) rest)))
-        (sym (last_fault reading info symbols section q (datasec_entries t) (text_at info.strings (name_off t)) (InvalidStringOffset offset) is))
-        ∙ gathered.fault reading q es (ap (λ x. get x q) (sym same) ∙ ap (λ (f : NamedSections). get f.by_name q) (sym made) ∙ at) symbols section;
+    maps = λ mode q es at none symbols section. let wrong : Some offset ≡ None = sym (ap (λ (f : NamedSections). f.unreadable) made) ∙ none in absurd (cc);
+    fault = λ mode q es at symbols section.
+        ap (λ (f : NamedSections). or_else (entries_fault mode info symbols section es) (unreadable_name_fault f.unreadable)) made
+        ∙ ap (λ x. or_else (entries_fault mode info symbols section es) (or_else x (first_some (type_maps_fault mode info symbols section q) rest)))
+        (sym (last_fault mode info symbols section q (datasec_entries t) (text_at info.strings (name_off t)) (InvalidStringOffset offset) is))
+        ∙ gathered.fault mode q es (ap (λ x. get x q) (sym same) ∙ ap (λ (f : NamedSections). get f.by_name q) (sym made) ∙ at) symbols section;
   }
 
 -- a fault that comes first
@@ -346,108 +346,108 @@ module _ (symbols : List ℕ → Option ℕ) (section : ℕ) (q : List ℕ) wher
 -- ---- entries without a fault
 
 -- the fault of an entry that is declared
-pub entry_fault : (reading : Reading) (info : TypeInfo) (symbols : List ℕ → Option ℕ) (section : ℕ) (entry : DataSecEntry) (name : List ℕ) (d : MapDefinitions) → declared reading info entry ≡ Ok (name, d)
-    → fault_of (entry_map reading info symbols section entry) ≡ missing symbols name
+pub entry_fault : (mode : ParseMode) (info : TypeInfo) (symbols : List ℕ → Option ℕ) (section : ℕ) (entry : DataSecEntry) (name : List ℕ) (d : MapDefinitions) → declared mode info entry ≡ Ok (name, d)
+    → fault_of (entry_map mode info symbols section entry) ≡ missing symbols name
 unfolding entry_map
-entry_fault reading info symbols section entry name d is = ap (λ r. fault_of (map_with_symbol symbols section r)) is ∙ missing_fault section name d (symbols name)
+entry_fault mode info symbols section entry name d is = ap (λ r. fault_of (map_with_symbol symbols section r)) is ∙ missing_fault section name d (symbols name)
 
-module _ (reading : Reading) (info : TypeInfo) (first : List ℕ → Option ℕ) (symbols : List ℕ → Option ℕ) (section : ℕ) where
+module _ (mode : ParseMode) (info : TypeInfo) (first : List ℕ → Option ℕ) (symbols : List ℕ → Option ℕ) (section : ℕ) where
   abbrev declarations : List DataSecEntry → List (List ℕ × MapDefinitions)
-  declarations entries = flat_map (λ entry. given (declared reading info entry)) entries
+  declarations entries = flat_map (λ entry. given (declared mode info entry)) entries
 
-  as_declared : (entry : DataSecEntry) → fault_of (entry_map reading info first 0 entry) ≡ None
-      → (given (entry_map reading info symbols section entry) ≡ defined_maps symbols section (given (declared reading info entry)))
-      × (fault_of (entry_map reading info symbols section entry) ≡ first_some (λ p. missing symbols p.0) (given (declared reading info entry)))
+  as_declared : (entry : DataSecEntry) → fault_of (entry_map mode info first 0 entry) ≡ None
+      → (given (entry_map mode info symbols section entry) ≡ defined_maps symbols section (given (declared mode info entry)))
+      × (fault_of (entry_map mode info symbols section entry) ≡ first_some (λ p. missing symbols p.0) (given (declared mode info entry)))
   unfolding entry_map
-  as_declared entry clear = by_declared (declared reading info entry) clear
+  as_declared entry clear = by_declared (declared mode info entry) clear
     where
       by_declared : (r : Result (List ℕ × MapDefinitions) BtfError) → fault_of (map_with_symbol first 0 r) ≡ None
           → (given (map_with_symbol symbols section r) ≡ defined_maps symbols section (given r)) × (fault_of (map_with_symbol symbols section r) ≡ first_some (λ p. missing symbols p.0) (given r))
       by_declared (Err e) clear = absurd (cc)
       by_declared (Ok p) clear = (sym (append-nil (given (map_with_symbol symbols section (Ok p)))), missing_fault section p.0 p.1 (symbols p.0) ∙ sym (or_else-None (missing symbols p.0)))
 
-  all_declared : (entries : List DataSecEntry) → entries_fault reading info first 0 entries ≡ None
-      → (entries_maps reading info symbols section entries ≡ defined_maps symbols section (declarations entries))
-      × (entries_fault reading info symbols section entries ≡ first_some (λ p. missing symbols p.0) (declarations entries))
+  all_declared : (entries : List DataSecEntry) → entries_fault mode info first 0 entries ≡ None
+      → (entries_maps mode info symbols section entries ≡ defined_maps symbols section (declarations entries))
+      × (entries_fault mode info symbols section entries ≡ first_some (λ p. missing symbols p.0) (declarations entries))
   all_declared [] clear = (refl, refl)
   all_declared (entry ∷ entries) clear =
-      let both = both_None (fault_of (entry_map reading info first 0 entry)) (entries_fault reading info first 0 entries) clear in
+      let both = both_None (fault_of (entry_map mode info first 0 entry)) (entries_fault mode info first 0 entries) clear in
       let here = as_declared entry both.0 in
       let later = all_declared entries both.1 in (
-        ap (λ l. l ++ entries_maps reading info symbols section entries) here.0 ∙ ap (λ l. defined_maps symbols section (given (declared reading info entry)) ++ l) later.0
-            ∙ sym (flat_map-append (λ p. given (map_with_symbol symbols section (Ok p))) (given (declared reading info entry)) (declarations entries)),
-        ap (λ o. or_else o (entries_fault reading info symbols section entries)) here.1 ∙ ap (or_else (first_some (λ p. missing symbols p.0) (given (declared reading info entry)))) later.1
-            ∙ sym (first_some-append (λ p. missing symbols p.0) (given (declared reading info entry)) (declarations entries)),
+        ap (λ l. l ++ entries_maps mode info symbols section entries) here.0 ∙ ap (λ l. defined_maps symbols section (given (declared mode info entry)) ++ l) later.0
+            ∙ sym (flat_map-append (λ p. given (map_with_symbol symbols section (Ok p))) (given (declared mode info entry)) (declarations entries)),
+        ap (λ o. or_else o (entries_fault mode info symbols section entries)) here.1 ∙ ap (or_else (first_some (λ p. missing symbols p.0) (given (declared mode info entry)))) later.1
+            ∙ sym (first_some-append (λ p. missing symbols p.0) (given (declared mode info entry)) (declarations entries)),
       )
 
 -- ---- the entries of the DATASECs of a name
 
-module _ (reading : Reading) (info : TypeInfo) (sections : NamedSections) (found : AreFound info sections) (name : List ℕ) (entries : List DataSecEntry) (there : get sections.by_name name ≡ Some entries) where
-  pub are_maps : sections.unreadable ≡ None → (first : List ℕ → Option ℕ) → entries_fault reading info first 0 entries ≡ None → (k : DistinctMaps)
-      → AreKept k.names.names k.last (flat_map (λ entry. given (declared reading info entry)) entries) → AreMapsOf reading info name k
+module _ (mode : ParseMode) (info : TypeInfo) (sections : NamedSections) (found : AreFound info sections) (name : List ℕ) (entries : List DataSecEntry) (there : get sections.by_name name ≡ Some entries) where
+  pub are_maps : sections.unreadable ≡ None → (first : List ℕ → Option ℕ) → entries_fault mode info first 0 entries ≡ None → (k : DistinctMaps)
+      → AreKept k.names.names k.last (flat_map (λ entry. given (declared mode info entry)) entries) → AreMapsOf mode info name k
   are_maps readable first clear k kept = record {
     maps = λ symbols section m q.
         at_all symbols section q m (zip k.names.names k.last)
         ∙ ap (λ o. or_else (map_by section o (symbols q)) (get m q)) (kept.values q None)
-        ∙ sym (at_all symbols section q m (declarations reading info first symbols section entries))
-        ∙ ap (λ l. get (put_all m l) q) (sym (all_declared reading info first symbols section entries clear).0 ∙ found.maps reading name entries there readable symbols section);
+        ∙ sym (at_all symbols section q m (declarations mode info first symbols section entries))
+        ∙ ap (λ l. get (put_all m l) q) (sym (all_declared mode info first symbols section entries clear).0 ∙ found.maps mode name entries there readable symbols section);
     fault = λ symbols section.
-        kept.first (missing symbols) ∙ sym (all_declared reading info first symbols section entries clear).1
-        ∙ sym (or_else-None (entries_fault reading info symbols section entries))
-        ∙ ap (λ u. or_else (entries_fault reading info symbols section entries) (unreadable_name_fault u)) (sym readable)
-        ∙ found.fault reading name entries there symbols section;
+        kept.first (missing symbols) ∙ sym (all_declared mode info first symbols section entries clear).1
+        ∙ sym (or_else-None (entries_fault mode info symbols section entries))
+        ∙ ap (λ u. or_else (entries_fault mode info symbols section entries) (unreadable_name_fault u)) (sym readable)
+        ∙ found.fault mode name entries there symbols section;
   }
 
   -- the fault of an entry comes first
-  pub entry_refused : (symbols : List ℕ → Option ℕ) (e : ParseError) → MatchBool (is_parse_memory e) ⊤ (entries_fault reading info symbols 0 entries ≡ Some e)
-      → MatchBool (is_parse_memory e) ⊤ (btf_maps_fault reading info symbols 0 name ≡ Some e)
+  pub entry_refused : (symbols : List ℕ → Option ℕ) (e : ParseError) → MatchBool (is_parse_memory e) ⊤ (entries_fault mode info symbols 0 entries ≡ Some e)
+      → MatchBool (is_parse_memory e) ⊤ (btf_maps_fault mode info symbols 0 name ≡ Some e)
   entry_refused symbols e h =
-      subst (λ x. MatchBool (is_parse_memory e) ⊤ (x ≡ Some e)) (found.fault reading name entries there symbols 0)
-      (refused_first is_parse_memory e (entries_fault reading info symbols 0 entries) (unreadable_name_fault sections.unreadable) h)
+      subst (λ x. MatchBool (is_parse_memory e) ⊤ (x ≡ Some e)) (found.fault mode name entries there symbols 0)
+      (refused_first is_parse_memory e (entries_fault mode info symbols 0 entries) (unreadable_name_fault sections.unreadable) h)
 
   -- without one the name that can't be read is the fault
-  pub unreadable_refused : (symbols : List ℕ → Option ℕ) → entries_fault reading info symbols 0 entries ≡ None → btf_maps_fault reading info symbols 0 name ≡ unreadable_name_fault sections.unreadable
-  unreadable_refused symbols clear = sym (found.fault reading name entries there symbols 0) ∙ ap (λ o. or_else o (unreadable_name_fault sections.unreadable)) clear
+  pub unreadable_refused : (symbols : List ℕ → Option ℕ) → entries_fault mode info symbols 0 entries ≡ None → btf_maps_fault mode info symbols 0 name ≡ unreadable_name_fault sections.unreadable
+  unreadable_refused symbols clear = sym (found.fault mode name entries there symbols 0) ∙ ap (λ o. or_else o (unreadable_name_fault sections.unreadable)) clear
 
 -- ---- by the names of sections
 
-pub none_kept : (reading : Reading) (info : TypeInfo) (kept : FinMap text_cmp DistinctMaps) → kept ≡ empty → AreSectionMaps reading info kept
-none_kept reading info kept is = record { are = λ name k at. let wrong : None ≡ Some k = sym (get-empty text_cmp name) ∙ ap (λ x. get x name) (sym is) ∙ at in absurd (cc) }
+pub none_kept : (mode : ParseMode) (info : TypeInfo) (kept : FinMap text_cmp DistinctMaps) → kept ≡ empty → AreSectionMaps mode info kept
+none_kept mode info kept is = record { are = λ name k at. let wrong : None ≡ Some k = sym (get-empty text_cmp name) ∙ ap (λ x. get x name) (sym is) ∙ at in absurd (cc) }
 
-pub one_kept : {V E : Type 0} (reading : Reading) (info : TypeInfo) (name : List ℕ) (k : DistinctMaps) → AreMapsOf reading info name k → (kept after : FinMap text_cmp DistinctMaps) → AreSectionMaps reading info kept
-    → (r : Result V E) → OnOk r (after ≡ insert kept name k) → OnErr r (after ≡ kept) → AreSectionMaps reading info after
-one_kept reading info name k one kept after before (Err e) put same = subst (AreSectionMaps reading info) (sym same) before
-one_kept reading info name k one kept after before (Ok v) put same = record { are = λ q e at. by_test q e (eq_by_cmp text_cmp q name) refl (sym (ap (λ x. get x q) put ∙ get-insert text_total kept name k q) ∙ at) }
+pub one_kept : {V E : Type 0} (mode : ParseMode) (info : TypeInfo) (name : List ℕ) (k : DistinctMaps) → AreMapsOf mode info name k → (kept after : FinMap text_cmp DistinctMaps) → AreSectionMaps mode info kept
+    → (r : Result V E) → OnOk r (after ≡ insert kept name k) → OnErr r (after ≡ kept) → AreSectionMaps mode info after
+one_kept mode info name k one kept after before (Err e) put same = subst (AreSectionMaps mode info) (sym same) before
+one_kept mode info name k one kept after before (Ok v) put same = record { are = λ q e at. by_test q e (eq_by_cmp text_cmp q name) refl (sym (ap (λ x. get x q) put ∙ get-insert text_total kept name k q) ∙ at) }
   where
-    by_test : (q : List ℕ) (e : DistinctMaps) (b : Bool) → eq_by_cmp text_cmp q name ≡ b → cond b (Some k) (get kept q) ≡ Some e → AreMapsOf reading info q e
-    by_test q e true here at = let same : k ≡ e = cc in subst (λ n. AreMapsOf reading info n e) (sym (at_name q name here)) (subst (AreMapsOf reading info name) same one)
+    by_test : (q : List ℕ) (e : DistinctMaps) (b : Bool) → eq_by_cmp text_cmp q name ≡ b → cond b (Some k) (get kept q) ≡ Some e → AreMapsOf mode info q e
+    by_test q e true here at = let same : k ≡ e = cc in subst (λ n. AreMapsOf mode info n e) (sym (at_name q name here)) (subst (AreMapsOf mode info name) same one)
     by_test q e false here at = before.are q e at
 
 -- what is put
-pub same_maps : (reading : Reading) (info : TypeInfo) (name : List ℕ) (k : DistinctMaps) → AreMapsOf reading info name k → (symbols : List ℕ → Option ℕ) (section : ℕ) (m : FinMap text_cmp Map)
-    → put_all m (distinct_maps symbols section k) ≡ put_all m (btf_maps reading info symbols section name)
-same_maps reading info name k are symbols section m = same_map text_total text_exact _ _ (are.maps symbols section m)
+pub same_maps : (mode : ParseMode) (info : TypeInfo) (name : List ℕ) (k : DistinctMaps) → AreMapsOf mode info name k → (symbols : List ℕ → Option ℕ) (section : ℕ) (m : FinMap text_cmp Map)
+    → put_all m (distinct_maps symbols section k) ≡ put_all m (btf_maps mode info symbols section name)
+same_maps mode info name k are symbols section m = same_map text_total text_exact _ _ (are.maps symbols section m)
 
 -- ---- faults
 
 -- the fault is the same in all sections with the same symbols
-module _ (reading : Reading) (info : TypeInfo) (symbols : List ℕ → Option ℕ) (section other : ℕ) where
-  same_entry : (entry : DataSecEntry) → fault_of (entry_map reading info symbols section entry) ≡ fault_of (entry_map reading info symbols other entry)
+module _ (mode : ParseMode) (info : TypeInfo) (symbols : List ℕ → Option ℕ) (section other : ℕ) where
+  same_entry : (entry : DataSecEntry) → fault_of (entry_map mode info symbols section entry) ≡ fault_of (entry_map mode info symbols other entry)
   unfolding entry_map
-  same_entry entry = by_declared (declared reading info entry)
+  same_entry entry = by_declared (declared mode info entry)
     where
       by_declared : (r : Result (List ℕ × MapDefinitions) BtfError) → fault_of (map_with_symbol symbols section r) ≡ fault_of (map_with_symbol symbols other r)
       by_declared (Err e) = refl
       by_declared (Ok d) = missing_fault section d.0 d.1 (symbols d.0) ∙ sym (missing_fault other d.0 d.1 (symbols d.0))
 
-  same_type : (name : List ℕ) (t : BtfType) → type_maps_fault reading info symbols section name t ≡ type_maps_fault reading info symbols other name t
+  same_type : (name : List ℕ) (t : BtfType) → type_maps_fault mode info symbols section name t ≡ type_maps_fault mode info symbols other name t
   unfolding type_maps_fault
   same_type name t = by_match (datasec_match info name t)
     where
-      by_match : (m : Option DatasecMatch) → matched_maps_fault reading info symbols section m ≡ matched_maps_fault reading info symbols other m
+      by_match : (m : Option DatasecMatch) → matched_maps_fault mode info symbols section m ≡ matched_maps_fault mode info symbols other m
       by_match None = refl
       by_match (Some (UnreadableName e)) = refl
       by_match (Some (Named entries)) = λ i. first_some (λ entry. same_entry entry i) entries
 
-  pub same_fault : (name : List ℕ) → btf_maps_fault reading info symbols section name ≡ btf_maps_fault reading info symbols other name
+  pub same_fault : (name : List ℕ) → btf_maps_fault mode info symbols section name ≡ btf_maps_fault mode info symbols other name
   same_fault name = λ i. first_some (λ t. same_type name t i) info.types

@@ -26,7 +26,7 @@ use Rattle.ebpf_parts.specs.declared.error.ParseError.{ParseError}
 use Rattle.ebpf_parts.specs.declared.error.ParseError.TheVariants as errors
 use Rattle.ebpf_parts.specs.declared.maps.definition.BtfMapDef.{BtfMapDef}
 use Rattle.ebpf_parts.specs.declared.maps.either.Map.{Map}
-use Rattle.ebpf_parts.specs.declared.reading.Reading.{Reading}
+use Rattle.ebpf_parts.specs.declared.parse_mode.ParseMode.{ParseMode}
 
 -- ---- what structs say of maps, remembered by their ids
 
@@ -34,13 +34,13 @@ use Rattle.ebpf_parts.specs.declared.reading.Reading.{Reading}
 pub record Remembers {X : Type 0} (value_of : List ℕ → ℕ → Result X BtfError) (known : BTreeMap ℕ X) : Type 0 where
   pub known_is : (id : ℕ) (d : X) → at_key nat_cmp known id ≡ Some d → (name : List ℕ) → value_of name id ≡ Ok d
 
-abbrev pub RemembersInner : Reading → TypeInfo → BTreeMap ℕ BtfMapDef → Type 0
-RemembersInner reading info known = Remembers (inner_struct_definition reading info) known
+abbrev pub RemembersInner : ParseMode → TypeInfo → BTreeMap ℕ BtfMapDef → Type 0
+RemembersInner mode info known = Remembers (inner_struct_definition mode info) known
 
 -- of maps, and of the maps that they hold
-pub record Knows (reading : Reading) (info : TypeInfo) (known : KnownStructs) : Type 0 where
-  pub maps : Remembers (struct_definitions reading info) known.maps
-  pub inner_maps : RemembersInner reading info known.inner_maps
+pub record Knows (mode : ParseMode) (info : TypeInfo) (known : KnownStructs) : Type 0 where
+  pub maps : Remembers (struct_definitions mode info) known.maps
+  pub inner_maps : RemembersInner mode info known.inner_maps
 
 -- ---- names with numbers in the order in which they were met, and what was said last of each
 
@@ -117,10 +117,10 @@ unreadable_name_fault (Some offset) = Some (errors.BtfError (InvalidStringOffset
 
 -- of each name the entries have the BTF-defined maps that all types have in a section of the name
 pub record AreFound (info : TypeInfo) (found : NamedSections) : Type 0 where
-  pub maps : (reading : Reading) (name : List ℕ) (entries : List DataSecEntry) → get found.by_name name ≡ Some entries → found.unreadable ≡ None → (symbols : List ℕ → Option ℕ) (section : ℕ)
-      → entries_maps reading info symbols section entries ≡ btf_maps reading info symbols section name
-  pub fault : (reading : Reading) (name : List ℕ) (entries : List DataSecEntry) → get found.by_name name ≡ Some entries → (symbols : List ℕ → Option ℕ) (section : ℕ)
-      → or_else (entries_fault reading info symbols section entries) (unreadable_name_fault found.unreadable) ≡ btf_maps_fault reading info symbols section name
+  pub maps : (mode : ParseMode) (name : List ℕ) (entries : List DataSecEntry) → get found.by_name name ≡ Some entries → found.unreadable ≡ None → (symbols : List ℕ → Option ℕ) (section : ℕ)
+      → entries_maps mode info symbols section entries ≡ btf_maps mode info symbols section name
+  pub fault : (mode : ParseMode) (name : List ℕ) (entries : List DataSecEntry) → get found.by_name name ≡ Some entries → (symbols : List ℕ → Option ℕ) (section : ℕ)
+      → or_else (entries_fault mode info symbols section entries) (unreadable_name_fault found.unreadable) ≡ btf_maps_fault mode info symbols section name
 
 -- ---- as maps of a section with this index, the symbols of which have these indices
 
@@ -144,11 +144,11 @@ distinct_fault symbols distinct = first_some (λ p. missing symbols p.0) (zip di
 -- ---- by the names of sections
 
 -- the BTF-defined maps of a section of the name, key by key
-pub record AreMapsOf (reading : Reading) (info : TypeInfo) (name : List ℕ) (distinct : DistinctMaps) : Type 0 where
+pub record AreMapsOf (mode : ParseMode) (info : TypeInfo) (name : List ℕ) (distinct : DistinctMaps) : Type 0 where
   pub maps : (symbols : List ℕ → Option ℕ) (section : ℕ) (m : FinMap text_cmp Map) (q : List ℕ)
-      → get (put_all m (distinct_maps symbols section distinct)) q ≡ get (put_all m (btf_maps reading info symbols section name)) q
-  pub fault : (symbols : List ℕ → Option ℕ) (section : ℕ) → distinct_fault symbols distinct ≡ btf_maps_fault reading info symbols section name
+      → get (put_all m (distinct_maps symbols section distinct)) q ≡ get (put_all m (btf_maps mode info symbols section name)) q
+  pub fault : (symbols : List ℕ → Option ℕ) (section : ℕ) → distinct_fault symbols distinct ≡ btf_maps_fault mode info symbols section name
 
 -- in one reading, of each of some names
-pub record AreSectionMaps (reading : Reading) (info : TypeInfo) (distinct : FinMap text_cmp DistinctMaps) : Type 0 where
-  pub are : (name : List ℕ) (k : DistinctMaps) → get distinct name ≡ Some k → AreMapsOf reading info name k
+pub record AreSectionMaps (mode : ParseMode) (info : TypeInfo) (distinct : FinMap text_cmp DistinctMaps) : Type 0 where
+  pub are : (name : List ℕ) (k : DistinctMaps) → get distinct name ≡ Some k → AreMapsOf mode info name k

@@ -22,7 +22,7 @@ use crate::numbered_names::put_at;
 use ebpf_base::{ByName, Items, Text};
 use ebpf_btf::{Btf, BtfError, DataSecEntry};
 use ebpf_parts::maps::Map;
-use ebpf_parts::{ParseError, Reading, Section};
+use ebpf_parts::{ParseError, ParseMode, Section};
 use std::alloc::Global;
 use std::marker::Model;
 
@@ -31,21 +31,21 @@ use std::marker::Model;
 #[derive(Drop)]
 pub struct BtfDefinedMaps<'b> {
     btf: &'b Btf,
-    reading: Reading,
+    mode: ParseMode,
     sections: NamedSections,
     known: KnownStructs,
     distinct: ByName<DistinctMaps>,
     ghost found: { AreFound btf.now sections },
-    ghost structs: { Knows reading btf.now known },
-    ghost kept: { AreSectionMaps reading btf.now distinct },
+    ghost structs: { Knows mode btf.now known },
+    ghost kept: { AreSectionMaps mode btf.now distinct },
 }
 
 impl<'b> Model for BtfDefinedMaps<'b> {
-    ghost use Rattle.ebpf_btf_decls.specs.Maps.{TypesInReading};
+    ghost use Rattle.ebpf_btf_decls.specs.Maps.{TypesInMode};
 
-    ghost Value = { TypesInReading };
+    ghost Value = { TypesInMode };
 
-    ghost view = { λ d. record { reading = d.reading; types = d.btf.now } };
+    ghost view = { λ d. record { mode = d.mode; types = d.btf.now } };
 }
 
 impl<'b> BtfDefinedMaps<'b> {
@@ -55,16 +55,16 @@ impl<'b> BtfDefinedMaps<'b> {
     pub fn gather(
         alloc: Global,
         btf: &'b Btf,
-        reading: Reading,
+        mode: ParseMode,
         names: &[&str],
     ) -> Result<BtfDefinedMaps<'b>, BtfError>
-        ensures types { IfOk result (λ d. d ≡ record { reading = reading; types = btf.now }) }
+        ensures types { IfOk result (λ d. d ≡ record { mode = mode; types = btf.now }) }
         ensures memory { IfErr result (λ e. is_btf_memory e ≡ true) }
     {
         let sections = NamedSections::gather(alloc, btf, names)?;
         Ok(BtfDefinedMaps {
             btf,
-            reading,
+            mode,
             sections,
             known: KnownStructs::none(alloc),
             distinct: ByName::new(alloc),
@@ -82,8 +82,8 @@ impl<'b> BtfDefinedMaps<'b> {
         symbols: &ByName<usize>,
     ) -> Result<(), ParseError>
         ensures stays { self.new ≡ self.old }
-        ensures put { OnOk result (maps.new ≡ put_all maps.old (btf_maps self.old.reading self.old.types (map.get symbols.now) section.now.index.0 section.now.name)) }
-        ensures fault { Refuses is_parse_memory result (btf_maps_fault self.old.reading self.old.types (map.get symbols.now) section.now.index.0 section.now.name) }
+        ensures put { OnOk result (maps.new ≡ put_all maps.old (btf_maps self.old.mode self.old.types (map.get symbols.now) section.now.index.0 section.now.name)) }
+        ensures fault { Refuses is_parse_memory result (btf_maps_fault self.old.mode self.old.types (map.get symbols.now) section.now.index.0 section.now.name) }
     {
         if let Some(distinct) = self.distinct.get(section.name) {
             return distinct.put(alloc, maps, section, symbols);
@@ -94,7 +94,7 @@ impl<'b> BtfDefinedMaps<'b> {
         let distinct = read_section_maps(
             alloc,
             self.btf,
-            self.reading,
+            self.mode,
             &mut self.known,
             &self.sections,
             section.name,
@@ -135,23 +135,23 @@ fn add_entry(
     alloc: Global,
     distinct: &mut DistinctMaps,
     btf: &Btf,
-    reading: Reading,
+    mode: ParseMode,
     known: &mut KnownStructs,
     symbols: &ByName<usize>,
     entry: &DataSecEntry,
 ) -> Result<(), ParseError>
-    requires known { Knows reading btf.now known.old }
+    requires known { Knows mode btf.now known.old }
     requires numbered { AreNumbered btf.now.strings distinct.old.names }
     requires symbols { AllZip (HasSymbol (map.get symbols.now)) distinct.old.names.names distinct.old.last }
-    ensures known { Knows reading btf.now known.new }
+    ensures known { Knows mode btf.now known.new }
     ensures numbered { OnOk result (AreNumbered btf.now.strings distinct.new.names) }
-    ensures added { OnOk result ((name : List ℕ) × (n : ℕ) × (d : MapDefinitions) × (declared reading btf.now entry.now ≡ Ok (name, d)) × HasNumber distinct.old.names.names distinct.new.names.names name n × (distinct.new.last ≡ put_at distinct.old.last n d) × HasSymbol (map.get symbols.now) name d) }
-    ensures fault { Refuses is_parse_memory result (fault_of (entry_map reading btf.now (map.get symbols.now) 0 entry.now)) }
+    ensures added { OnOk result ((name : List ℕ) × (n : ℕ) × (d : MapDefinitions) × (declared mode btf.now entry.now ≡ Ok (name, d)) × HasNumber distinct.old.names.names distinct.new.names.names name n × (distinct.new.last ≡ put_at distinct.old.last n d) × HasSymbol (map.get symbols.now) name d) }
+    ensures fault { Refuses is_parse_memory result (fault_of (entry_map mode btf.now (map.get symbols.now) 0 entry.now)) }
 {
     let (number, definitions) = match declared(
         alloc,
         btf,
-        reading,
+        mode,
         known,
         &mut distinct.names,
         entry,
@@ -174,19 +174,19 @@ fn add_entry(
 fn read_entries(
     alloc: Global,
     btf: &Btf,
-    reading: Reading,
+    mode: ParseMode,
     known: &mut KnownStructs,
     symbols: &ByName<usize>,
     entries: &[DataSecEntry],
 ) -> Result<DistinctMaps, ParseError>
-    requires { Knows reading btf.now known.old }
-    ensures known { Knows reading btf.now known.new }
-    ensures kept { IfOk result (λ distinct. AreKept distinct.names.names distinct.last (flat_map (λ entry. given (declared reading btf.now entry)) entries.now)) }
-    ensures fault { Refuses is_parse_memory result (entries_fault reading btf.now (map.get symbols.now) 0 entries.now) }
+    requires { Knows mode btf.now known.old }
+    ensures known { Knows mode btf.now known.new }
+    ensures kept { IfOk result (λ distinct. AreKept distinct.names.names distinct.last (flat_map (λ entry. given (declared mode btf.now entry)) entries.now)) }
+    ensures fault { Refuses is_parse_memory result (entries_fault mode btf.now (map.get symbols.now) 0 entries.now) }
 {
     let mut distinct = DistinctMaps::none(alloc);
     for entry in entries {
-        add_entry(alloc, &mut distinct, btf, reading, known, symbols, entry)?;
+        add_entry(alloc, &mut distinct, btf, mode, known, symbols, entry)?;
     }
     Ok(distinct)
 }
@@ -196,7 +196,7 @@ fn read_entries(
 fn read_section_maps(
     alloc: Global,
     btf: &Btf,
-    reading: Reading,
+    mode: ParseMode,
     known: &mut KnownStructs,
     sections: &NamedSections,
     name: &str,
@@ -204,15 +204,15 @@ fn read_section_maps(
 ) -> Result<DistinctMaps, ParseError>
     requires found { AreFound btf.now sections.now }
     requires there { is_some (map.get sections.now.by_name name.now) ≡ true }
-    requires known { Knows reading btf.now known.old }
-    ensures known { Knows reading btf.now known.new }
-    ensures maps { IfOk result (λ distinct. AreMapsOf reading btf.now name.now distinct) }
-    ensures fault { Refuses is_parse_memory result (btf_maps_fault reading btf.now (map.get symbols.now) 0 name.now) }
+    requires known { Knows mode btf.now known.old }
+    ensures known { Knows mode btf.now known.new }
+    ensures maps { IfOk result (λ distinct. AreMapsOf mode btf.now name.now distinct) }
+    ensures fault { Refuses is_parse_memory result (btf_maps_fault mode btf.now (map.get symbols.now) 0 name.now) }
 {
     let Some(entries) = sections.by_name.get(name) else {
         unreachable!()
     };
-    let distinct = read_entries(alloc, btf, reading, known, symbols, entries.as_slice())?;
+    let distinct = read_entries(alloc, btf, mode, known, symbols, entries.as_slice())?;
     match sections.unreadable {
         Some(offset) => Err(ParseError::BtfError(BtfError::InvalidStringOffset { offset })),
         None => Ok(distinct),

@@ -18,7 +18,7 @@ use crate::numbered_names::NumberedNames;
 use ebpf_base::{ByName, Items, Text};
 use ebpf_btf::{Btf, BtfError, BtfType, DataSecEntry};
 use ebpf_parts::maps::{BtfMap, Map};
-use ebpf_parts::{ParseError, Reading, Section};
+use ebpf_parts::{ParseError, ParseMode, Section};
 use std::alloc::Global;
 
 /// What an entry declares, with the number of its name.
@@ -26,17 +26,17 @@ use std::alloc::Global;
 pub fn declared(
     alloc: Global,
     btf: &Btf,
-    reading: Reading,
+    mode: ParseMode,
     known: &mut KnownStructs,
     names: &mut NumberedNames,
     entry: &DataSecEntry,
 ) -> Result<(usize, MapDefinitions), BtfError>
-    requires known { Knows reading btf.now known.old }
+    requires known { Knows mode btf.now known.old }
     requires numbered { AreNumbered btf.now.strings names.old }
-    ensures known { Knows reading btf.now known.new }
+    ensures known { Knows mode btf.now known.new }
     ensures numbered { OnOk result (AreNumbered btf.now.strings names.new) }
-    ensures declared { IfOk result (λ found. (name : List ℕ) × (declared reading btf.now entry.now ≡ Ok (name, found.1)) × HasNumber names.old.names names.new.names name found.0) }
-    ensures fault { IfErr result (λ e. MatchBool (is_btf_memory e) ⊤ (declared reading btf.now entry.now ≡ Err e)) }
+    ensures declared { IfOk result (λ found. (name : List ℕ) × (declared mode btf.now entry.now ≡ Ok (name, found.1)) × HasNumber names.old.names names.new.names name found.0) }
+    ensures fault { IfErr result (λ e. MatchBool (is_btf_memory e) ⊤ (declared mode btf.now entry.now ≡ Err e)) }
 {
     let ty = btf.type_by_id(entry.btf_type)?;
     let BtfType::Var { btf_type, .. } = ty else {
@@ -47,7 +47,7 @@ pub fn declared(
     let definitions = struct_definitions(
         alloc,
         btf,
-        reading,
+        mode,
         known,
         names.name(number),
         struct_id,

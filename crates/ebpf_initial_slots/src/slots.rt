@@ -259,7 +259,7 @@ fn slots_of_section(
 /// indices. Of two relocations at one index of a map the later stands. An index is a key of the map, too.
 ///
 /// `file` are the bytes of the file that the object was parsed from; of other bytes the answer is that of their relocations
-/// over this object. An object with an array of programs is read in `Reading::Broad` alone.
+/// over this object. An object with an array of programs is read in `ParseMode::Lenient` alone.
 ///
 /// A relocation's map is that whose variable holds the 8 bytes from the relocation's offset on: the first in the order of
 /// the entries of the first DATASEC `.maps` that names a map of the section. It has the entry's offset and size, or, where

@@ -13,7 +13,7 @@ use Rattle.ebpf_object.specs.Stages.{Wrapped, LinksPrograms, LinkingFault, Chose
 use Rattle.ebpf_object.specs.declared.object.Object.{Object}
 use Rattle.ebpf_object.specs.declared.prepare_error.PrepareError.{PrepareError}
 use Rattle.ebpf_object.specs.declared.prepare_error.PrepareError.TheVariants.{Parse, Types, Maps, Ksyms, Externs, Calls, OutOfMemory}
-use Rattle.ebpf_parts.specs.declared.reading.Reading.{Reading}
+use Rattle.ebpf_parts.specs.declared.parse_mode.ParseMode.{ParseMode}
 
 module _ (s : Chosen) (lines : Source) where
   abbrev pub alone : Chosen
@@ -61,15 +61,15 @@ module _ (s : Chosen) (lines : Source) where
         }
 
   -- of a file
-  module _ (reading : Reading) (bytes : List ℕ) (rs : List ProgramReport) where
-    inspected_parsed : parse_fault_as reading bytes ≡ None → AreReportsOf s lines (object_as reading bytes) rs → IsInspected s lines reading bytes rs
+  module _ (mode : ParseMode) (bytes : List ℕ) (rs : List ProgramReport) where
+    inspected_parsed : parse_fault_as mode bytes ≡ None → AreReportsOf s lines (object_as mode bytes) rs → IsInspected s lines mode bytes rs
     inspected_parsed sound of =
-        let whole : IsPrepared (with_linking s) lines reading bytes of.linked = record { sound = sound; stages = of.stages } in
+        let whole : IsPrepared (with_linking s) lines mode bytes of.linked = record { sound = sound; stages = of.stages } in
         record {
           linked = of.linked;
-          headline = record { prepared = whole; finished = finished (with_linking s) lines reading bytes of.linked whole };
+          headline = record { prepared = whole; finished = finished (with_linking s) lines mode bytes of.linked whole };
           each = of.each;
         }
 
-    pub inspected : (o : Object) → IsParsed reading bytes o → AreReportsOf s lines o rs → IsInspected s lines reading bytes rs
+    pub inspected : (o : Object) → IsParsed mode bytes o → AreReportsOf s lines o rs → IsInspected s lines mode bytes rs
     inspected o parsed of = inspected_parsed parsed.sound (subst (λ (x : Object). AreReportsOf s lines x rs) parsed.is of)

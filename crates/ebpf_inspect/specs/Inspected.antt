@@ -12,7 +12,7 @@ use Rattle.ebpf_reloc.specs.Linking.{IsLinkMapAt, ProgramValue, key_of, IsLinked
 use Rattle.ebpf_reloc.specs.Laws.{MatchesLinked}
 use Rattle.ebpf_model.specs.declared.function.Function.{Function}
 use Rattle.ebpf_reloc.specs.declared.link_map.LinkMap.{LinkMap}
-use Rattle.ebpf_parts.specs.declared.reading.Reading.{Reading}
+use Rattle.ebpf_parts.specs.declared.parse_mode.ParseMode.{ParseMode}
 
 -- the chosen passes, and the linking of programs
 abbrev pub with_linking : Chosen → Chosen
@@ -47,7 +47,7 @@ pub record AreReportsOf (steps : Chosen) (lines : Source) (o : Object) (reports 
   pub each : AreReports stages.unlinked linked (programs_in_order linked.programs) reports
 
 -- the reports of the programs of a file in a reading, of which the headline holds
-pub record IsInspected (steps : Chosen) (lines : Source) (reading : Reading) (bytes : List ℕ) (reports : List ProgramReport) : Type 0 where
+pub record IsInspected (steps : Chosen) (lines : Source) (mode : ParseMode) (bytes : List ℕ) (reports : List ProgramReport) : Type 0 where
   pub linked : Object
-  pub headline : Headline (with_linking steps) lines reading bytes linked
+  pub headline : Headline (with_linking steps) lines mode bytes linked
   pub each : AreReports headline.prepared.stages.unlinked linked (programs_in_order linked.programs) reports

@@ -6,8 +6,8 @@ ghost use Rattle.ebpf_inspect.specs.Named.{WithLinked};
 ghost use Rattle.ebpf_object.specs.Prepared.{IsParsed, IsStageFault, IsFirstPrepareFault, RefusesPreparing};
 ghost use Rattle.ebpf_object.specs.Stages.{Wrapped, LinkingFault, chosen};
 ghost use Rattle.ebpf_object.specs.declared.prepare_error.PrepareError.TheVariants.{Calls};
-ghost use Rattle.ebpf_parts.specs.declared.reading.Reading.{Reading};
-ghost use Rattle.ebpf_parts.specs.declared.reading.Reading.TheVariants.{Stated};
+ghost use Rattle.ebpf_parts.specs.declared.parse_mode.ParseMode.{ParseMode};
+ghost use Rattle.ebpf_parts.specs.declared.parse_mode.ParseMode.TheVariants.{Strict};
 
 use crate::report::{ProgramReport, reports_of};
 use ebpf_base::Items;
@@ -72,9 +72,9 @@ pub fn inspect_object<K: SymbolSource>(
     kallsyms: K,
 ) -> Result<Items<ProgramReport>, PrepareError>
     ensures reports { IfOk result (AreReportsOf (chosen steps.now) (K.source kallsyms) object) }
-    ensures inspected { (reading : Reading) (file : List ℕ) → IsParsed reading file object → IfOk result (IsInspected (chosen steps.now) (K.source kallsyms) reading file) }
+    ensures inspected { (mode : ParseMode) (file : List ℕ) → IsParsed mode file object → IfOk result (IsInspected (chosen steps.now) (K.source kallsyms) mode file) }
     ensures fault { IfErr result (RefusesPreparing (IsStageFault (with_linking (chosen steps.now)) (K.source kallsyms) object)) }
-    ensures first_fault { (reading : Reading) (file : List ℕ) → IsParsed reading file object → IfErr result (RefusesPreparing (IsFirstPrepareFault (with_linking (chosen steps.now)) (K.source kallsyms) reading file)) }
+    ensures first_fault { (mode : ParseMode) (file : List ℕ) → IsParsed mode file object → IfErr result (RefusesPreparing (IsFirstPrepareFault (with_linking (chosen steps.now)) (K.source kallsyms) mode file)) }
 {
     inspect_all(alloc, object, steps, kallsyms)
 }
@@ -93,8 +93,8 @@ pub fn inspect<K: SymbolSource>(
     steps: &Steps<'_>,
     kallsyms: K,
 ) -> Result<Items<ProgramReport>, PrepareError>
-    ensures reports { IfOk result (IsInspected (chosen steps.now) (K.source kallsyms) Stated bytes.now) }
-    ensures fault { IfErr result (RefusesPreparing (IsFirstPrepareFault (with_linking (chosen steps.now)) (K.source kallsyms) Stated bytes.now)) }
+    ensures reports { IfOk result (IsInspected (chosen steps.now) (K.source kallsyms) Strict bytes.now) }
+    ensures fault { IfErr result (RefusesPreparing (IsFirstPrepareFault (with_linking (chosen steps.now)) (K.source kallsyms) Strict bytes.now)) }
 {
     match Object::parse(alloc, bytes) {
         Ok(object) => inspect_object(alloc, object, steps, kallsyms),

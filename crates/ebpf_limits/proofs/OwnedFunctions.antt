@@ -34,7 +34,7 @@ use Rattle.ebpf_base.proofs.TextMaps.{text_exact}
 use Rattle.ebpf_model.specs.declared.function.Program.{Program}
 use Rattle.ebpf_parts.specs.ProgramTypes.{section_as}
 use Rattle.ebpf_parts.specs.declared.program_section.ProgramSection.{ProgramSection}
-use Rattle.ebpf_parts.specs.declared.reading.Reading.{Reading}
+use Rattle.ebpf_parts.specs.declared.parse_mode.ParseMode.{ParseMode}
 use Rattle.ebpf_limits.proofs.Counts.{filter_short, Among, Counted, covered, all_map, all_flat_map, all_filter, each_at, found_among, name_within}
 use Rattle.ebpf_limits.proofs.OwnedTables.{facts_in, function_in, its_facts, its_name, its_function, sections_all, symbols_all, facts_here, file_of, program_in, its_program}
 use Rattle.ebpf_limits.specs.OwnedBytes.{SectionFacts, entry_bytes, func_count, line_count, offset_by, first_slot, code_bytes, record_bytes, function_bytes, facts_of, facts_at, function_row, total, program_row}
@@ -235,7 +235,7 @@ module _ (file : List ℕ) (license : ℕ) where
 program_here : (o : Option SectionFacts) (f : SectionFacts) (t : Bool) (license named : ℕ) → o ≡ Some f → f.kind ≡ Programs → t ≡ true → program_in o t license named ≡ named + license
 program_here o f t license named a b c = rw (a, b, c) refl
 
-module _ (reading : Reading) (file : List ℕ) (license : ℕ) (ext : Option ExtInfo) where
+module _ (mode : ParseMode) (file : List ℕ) (license : ℕ) (ext : Option ExtInfo) where
   abbrev name_of : SymbolOf → List ℕ
   name_of y = unwrap_or (symbol_name y) []
 
@@ -261,15 +261,15 @@ module _ (reading : Reading) (file : List ℕ) (license : ℕ) (ext : Option Ext
         (all_filter (λ y. IsProgram (row y)) is_program_symbol (own_symbols file (section_of s))
         (symbols_all file (λ y. is_program_symbol y ≡ true → IsProgram (row y)) s.index (λ y here inside passes. program_counted kind y here inside code (and_parts _ _ passes).0)))
 
-    programs_of_kind : (kind : EbpfSectionKind) → (section_of s).kind ≡ kind → AllByRecursion IsProgram (programs_by kind reading words version (section_of s) (own_symbols file (section_of s)))
-    programs_of_kind Programs code = each_program (section_as reading (section_of s).name) code
+    programs_of_kind : (kind : EbpfSectionKind) → (section_of s).kind ≡ kind → AllByRecursion IsProgram (programs_by kind mode words version (section_of s) (own_symbols file (section_of s)))
+    programs_of_kind Programs code = each_program (section_as mode (section_of s).name) code
     programs_of_kind _ other = tt
 
-  pub programs_owned : length (license_as reading file) ≤ license → total program_row (entries (programs_as reading file)) ≤ total (its_program file license (facts_in file ext)) (symbols file)
+  pub programs_owned : length (license_as mode file) ≤ license → total program_row (entries (programs_as mode file)) ≤ total (its_program file license (facts_in file ext)) (symbols file)
   unfolding programs_as program_entries programs_in
   programs_owned short =
-      let words = license_as reading file in
+      let words = license_as mode file in
       let version = kernel_version_of file in
-      covered text_total text_exact name_of program_row (its_program file license (facts_in file ext)) (program_entries reading words version file) (symbols file)
-      (all_flat_map IsProgram (λ s. programs_in reading words version s (own_symbols file s)) (object_sections file)
-      (sections_all file (λ s. AllByRecursion IsProgram (programs_in reading words version s (own_symbols file s))) (λ s here. programs_of_kind words short version s here (section_of s).kind refl)))
+      covered text_total text_exact name_of program_row (its_program file license (facts_in file ext)) (program_entries mode words version file) (symbols file)
+      (all_flat_map IsProgram (λ s. programs_in mode words version s (own_symbols file s)) (object_sections file)
+      (sections_all file (λ s. AllByRecursion IsProgram (programs_in mode words version s (own_symbols file s))) (λ s here. programs_of_kind words short version s here (section_of s).kind refl)))

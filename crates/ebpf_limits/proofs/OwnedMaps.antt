@@ -11,7 +11,7 @@ use Rattle.ebpf_btf.specs.Next.{if_some}
 use Rattle.ebpf_btf.specs.TypeInfo.{TypeInfo}
 use Rattle.ebpf_btf.specs.declared.error.BtfError.{BtfError}
 use Rattle.ebpf_btf_decls.specs.DataSections.{given, DatasecMatch, Named, UnreadableName, datasec_match}
-use Rattle.ebpf_btf_decls.specs.Maps.{declared, map_at, entry_map, type_maps, map_with_symbol, matched_maps as maps_of_entries, TypesInReading, types_in_reading}
+use Rattle.ebpf_btf_decls.specs.Maps.{declared, map_at, entry_map, type_maps, map_with_symbol, matched_maps as maps_of_entries, TypesInMode, types_in_mode}
 use Rattle.ebpf_btf_decls.specs.declared.members.MapDefinitions.{MapDefinitions}
 use Rattle.ebpf_elf.specs.Sections.{SectionOf, header, sections, section_name}
 use Rattle.ebpf_elf.specs.Symbols.{SymbolOf, entry, symbols, symbol_name, symbol_section_index}
@@ -32,7 +32,7 @@ use Rattle.ebpf_parts.specs.Sections.{SectionValue, section_of, section_with, na
 use Rattle.ebpf_parts.specs.declared.error.ParseError.{ParseError}
 use Rattle.ebpf_parts.specs.declared.error.ParseError.TheVariants.{SymbolNotFound}
 use Rattle.ebpf_parts.specs.declared.maps.either.Map.{Map}
-use Rattle.ebpf_parts.specs.declared.reading.Reading.{Reading}
+use Rattle.ebpf_parts.specs.declared.parse_mode.ParseMode.{ParseMode}
 use Rattle.ebpf_parts.specs.declared.section.EbpfSectionKind.{EbpfSectionKind}
 use Rattle.ebpf_parts.specs.declared.section.EbpfSectionKind.TheVariants.{Maps, BtfMaps, Data, Rodata, Bss}
 
@@ -162,14 +162,14 @@ module _ (file : List ℕ) (license : ℕ) (ext : Option ExtInfo) where
       by_declared (Err x) = tt
       by_declared (Ok d) = by_number d (numbers d.0) refl
 
-      by_entries : (reading : Reading) (info : TypeInfo) (o : Option DatasecMatch) → AllByRecursion IsMap (maps_of_entries reading info numbers section o)
+      by_entries : (mode : ParseMode) (info : TypeInfo) (o : Option DatasecMatch) → AllByRecursion IsMap (maps_of_entries mode info numbers section o)
       unfolding entry_map
-      by_entries reading info None = tt
-      by_entries reading info (Some (UnreadableName x)) = tt
-      by_entries reading info (Some (Named rows)) =
-          all_flat_map IsMap (λ row. given (entry_map reading info numbers section row)) rows (all_of (λ row. AllByRecursion IsMap (given (entry_map reading info numbers section row))) rows (λ row here. by_declared (declared reading info row)))
+      by_entries mode info None = tt
+      by_entries mode info (Some (UnreadableName x)) = tt
+      by_entries mode info (Some (Named rows)) =
+          all_flat_map IsMap (λ row. given (entry_map mode info numbers section row)) rows (all_of (λ row. AllByRecursion IsMap (given (entry_map mode info numbers section row))) rows (λ row here. by_declared (declared mode info row)))
 
-    of_types : (section_of s).kind ≡ BtfMaps → (types : Option TypesInReading) → AllByRecursion IsMap (btf_defined_maps types (section_of s) own)
+    of_types : (section_of s).kind ≡ BtfMaps → (types : Option TypesInMode) → AllByRecursion IsMap (btf_defined_maps types (section_of s) own)
     unfolding btf_defined_maps type_maps symbol_of section_of section_with
     of_types code None = tt
     of_types code (Some d) =
@@ -177,25 +177,25 @@ module _ (file : List ℕ) (license : ℕ) (ext : Option ExtInfo) where
         let each : AllByRecursion (λ e. Names e.0) (map name_and_index own) =
         all_map (λ (e : List ℕ × ℕ). Names e.0) name_and_index own (symbols_all file (λ y. Names y.name) s.index (λ y here inside. (y, here, refl, inside))) in
         let known = λ (name : List ℕ) (i : ℕ) (e : numbers name ≡ Some i). stands text_cmp text_exact (λ n k. Names n) name later_text_stands (map name_and_index own) each i e in
-        all_flat_map IsMap (type_maps d.reading d.types numbers s.index (section_of s).name) d.types.types
-        (all_of (λ t. AllByRecursion IsMap (type_maps d.reading d.types numbers s.index (section_of s).name t)) d.types.types
-        (λ t here. by_entries code numbers known s.index d.reading d.types (datasec_match d.types (section_of s).name t)))
+        all_flat_map IsMap (type_maps d.mode d.types numbers s.index (section_of s).name) d.types.types
+        (all_of (λ t. AllByRecursion IsMap (type_maps d.mode d.types numbers s.index (section_of s).name t)) d.types.types
+        (λ t here. by_entries code numbers known s.index d.mode d.types (datasec_match d.types (section_of s).name t)))
 
-    of_kind : (reading : Reading) (types : Option TypeInfo) (kind : EbpfSectionKind) → (section_of s).kind ≡ kind → AllByRecursion IsMap (maps_by kind reading types (section_of s) own)
-    of_kind reading types Data code = of_data code
-    of_kind reading types Rodata code = of_rodata code
-    of_kind reading types Bss code = of_bss code
-    of_kind reading types Maps code = of_structs code
-    of_kind reading types BtfMaps code = of_types code (types_in_reading reading types)
-    of_kind reading types _ other = tt
+    of_kind : (mode : ParseMode) (types : Option TypeInfo) (kind : EbpfSectionKind) → (section_of s).kind ≡ kind → AllByRecursion IsMap (maps_by kind mode types (section_of s) own)
+    of_kind mode types Data code = of_data code
+    of_kind mode types Rodata code = of_rodata code
+    of_kind mode types Bss code = of_bss code
+    of_kind mode types Maps code = of_structs code
+    of_kind mode types BtfMaps code = of_types code (types_in_mode mode types)
+    of_kind mode types _ other = tt
 
-  pub maps_owned : (reading : Reading) → total map_row (entries (maps_as reading file)) ≤ total (contents_bytes file ext) (sections file) + total (its_map file license (facts_in file ext)) (symbols file)
+  pub maps_owned : (mode : ParseMode) → total map_row (entries (maps_as mode file)) ≤ total (contents_bytes file ext) (sections file) + total (its_map file license (facts_in file ext)) (symbols file)
   unfolding maps_as map_entries maps_in
-  maps_owned reading =
+  maps_owned mode =
       let types = types_of_file file in
-      let whole = covered text_total text_exact key_of map_row counted_of (map_entries reading types file) sources
-      (all_flat_map IsMap (λ s. maps_in reading types s (own_symbols file s)) (object_sections file)
-      (sections_all file (λ s. AllByRecursion IsMap (maps_in reading types s (own_symbols file s))) (λ s here. of_kind s here reading types (section_of s).kind refl))) in
+      let whole = covered text_total text_exact key_of map_row counted_of (map_entries mode types file) sources
+      (all_flat_map IsMap (λ s. maps_in mode types s (own_symbols file s)) (object_sections file)
+      (sections_all file (λ s. AllByRecursion IsMap (maps_in mode types s (own_symbols file s))) (λ s here. of_kind s here mode types (section_of s).kind refl))) in
       let parts = total_append counted_of (map inl (sections file)) (map inr (symbols file)) in
       let front = total_map {B = Source} counted_of inl (sections file) in
       let back = total_map {B = Source} counted_of inr (symbols file) in

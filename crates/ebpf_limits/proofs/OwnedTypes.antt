@@ -36,8 +36,8 @@ use Rattle.ebpf_parsing.specs.LicenseAndVersion.{license_in, license_as, license
 use Rattle.ebpf_parsing.specs.Sections.{first_section_named}
 use Rattle.ebpf_parts.specs.Sections.{section_of, section_with, section_fault, section_fault_with, section_name_fault, data_fault}
 use Rattle.ebpf_parts.specs.declared.error.ParseError.TheVariants.{SectionError}
-use Rattle.ebpf_parts.specs.declared.reading.Reading.{Reading}
-use Rattle.ebpf_parts.specs.declared.reading.Reading.TheVariants.{Stated, Broad}
+use Rattle.ebpf_parts.specs.declared.parse_mode.ParseMode.{ParseMode}
+use Rattle.ebpf_parts.specs.declared.parse_mode.ParseMode.TheVariants.{Strict, Lenient}
 use Rattle.ebpf_base.proofs.TextMaps.{text_exact}
 use Rattle.ebpf_base.specs.Maps.{put_all, text_cmp, text_total}
 use Rattle.ebpf_btf.proofs.InOrder.{items_length}
@@ -68,22 +68,22 @@ readable s clear =
 
 -- ---- the license
 
-text_short : (reading : Reading) (bytes : List ℕ) → length (license_text reading bytes) ≤ length bytes
+text_short : (mode : ParseMode) (bytes : List ℕ) → length (license_text mode bytes) ≤ length bytes
 unfolding license_text
-text_short Stated bytes = simp (length-take) (omega arith)
-text_short Broad bytes = simp (length-take) (omega arith)
+text_short Strict bytes = simp (length-take) (omega arith)
+text_short Lenient bytes = simp (length-take) (omega arith)
 
-license_within : (reading : Reading) (o : Option SectionOf) → license_fault_in reading o ≡ None → length (license_in reading o) ≤ made.license_in o
+license_within : (mode : ParseMode) (o : Option SectionOf) → license_fault_in mode o ≡ None → length (license_in mode o) ≤ made.license_in o
 unfolding section_of section_with
-license_within reading None clear = omega arith
-license_within reading (Some s) clear =
+license_within mode None clear = omega arith
+license_within mode (Some s) clear =
     let sound = both_None (section_fault s) _ clear in
-    let short = text_short reading (data_of s) in
+    let short = text_short mode (data_of s) in
     rw (readable s sound.0) short
 
-pub license_owned : (reading : Reading) (file : List ℕ) → license_fault_as reading file ≡ None → length (license_as reading file) ≤ license_bytes file
+pub license_owned : (mode : ParseMode) (file : List ℕ) → license_fault_as mode file ≡ None → length (license_as mode file) ≤ license_bytes file
 unfolding license_as license_fault_as license_bytes
-license_owned reading file clear = license_within reading (first_section_named (codes "license") file) clear
+license_owned mode file clear = license_within mode (first_section_named (codes "license") file) clear
 
 -- ---- types
 

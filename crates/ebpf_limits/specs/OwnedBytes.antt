@@ -35,7 +35,7 @@ use Rattle.ebpf_parsing.specs.Symbols.{is_text_symbol}
 use Rattle.ebpf_parts.specs.Maps.{bytes_of}
 use Rattle.ebpf_parts.specs.Sections.{kind_of_section, name_or_empty}
 use Rattle.ebpf_parts.specs.declared.maps.either.Map.{Map}
-use Rattle.ebpf_parts.specs.declared.reading.Reading.{Reading}
+use Rattle.ebpf_parts.specs.declared.parse_mode.ParseMode.{ParseMode}
 use Rattle.ebpf_parts.specs.declared.section.EbpfSectionKind.{EbpfSectionKind}
 use Rattle.ebpf_parts.specs.declared.section.EbpfSectionKind.TheVariants.{Maps, BtfMaps, Data, Rodata, Bss, Text, Program as Programs}
 
@@ -300,7 +300,7 @@ owned_bytes o =
 -- the object of a file without a fault owns no more than what is made of the file; as each slice, the file has fewer than
 -- 2 ^ 64 bytes
 abbrev pub ObjectsOwnWhatIsMade : Type 0
-ObjectsOwnWhatIsMade = (reading : Reading) (file : List ℕ) → length file < 2 ^ 64 → parse_fault_as reading file ≡ None → owned_bytes (object_as reading file) ≤ made_bytes file
+ObjectsOwnWhatIsMade = (mode : ParseMode) (file : List ℕ) → length file < 2 ^ 64 → parse_fault_as mode file ≡ None → owned_bytes (object_as mode file) ≤ made_bytes file
 
 -- ---- what contracts of private functions name and no public one.
 

@@ -6,7 +6,7 @@ use Rattle.ebpf_limits.specs.OwnedBytes.{made_bytes}
 use Rattle.ebpf_object.specs.Objects.{parse_fault_as}
 use Rattle.ebpf_parts.specs.declared.error.ParseError.{ParseError}
 use Rattle.ebpf_parts.specs.declared.error.ParseError.TheVariants.{ElfError, TooLarge}
-use Rattle.ebpf_parts.specs.declared.reading.Reading.{Reading}
+use Rattle.ebpf_parts.specs.declared.parse_mode.ParseMode.{ParseMode}
 
 -- more would be made than is allowed
 abbrev pub too_large_fault : ℕ → List ℕ → Option ParseError
@@ -16,9 +16,9 @@ too_large_fault most file = if nat_lt most (made_bytes file) then Some (TooLarge
 unfoldable pub size_fault : ℕ → List ℕ → Option ParseError
 size_fault most file = or_else (option_map ElfError (first_in (faults file))) (too_large_fault most file)
 
-abbrev pub within_fault : Reading → ℕ → List ℕ → Option ParseError
-within_fault reading most file = or_else (size_fault most file) (parse_fault_as reading file)
+abbrev pub within_fault : ParseMode → ℕ → List ℕ → Option ParseError
+within_fault mode most file = or_else (size_fault most file) (parse_fault_as mode file)
 
 -- parsing without a limit never answers that it is passed
 abbrev pub ParsingHasNoLimit : Type 0
-ParsingHasNoLimit = (reading : Reading) (file : List ℕ) (most : ℕ) → parse_fault_as reading file ≢ Some (TooLarge most)
+ParsingHasNoLimit = (mode : ParseMode) (file : List ℕ) (most : ℕ) → parse_fault_as mode file ≢ Some (TooLarge most)

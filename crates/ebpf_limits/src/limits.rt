@@ -16,7 +16,7 @@ use crate::readable::{license_bytes, readable_ext, readable_types, type_informat
 use crate::symbols::{ENTRY, facts_at, take_names, take_sections, take_symbols};
 use ebpf_elf::{ElfFile, ElfRelocationSection};
 use ebpf_object::Object;
-use ebpf_parts::{EbpfSectionKind, ParseError, Reading};
+use ebpf_parts::{EbpfSectionKind, ParseError, ParseMode};
 use ebpf_sections::section_records::FoundRecords;
 use std::alloc::{AllocError, Global};
 
@@ -166,7 +166,7 @@ fn check_size(alloc: Global, bytes: &[u8], most_bytes: u64) -> Result<(), ParseE
     Ok(())
 }
 
-/// The object that the bytes of an ELF64 file are in a reading, as `Object::parse_as` gives it, where what is made of the
+/// The object that the bytes of an ELF64 file are by a parse mode, as `Object::parse_as` gives it, where what is made of the
 /// file owns at most `most_bytes` bytes. That is counted before anything is made: 8 bytes for each slot, 1 for each byte of
 /// data, of the license and of names, 64 for each entry of a table, 8 and 16 for each record of func info and of line info,
 /// the license once more for each program, the type information as it stands in the file; each entry that is put into a
@@ -181,13 +181,13 @@ fn check_size(alloc: Global, bytes: &[u8], most_bytes: u64) -> Result<(), ParseE
 pub fn parse_within(
     alloc: Global,
     bytes: &[u8],
-    reading: Reading,
+    mode: ParseMode,
     limits: Limits,
 ) -> Result<Object, ParseError>
-    ensures object { IfOk result (λ o. o ≡ object_as reading bytes.now) }
-    ensures fault { Refuses is_parse_memory result (within_fault reading limits.most_bytes bytes.now) }
+    ensures object { IfOk result (λ o. o ≡ object_as mode bytes.now) }
+    ensures fault { Refuses is_parse_memory result (within_fault mode limits.most_bytes bytes.now) }
     ensures owned { IfOk result (λ o. owned_bytes o ≤ limits.most_bytes) }
 {
     check_size(alloc, bytes, limits.most_bytes)?;
-    Object::parse_as(alloc, bytes, reading)
+    Object::parse_as(alloc, bytes, mode)
 }

@@ -32,7 +32,7 @@ use Rattle.ebpf_reloc.specs.Linking.{ProgramValue}
 use Rattle.ebpf_model.specs.Symbols.{TextSections, FunctionKey}
 use Rattle.ebpf_reloc.specs.References.{content_of}
 use Rattle.ebpf_model.specs.declared.function.Function.{Function}
-use Rattle.ebpf_parts.specs.declared.reading.Reading.{Reading}
+use Rattle.ebpf_parts.specs.declared.parse_mode.ParseMode.{ParseMode}
 
 -- ---- programs
 
@@ -180,11 +180,11 @@ pub linked_by : (calls : Bool) (d o : Object) → LinksPrograms calls d o → Li
 linked_by true d o links = links
 linked_by false d o links = links
 
-module _ (steps : Chosen) (lines : Source) (reading : Reading) (bytes : List ℕ) (o : Object) (p : IsPrepared steps lines reading bytes o) where
-  abbrev s : Stages steps lines (object_as reading bytes) o
+module _ (steps : Chosen) (lines : Source) (mode : ParseMode) (bytes : List ℕ) (o : Object) (p : IsPrepared steps lines mode bytes o) where
+  abbrev s : Stages steps lines (object_as mode bytes) o
   s = p.stages
 
-  chain : Chain (passes_of p) (object_as reading bytes) o
+  chain : Chain (passes_of p) (object_as mode bytes) o
   chain = record {
     relocated = s.relocated;
     fds_written = s.fds_written;
@@ -197,8 +197,8 @@ module _ (steps : Chosen) (lines : Source) (reading : Reading) (bytes : List ℕ
     calls = linked_by steps.calls s.unlinked o s.calls;
   }
 
-  pub finished : IsFinished (passes_of p) (object_as reading bytes) o
-  finished = passes_finish (passes_of p) (object_as reading bytes) o chain
+  pub finished : IsFinished (passes_of p) (object_as mode bytes) o
+  finished = passes_finish (passes_of p) (object_as mode bytes) o chain
 
-pub headline : (steps : Chosen) (lines : Source) (reading : Reading) (bytes : List ℕ) (o : Object) → IsPrepared steps lines reading bytes o → Headline steps lines reading bytes o
-headline steps lines reading bytes o p = record { prepared = p; finished = finished steps lines reading bytes o p }
+pub headline : (steps : Chosen) (lines : Source) (mode : ParseMode) (bytes : List ℕ) (o : Object) → IsPrepared steps lines mode bytes o → Headline steps lines mode bytes o
+headline steps lines mode bytes o p = record { prepared = p; finished = finished steps lines mode bytes o p }

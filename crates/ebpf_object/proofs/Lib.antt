@@ -9,4 +9,4 @@ pub mod Staging
 pub mod OneResolution
 pub mod Headline
 pub mod MapNames
-pub mod Readings
+pub mod Modes

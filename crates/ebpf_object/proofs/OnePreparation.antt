@@ -27,7 +27,7 @@ use Rattle.ebpf_object.specs.declared.object.Object.{Object}
 use Rattle.ebpf_object.specs.declared.prepare_error.PrepareError.{PrepareError}
 use Rattle.ebpf_object.specs.declared.prepare_error.PrepareError.TheVariants.{Parse, Types, Maps, Ksyms, Externs, Calls, OutOfMemory}
 use Rattle.ebpf_parts.specs.declared.error.ParseError.{ParseError}
-use Rattle.ebpf_parts.specs.declared.reading.Reading.{Reading}
+use Rattle.ebpf_parts.specs.declared.parse_mode.ParseMode.{ParseMode}
 use Rattle.ebpf_reloc.proofs.OneResult.{one_way, any_at, not_refused, one_result}
 use Rattle.ebpf_reloc.specs.Linking.{IsLinked, IsFirstRefusal as IsFirstProgram, ProgramValue, key_of}
 use Rattle.ebpf_reloc.specs.SlotTargets.{LinkableValue}
@@ -274,16 +274,16 @@ one_staging steps lines o (Err d) (Err e) h g hs gs =
 
 -- ---- of a file
 
-module _ (steps : Chosen) (lines : List ℕ) (reading : Reading) (bytes : List ℕ) where
+module _ (steps : Chosen) (lines : List ℕ) (mode : ParseMode) (bytes : List ℕ) where
   abbrev First : PrepareError → Type 0
-  First e = IsFirstPrepareFault steps (Reader (Some lines)) reading bytes e
+  First e = IsFirstPrepareFault steps (Reader (Some lines)) mode bytes e
 
   -- the file's own fault, or that of a stage
   abbrev OfFile : PrepareError → Type 0
-  OfFile e = (p : ParseError) × (parse_fault_as reading bytes ≡ Some p) × (e ≡ Parse p)
+  OfFile e = (p : ParseError) × (parse_fault_as mode bytes ≡ Some p) × (e ≡ Parse p)
 
   abbrev OfStage : PrepareError → Type 0
-  OfStage e = (parse_fault_as reading bytes ≡ None) × IsStageFault steps (Reader (Some lines)) (object_as reading bytes) e
+  OfStage e = (parse_fault_as mode bytes ≡ None) × IsStageFault steps (Reader (Some lines)) (object_as mode bytes) e
 
   either : (e : PrepareError) → First e → OfFile e ⊎ OfStage e
   either (Parse e) f = inl (e, f, refl)
@@ -296,25 +296,25 @@ module _ (steps : Chosen) (lines : List ℕ) (reading : Reading) (bytes : List �
 
   one_first : (d e : PrepareError) → is_access d ≡ false → is_access e ≡ false → OfFile d ⊎ OfStage d → OfFile e ⊎ OfStage e → prepare_error_without_texts d ≡ prepare_error_without_texts e
   one_first d e od oe (inl f) (inl g) =
-      let same : f.0 ≡ g.0 = same_some (parse_fault_as reading bytes) f.0 g.0 f.1 g.1 in
+      let same : f.0 ≡ g.0 = same_some (parse_fault_as mode bytes) f.0 g.0 f.1 g.1 in
       ap prepare_error_without_texts (f.2 ∙ ap Parse same ∙ sym g.2)
-  one_first d e od oe (inl f) (inr g) = absurd (none_or_some (parse_fault_as reading bytes) f.0 g.0 f.1)
-  one_first d e od oe (inr f) (inl g) = absurd (none_or_some (parse_fault_as reading bytes) g.0 f.0 g.1)
-  one_first d e od oe (inr f) (inr g) = one_fault lines (object_as reading bytes) steps d e od oe f.1 g.1
+  one_first d e od oe (inl f) (inr g) = absurd (none_or_some (parse_fault_as mode bytes) f.0 g.0 f.1)
+  one_first d e od oe (inr f) (inl g) = absurd (none_or_some (parse_fault_as mode bytes) g.0 f.0 g.1)
+  one_first d e od oe (inr f) (inr g) = one_fault lines (object_as mode bytes) steps d e od oe f.1 g.1
 
-  no_first : (o : Object) (e : PrepareError) → is_access e ≡ false → IsPrepared steps (Reader (Some lines)) reading bytes o → OfFile e ⊎ OfStage e → ⊥
-  no_first o e other p (inl f) = none_or_some (parse_fault_as reading bytes) f.0 p.sound f.1
-  no_first o e other p (inr f) = led_on lines (object_as reading bytes) steps o p.stages e other f.1
+  no_first : (o : Object) (e : PrepareError) → is_access e ≡ false → IsPrepared steps (Reader (Some lines)) mode bytes o → OfFile e ⊎ OfStage e → ⊥
+  no_first o e other p (inl f) = none_or_some (parse_fault_as mode bytes) f.0 p.sound f.1
+  no_first o e other p (inr f) = led_on lines (object_as mode bytes) steps o p.stages e other f.1
 
 pub one_preparation : OnePreparation
-one_preparation steps lines reading bytes (Ok a) (Ok b) h g hs gs = ap Ok (one_staged lines (object_as reading bytes) steps a b h.stages g.stages)
-one_preparation steps lines reading bytes (Ok a) (Err e) h g hs gs =
-    let Fault = IsFirstPrepareFault steps (Reader (Some lines)) reading bytes in
-    absurd (no_first steps lines reading bytes a e (no_access Fault e gs) h (either steps lines reading bytes e (refusal_stated Fault e gs g)))
-one_preparation steps lines reading bytes (Err d) (Ok b) h g hs gs =
-    let Fault = IsFirstPrepareFault steps (Reader (Some lines)) reading bytes in
-    absurd (no_first steps lines reading bytes b d (no_access Fault d hs) g (either steps lines reading bytes d (refusal_stated Fault d hs h)))
-one_preparation steps lines reading bytes (Err d) (Err e) h g hs gs =
-    let Fault = IsFirstPrepareFault steps (Reader (Some lines)) reading bytes in
-    ap Err (one_first steps lines reading bytes d e (no_access Fault d hs) (no_access Fault e gs)
-    (either steps lines reading bytes d (refusal_stated Fault d hs h)) (either steps lines reading bytes e (refusal_stated Fault e gs g)))
+one_preparation steps lines mode bytes (Ok a) (Ok b) h g hs gs = ap Ok (one_staged lines (object_as mode bytes) steps a b h.stages g.stages)
+one_preparation steps lines mode bytes (Ok a) (Err e) h g hs gs =
+    let Fault = IsFirstPrepareFault steps (Reader (Some lines)) mode bytes in
+    absurd (no_first steps lines mode bytes a e (no_access Fault e gs) h (either steps lines mode bytes e (refusal_stated Fault e gs g)))
+one_preparation steps lines mode bytes (Err d) (Ok b) h g hs gs =
+    let Fault = IsFirstPrepareFault steps (Reader (Some lines)) mode bytes in
+    absurd (no_first steps lines mode bytes b d (no_access Fault d hs) g (either steps lines mode bytes d (refusal_stated Fault d hs h)))
+one_preparation steps lines mode bytes (Err d) (Err e) h g hs gs =
+    let Fault = IsFirstPrepareFault steps (Reader (Some lines)) mode bytes in
+    ap Err (one_first steps lines mode bytes d e (no_access Fault d hs) (no_access Fault e gs)
+    (either steps lines mode bytes d (refusal_stated Fault d hs h)) (either steps lines mode bytes e (refusal_stated Fault e gs g)))

@@ -15,7 +15,7 @@ use Rattle.ebpf_object.specs.declared.object.Object.{Object}
 use Rattle.ebpf_object.specs.declared.prepare_error.PrepareError.{PrepareError}
 use Rattle.ebpf_object.specs.declared.prepare_error.PrepareError.TheVariants.{Parse, Types, Maps, Ksyms, Externs, Calls, OutOfMemory}
 use Rattle.ebpf_parts.specs.declared.maps.either.Map.{Map}
-use Rattle.ebpf_parts.specs.declared.reading.Reading.{Reading}
+use Rattle.ebpf_parts.specs.declared.parse_mode.ParseMode.{ParseMode}
 use Rattle.ebpf_reloc.specs.Maps.{GivenMap, LentMap, given_map}
 
 -- what follows of an answer
@@ -156,27 +156,27 @@ module _ (steps : Chosen) (lines : Source) (o : Object) where
 
 -- ---- with parsing before the stages
 
-first_of : (steps : Chosen) (lines : Source) (reading : Reading) (bytes : List ℕ) → parse_fault_as reading bytes ≡ None → (e : PrepareError) → IsStageFault steps lines (object_as reading bytes) e → IsFirstPrepareFault steps lines reading bytes e
-first_of steps lines reading bytes sound (Parse e) f = elim f [ ]
-first_of steps lines reading bytes sound (Types e) f = (sound, f)
-first_of steps lines reading bytes sound (Maps e) f = (sound, f)
-first_of steps lines reading bytes sound (Ksyms e) f = (sound, f)
-first_of steps lines reading bytes sound (Externs e) f = (sound, f)
-first_of steps lines reading bytes sound (Calls e) f = (sound, f)
-first_of steps lines reading bytes sound OutOfMemory f = elim f [ ]
+first_of : (steps : Chosen) (lines : Source) (mode : ParseMode) (bytes : List ℕ) → parse_fault_as mode bytes ≡ None → (e : PrepareError) → IsStageFault steps lines (object_as mode bytes) e → IsFirstPrepareFault steps lines mode bytes e
+first_of steps lines mode bytes sound (Parse e) f = elim f [ ]
+first_of steps lines mode bytes sound (Types e) f = (sound, f)
+first_of steps lines mode bytes sound (Maps e) f = (sound, f)
+first_of steps lines mode bytes sound (Ksyms e) f = (sound, f)
+first_of steps lines mode bytes sound (Externs e) f = (sound, f)
+first_of steps lines mode bytes sound (Calls e) f = (sound, f)
+first_of steps lines mode bytes sound OutOfMemory f = elim f [ ]
 
 -- of an object as the bytes of a file are parsed
 
-pub parsed : (reading : Reading) (bytes : List ℕ) (o : Object) → o ≡ object_as reading bytes → parse_fault_as reading bytes ≡ None → IsParsed reading bytes o
-parsed reading bytes o is sound = record { sound = sound; is = is }
+pub parsed : (mode : ParseMode) (bytes : List ℕ) (o : Object) → o ≡ object_as mode bytes → parse_fault_as mode bytes ≡ None → IsParsed mode bytes o
+parsed mode bytes o is sound = record { sound = sound; is = is }
 
-module _ (steps : Chosen) (lines : Source) (reading : Reading) (bytes : List ℕ) (o : Object) (from : IsParsed reading bytes o) where
-  pub prepared_file : (after : Object) → Stages steps lines o after → IsPrepared steps lines reading bytes after
+module _ (steps : Chosen) (lines : Source) (mode : ParseMode) (bytes : List ℕ) (o : Object) (from : IsParsed mode bytes o) where
+  pub prepared_file : (after : Object) → Stages steps lines o after → IsPrepared steps lines mode bytes after
   prepared_file after stages = record { sound = from.sound; stages = subst (λ (x : Object). Stages steps lines x after) from.is stages }
 
-  pub file_refused : (e : PrepareError) → RefusesPreparing (IsStageFault steps lines o) e → RefusesPreparing (IsFirstPrepareFault steps lines reading bytes) e
+  pub file_refused : (e : PrepareError) → RefusesPreparing (IsStageFault steps lines o) e → RefusesPreparing (IsFirstPrepareFault steps lines mode bytes) e
   file_refused e r =
-      other_fault (is_prepare_memory e) (NamesNothing e) (IsStageFault steps lines (object_as reading bytes) e) (IsFirstPrepareFault steps lines reading bytes e) (first_of steps lines reading bytes from.sound e)
+      other_fault (is_prepare_memory e) (NamesNothing e) (IsStageFault steps lines (object_as mode bytes) e) (IsFirstPrepareFault steps lines mode bytes e) (first_of steps lines mode bytes from.sound e)
       (subst (λ (x : Object). RefusesPreparing (IsStageFault steps lines x) e) from.is r)
 
 -- ---- what stays of an object over two and more passes that change no more than its functions and its externs

@@ -27,7 +27,7 @@ use Rattle.ebpf_object.specs.Names.{has_function_in}
 use Rattle.ebpf_object.specs.declared.object.Object.{Object}
 use Rattle.ebpf_model.specs.declared.function.Program.{Program}
 use Rattle.ebpf_parts.specs.declared.insn.bpf_insn.{bpf_insn}
-use Rattle.ebpf_parts.specs.declared.reading.Reading.{Reading}
+use Rattle.ebpf_parts.specs.declared.parse_mode.ParseMode.{ParseMode}
 use Rattle.ebpf_reloc.specs.Linking.{IsLinked}
 use Rattle.ebpf_model.specs.Symbols.{TextSections, FunctionKey}
 use Rattle.ebpf_reloc.specs.SlotTargets.{LinkableValue}
@@ -124,9 +124,9 @@ PassesFinish = (passes : Passes) (parsed o : Object) → Chain passes parsed o �
 
 -- ---- a prepared file
 
-module _ {steps : Chosen} {lines : Source} {reading : Reading} {bytes : List ℕ} {o : Object} where
+module _ {steps : Chosen} {lines : Source} {mode : ParseMode} {bytes : List ℕ} {o : Object} where
   -- the passes that were made: the sections of code are those of the functions
-  abbrev pub passes_of : IsPrepared steps lines reading bytes o → Passes
+  abbrev pub passes_of : IsPrepared steps lines mode bytes o → Passes
   passes_of p = record {
     target = steps.target;
     maps = option_map (λ descriptors. (has_function_in p.stages.relocated.functions, own_maps p.stages.relocated.maps descriptors)) steps.descriptors;
@@ -135,6 +135,6 @@ module _ {steps : Chosen} {lines : Source} {reading : Reading} {bytes : List ℕ
   }
 
 -- a file, read in a reading and prepared, is finished
-pub record Headline (steps : Chosen) (lines : Source) (reading : Reading) (bytes : List ℕ) (o : Object) : Type 0 where
-  pub prepared : IsPrepared steps lines reading bytes o
-  pub finished : IsFinished (passes_of prepared) (object_as reading bytes) o
+pub record Headline (steps : Chosen) (lines : Source) (mode : ParseMode) (bytes : List ℕ) (o : Object) : Type 0 where
+  pub prepared : IsPrepared steps lines mode bytes o
+  pub finished : IsFinished (passes_of prepared) (object_as mode bytes) o

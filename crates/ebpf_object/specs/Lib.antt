@@ -9,7 +9,7 @@ pub mod Stages
 pub mod Prepared
 pub mod UnchangedFields
 pub mod Chain
-pub mod BothReadings
+pub mod BothModes
 pub mod Headline
 -- What only private contracts and proofs name.
 pub mod PrivateContracts

@@ -5,21 +5,21 @@ use Rattle.ebpf_object.specs.declared.object.Object.{Object}
 use Rattle.ebpf_parsing.specs.FileTypes.{types_of_file, externs_of, ext_of}
 use Rattle.ebpf_parsing.specs.Symbols.{file_symbols, symbol_table}
 use Rattle.ebpf_parsing.specs.LicenseAndVersion.{license_as, kernel_version_of}
-use Rattle.ebpf_parts.specs.declared.reading.Reading.{Reading}
-use Rattle.ebpf_parts.specs.declared.reading.Reading.TheVariants.{Stated}
+use Rattle.ebpf_parts.specs.declared.parse_mode.ParseMode.{ParseMode}
+use Rattle.ebpf_parts.specs.declared.parse_mode.ParseMode.TheVariants.{Strict}
 pub use Rattle.ebpf_parsing.specs.FileContents.{maps, programs, parse_fault, parse_fault_as}
 unfoldable pub use Rattle.ebpf_parsing.specs.FileContents.{maps_as, programs_as, functions, relocation_tables, section_infos}
 
-abbrev pub object_as : Reading → List ℕ → Object
-object_as reading bytes = record {
+abbrev pub object_as : ParseMode → List ℕ → Object
+object_as mode bytes = record {
   endianness = ei_data bytes;
-  license = license_as reading bytes;
+  license = license_as mode bytes;
   kernel_version = kernel_version_of bytes;
   btf = types_of_file bytes;
   btf_ext = ext_of bytes;
   externs = externs_of bytes;
-  maps = maps_as reading bytes;
-  programs = programs_as reading bytes;
+  maps = maps_as mode bytes;
+  programs = programs_as mode bytes;
   functions = functions bytes;
   symbol_table = symbol_table (file_symbols bytes);
   relocations = relocation_tables bytes;
@@ -27,4 +27,4 @@ object_as reading bytes = record {
 }
 
 abbrev pub object_of : List ℕ → Object
-object_of bytes = object_as Stated bytes
+object_of bytes = object_as Strict bytes

@@ -14,7 +14,7 @@ use Rattle.ebpf_object.specs.declared.object.Object.{Object}
 use Rattle.ebpf_object.specs.declared.prepare_error.PrepareError.{PrepareError}
 use Rattle.ebpf_object.specs.declared.prepare_error.PrepareError.TheVariants.{Parse, Types, Maps, Ksyms, Externs, Calls, OutOfMemory}
 use Rattle.ebpf_parts.specs.Memory as parsing
-use Rattle.ebpf_parts.specs.declared.reading.Reading.{Reading}
+use Rattle.ebpf_parts.specs.declared.parse_mode.ParseMode.{ParseMode}
 
 -- ---- the stages in order, for what is chosen and the lines of the kernel's symbols
 
@@ -65,19 +65,19 @@ module _ (steps : Chosen) (lines : Source) where
   IsStageFault o _ = ⊥
 
   -- the object of a file, prepared
-  pub record IsPrepared (reading : Reading) (bytes : List ℕ) (o : Object) : Type 0 where
-    pub sound : parse_fault_as reading bytes ≡ None
-    pub stages : Stages steps lines (object_as reading bytes) o
+  pub record IsPrepared (mode : ParseMode) (bytes : List ℕ) (o : Object) : Type 0 where
+    pub sound : parse_fault_as mode bytes ≡ None
+    pub stages : Stages steps lines (object_as mode bytes) o
 
   -- the first fault: the file's own, or that of a stage of its object
-  abbrev pub IsFirstPrepareFault : Reading → List ℕ → PrepareError → Type 0
-  IsFirstPrepareFault reading bytes (Parse e) = parse_fault_as reading bytes ≡ Some e
-  IsFirstPrepareFault reading bytes e = (parse_fault_as reading bytes ≡ None) × IsStageFault (object_as reading bytes) e
+  abbrev pub IsFirstPrepareFault : ParseMode → List ℕ → PrepareError → Type 0
+  IsFirstPrepareFault mode bytes (Parse e) = parse_fault_as mode bytes ≡ Some e
+  IsFirstPrepareFault mode bytes e = (parse_fault_as mode bytes ≡ None) × IsStageFault (object_as mode bytes) e
 
 -- an object as the bytes of a file are parsed in a reading
-pub record IsParsed (reading : Reading) (bytes : List ℕ) (o : Object) : Type 0 where
-  pub sound : parse_fault_as reading bytes ≡ None
-  pub is : o ≡ object_as reading bytes
+pub record IsParsed (mode : ParseMode) (bytes : List ℕ) (o : Object) : Type 0 where
+  pub sound : parse_fault_as mode bytes ≡ None
+  pub is : o ≡ object_as mode bytes
 
 -- ---- want of memory
 
@@ -138,9 +138,9 @@ MayStage steps lines o (Ok after) = Stages steps lines o after
 MayStage steps lines o (Err e) = RefusesPreparing (IsStageFault steps lines o) e
 
 -- what preparing may answer of a file in a reading
-abbrev pub MayPrepare : Chosen → Source → Reading → List ℕ → Answer → Type 0
-MayPrepare steps lines reading bytes (Ok o) = IsPrepared steps lines reading bytes o
-MayPrepare steps lines reading bytes (Err e) = RefusesPreparing (IsFirstPrepareFault steps lines reading bytes) e
+abbrev pub MayPrepare : Chosen → Source → ParseMode → List ℕ → Answer → Type 0
+MayPrepare steps lines mode bytes (Ok o) = IsPrepared steps lines mode bytes o
+MayPrepare steps lines mode bytes (Err e) = RefusesPreparing (IsFirstPrepareFault steps lines mode bytes) e
 
 -- any two of these answers are the same
 abbrev pub IsOne : (Answer → Type 0) → Type 0
@@ -151,4 +151,4 @@ abbrev pub OneStaging : Type 0
 OneStaging = (steps : Chosen) (lines : List ℕ) (o : Object) → IsOne (MayStage steps (Reader (Some lines)) o)
 
 abbrev pub OnePreparation : Type 0
-OnePreparation = (steps : Chosen) (lines : List ℕ) (reading : Reading) (bytes : List ℕ) → IsOne (MayPrepare steps (Reader (Some lines)) reading bytes)
+OnePreparation = (steps : Chosen) (lines : List ℕ) (mode : ParseMode) (bytes : List ℕ) → IsOne (MayPrepare steps (Reader (Some lines)) mode bytes)

@@ -1,6 +1,6 @@
 //! What holds of each parsed object, and of what passes make of it.
 
-ghost use Rattle.ebpf_object.specs.BothReadings.{ObjectsAgree};
+ghost use Rattle.ebpf_object.specs.BothModes.{ObjectsAgree};
 ghost use Rattle.ebpf_object.specs.Headline.{PassesFinish};
 ghost use Rattle.ebpf_object.specs.LinkedPrograms.{OneLinking, MapsTellOfLinked};
 ghost use Rattle.ebpf_object.specs.OlderHelpers.{TwiceIsOnce};
@@ -15,10 +15,10 @@ pub use ebpf_core_relo::laws::{
     records_alone_are_carried, records_are_refused, records_have_slots, written_slots_carry,
 };
 pub use ebpf_parsing::laws::{
-    broad_refuses_no_name, externs_are_unresolved, functions_stand_at_their_keys, functions_tile,
+    lenient_refuses_no_name, externs_are_unresolved, functions_stand_at_their_keys, functions_tile,
     later_entries_stand, maps_have_their_symbols, programs_have_functions,
     relocation_tables_are_of_code, relocations_name_symbols, relocations_stand_at_their_offsets,
-    sections_tile, stated_gives_nothing_broad, symbols_stand_at_their_indices,
+    sections_tile, strict_gives_nothing_lenient, symbols_stand_at_their_indices,
 };
 pub use ebpf_parts::laws::{kinds_of_names_agree, names_are_read};
 pub use ebpf_reloc::pass_laws::{offsets_add_up, passes_keep_shapes};
@@ -79,7 +79,7 @@ pub fn sanitizing_twice_is_once()
 
 /// Of a little-endian file that `Object::parse` takes, `Object::parse_as` gives the same object in both readings, and
 /// refuses it in neither.
-#[tactic(auto, using(crate::proofs::Readings::readings_agree))]
-pub fn readings_agree()
+#[tactic(auto, using(crate::proofs::Modes::modes_agree))]
+pub fn modes_agree()
     ensures { ObjectsAgree }
 {}

@@ -13,7 +13,7 @@ use ebpf_btf_ext::BtfExt;
 use ebpf_model::{ExternDesc, Function, Program, Symbol};
 use ebpf_parsing::FileContents;
 use ebpf_parts::maps::Map;
-use ebpf_parts::{ParseError, Reading, Relocation};
+use ebpf_parts::{ParseError, ParseMode, Relocation};
 use std::alloc::Global;
 
 /// What an ELF file with eBPF programs holds.
@@ -76,10 +76,10 @@ impl Object {
         ensures object { IfOk result (λ o. o ≡ object_of bytes.now) }
         ensures fault { Refuses is_parse_memory result (parse_fault bytes.now) }
     {
-        Object::parse_as(alloc, bytes, Reading::Stated)
+        Object::parse_as(alloc, bytes, ParseMode::Strict)
     }
 
-    /// The object that the bytes of an ELF64 file are in a reading. `Stated` is `parse`. `Broad` reads what libbpf reads,
+    /// The object that the bytes of an ELF64 file are by a parse mode. `Strict` is `parse`. `Lenient` reads what libbpf reads,
     /// and differs from `parse` in this alone:
     ///
     /// - a section of code whose name says no kind has programs of the kind `ProgramSection::Other`; a name with `?`
@@ -92,14 +92,14 @@ impl Object {
     ///
     /// # Errors
     ///
-    /// Those of `parse` in its order. With `Broad` none is `InvalidProgramSection`, and after `ElfError` comes
+    /// Those of `parse` in its order. With `Lenient` none is `InvalidProgramSection`, and after `ElfError` comes
     /// `BigEndianCode` where the file is big-endian and has a Text or Program section with bytes; of the license
     /// `InvalidLicense` and `MissingLicenseNullTerminator` come only where none of its bytes is zero.
-    pub fn parse_as(alloc: Global, bytes: &[u8], reading: Reading) -> Result<Object, ParseError>
-        ensures object { IfOk result (λ o. o ≡ object_as reading bytes.now) }
-        ensures fault { Refuses is_parse_memory result (parse_fault_as reading bytes.now) }
+    pub fn parse_as(alloc: Global, bytes: &[u8], mode: ParseMode) -> Result<Object, ParseError>
+        ensures object { IfOk result (λ o. o ≡ object_as mode bytes.now) }
+        ensures fault { Refuses is_parse_memory result (parse_fault_as mode bytes.now) }
     {
-        let contents = FileContents::read(alloc, bytes, reading)?;
+        let contents = FileContents::read(alloc, bytes, mode)?;
         let shared = contents.metadata;
         let parts = contents.object_tables;
         Ok(Object {

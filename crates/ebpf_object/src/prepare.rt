@@ -6,8 +6,8 @@ ghost use Rattle.ebpf_object.specs.UnchangedFields.{KeepsOthers};
 ghost use Rattle.ebpf_object.specs.Objects.{object_of};
 ghost use Rattle.ebpf_object.specs.Prepared.{IsParsed, IsStageFault, IsFirstPrepareFault, RefusesPreparing, Stages};
 ghost use Rattle.ebpf_object.specs.Stages.{chosen};
-ghost use Rattle.ebpf_parts.specs.declared.reading.Reading.{Reading};
-ghost use Rattle.ebpf_parts.specs.declared.reading.Reading.TheVariants.{Stated};
+ghost use Rattle.ebpf_parts.specs.declared.parse_mode.ParseMode.{ParseMode};
+ghost use Rattle.ebpf_parts.specs.declared.parse_mode.ParseMode.TheVariants.{Strict};
 
 use crate::clones::{copy_keys, copy_names};
 pub use crate::explained::Explained;
@@ -69,10 +69,10 @@ pub fn prepare_object<K: SymbolSource>(
     kallsyms: K,
 ) -> Result<Object, PrepareError>
     ensures stages { IfOk result (Stages (chosen steps.now) (K.source kallsyms) object) }
-    ensures headline { (reading : Reading) (file : List ℕ) → IsParsed reading file object → IfOk result (Headline (chosen steps.now) (K.source kallsyms) reading file) }
+    ensures headline { (mode : ParseMode) (file : List ℕ) → IsParsed mode file object → IfOk result (Headline (chosen steps.now) (K.source kallsyms) mode file) }
     ensures others_stay { IfOk result (KeepsOthers object) }
     ensures fault { IfErr result (RefusesPreparing (IsStageFault (chosen steps.now) (K.source kallsyms) object)) }
-    ensures first_fault { (reading : Reading) (file : List ℕ) → IsParsed reading file object → IfErr result (RefusesPreparing (IsFirstPrepareFault (chosen steps.now) (K.source kallsyms) reading file)) }
+    ensures first_fault { (mode : ParseMode) (file : List ℕ) → IsParsed mode file object → IfErr result (RefusesPreparing (IsFirstPrepareFault (chosen steps.now) (K.source kallsyms) mode file)) }
 {
     run_all(alloc, object, steps, kallsyms)
 }
@@ -90,10 +90,10 @@ pub fn prepare_copy<K: SymbolSource>(
     kallsyms: K,
 ) -> Result<Object, PrepareError>
     ensures stages { IfOk result (Stages (chosen steps.now) (K.source kallsyms) object.now) }
-    ensures headline { (reading : Reading) (file : List ℕ) → IsParsed reading file object.now → IfOk result (Headline (chosen steps.now) (K.source kallsyms) reading file) }
+    ensures headline { (mode : ParseMode) (file : List ℕ) → IsParsed mode file object.now → IfOk result (Headline (chosen steps.now) (K.source kallsyms) mode file) }
     ensures others_stay { IfOk result (KeepsOthers object.now) }
     ensures fault { IfErr result (RefusesPreparing (IsStageFault (chosen steps.now) (K.source kallsyms) object.now)) }
-    ensures first_fault { (reading : Reading) (file : List ℕ) → IsParsed reading file object.now → IfErr result (RefusesPreparing (IsFirstPrepareFault (chosen steps.now) (K.source kallsyms) reading file)) }
+    ensures first_fault { (mode : ParseMode) (file : List ℕ) → IsParsed mode file object.now → IfErr result (RefusesPreparing (IsFirstPrepareFault (chosen steps.now) (K.source kallsyms) mode file)) }
 {
     let Ok(copy) = object.clone() else {
         return Err(PrepareError::OutOfMemory);
@@ -114,10 +114,10 @@ pub fn prepare_in_place<K: SymbolSource>(
     kallsyms: K,
 ) -> Result<(), PrepareError>
     ensures stages { OnOk result (Stages (chosen steps.now) (K.source kallsyms) object.old object.new) }
-    ensures headline { (reading : Reading) (file : List ℕ) → IsParsed reading file object.old → OnOk result (Headline (chosen steps.now) (K.source kallsyms) reading file object.new) }
+    ensures headline { (mode : ParseMode) (file : List ℕ) → IsParsed mode file object.old → OnOk result (Headline (chosen steps.now) (K.source kallsyms) mode file object.new) }
     ensures others_stay { KeepsOthers object.old object.new }
     ensures fault { IfErr result (RefusesPreparing (IsStageFault (chosen steps.now) (K.source kallsyms) object.old)) }
-    ensures first_fault { (reading : Reading) (file : List ℕ) → IsParsed reading file object.old → IfErr result (RefusesPreparing (IsFirstPrepareFault (chosen steps.now) (K.source kallsyms) reading file)) }
+    ensures first_fault { (mode : ParseMode) (file : List ℕ) → IsParsed mode file object.old → IfErr result (RefusesPreparing (IsFirstPrepareFault (chosen steps.now) (K.source kallsyms) mode file)) }
     ensures unchanged { OnErr result (object.new ≡ object.old) }
 {
     let Ok(functions) = copy_keys(&object.functions) else {
@@ -153,9 +153,9 @@ pub fn prepare<K: SymbolSource>(
     steps: &Steps<'_>,
     kallsyms: K,
 ) -> Result<Object, PrepareError>
-    ensures headline { IfOk result (Headline (chosen steps.now) (K.source kallsyms) Stated bytes.now) }
+    ensures headline { IfOk result (Headline (chosen steps.now) (K.source kallsyms) Strict bytes.now) }
     ensures others_stay { IfOk result (λ o. KeepsOthers (object_of bytes.now) o) }
-    ensures fault { IfErr result (RefusesPreparing (IsFirstPrepareFault (chosen steps.now) (K.source kallsyms) Stated bytes.now)) }
+    ensures fault { IfErr result (RefusesPreparing (IsFirstPrepareFault (chosen steps.now) (K.source kallsyms) Strict bytes.now)) }
 {
     match Object::parse(alloc, bytes) {
         Ok(object) => prepare_object(alloc, object, steps, kallsyms),

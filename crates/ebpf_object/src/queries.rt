@@ -14,7 +14,7 @@ ghost use Rattle.ebpf_object.specs.Names.{name_in_file, has_function_in};
 ghost use Rattle.ebpf_object.specs.Prepared.{IsParsed};
 ghost use Rattle.ebpf_object.specs.TypedExterns.{has_extern, has_typed, has_strong_typed};
 ghost use Rattle.ebpf_parsing.specs.Sections.{first_section_named};
-ghost use Rattle.ebpf_parts.specs.declared.reading.Reading.{Reading};
+ghost use Rattle.ebpf_parts.specs.declared.parse_mode.ParseMode.{ParseMode};
 
 use crate::object::Object;
 use ebpf_base::ByName;
@@ -112,7 +112,7 @@ impl Object {
     /// Whether the file has a section `license`, and so states the license. Else `license` is the default `GPL`.
     pub fn states_license(&self) -> bool
         ensures named { result ≡ map.contains_key self.now.section_infos (codes "license") }
-        ensures stated { (reading : Reading) (file : List ℕ) → IsParsed reading file self.now → result ≡ is_some (first_section_named (codes "license") file) }
+        ensures stated { (mode : ParseMode) (file : List ℕ) → IsParsed mode file self.now → result ≡ is_some (first_section_named (codes "license") file) }
     {
         self.section_infos.contains_key("license")
     }

@@ -7,7 +7,7 @@ use Rattle.ebpf_base.proofs.Mapped.{put_all-flat_map}
 use Rattle.ebpf_base.specs.Faults.{or_else, first_some}
 use Rattle.ebpf_base.specs.Maps.{put_all, text_cmp}
 use Rattle.ebpf_btf.specs.TypeInfo.{TypeInfo}
-use Rattle.ebpf_btf_decls.specs.Maps.{TypesInReading, types_in_reading}
+use Rattle.ebpf_btf_decls.specs.Maps.{TypesInMode, types_in_mode}
 use Rattle.ebpf_elf.specs.Relocations.{relocation_sections, relocated_section, table_entries}
 use Rattle.ebpf_elf.specs.Sections.{SectionOf}
 use Rattle.ebpf_elf.specs.declared.relocation.ElfRelocation.{ElfRelocation}
@@ -15,7 +15,7 @@ use Rattle.ebpf_parts.specs.ProgramTypes.{section_as}
 use Rattle.ebpf_parts.specs.Sections.{SectionValue, section_of, section_with}
 use Rattle.ebpf_parts.specs.declared.maps.either.Map.TheVariants.{Legacy}
 use Rattle.ebpf_parts.specs.declared.program_section.ProgramSection.{ProgramSection}
-use Rattle.ebpf_parts.specs.declared.reading.Reading.{Reading}
+use Rattle.ebpf_parts.specs.declared.parse_mode.ParseMode.{ParseMode}
 use Rattle.ebpf_parts.specs.declared.section.EbpfSectionKind.{EbpfSectionKind}
 use Rattle.ebpf_parts.specs.declared.section.EbpfSectionKind.TheVariants.{BtfMaps, Data, Rodata, Bss, Text, Program as Programs}
 use Rattle.ebpf_parsing.specs.FileContents.{read_fault, symbols_at}
@@ -38,8 +38,8 @@ pub all_more : (metadata : FileMetadata) (p : ObjectTables) (symbols : List Symb
     → all_added metadata p symbols (s ∷ rest) ≡ all_added metadata (added metadata p s (section_symbols symbols s.index.0)) symbols rest
 unfolding added
 all_more metadata p symbols s rest = λ i. record {
-  maps = put_all-flat_map (λ t. maps_in metadata.reading metadata.btf t (symbols_at symbols t)) p.maps s rest i;
-  programs = put_all-flat_map (λ t. programs_in metadata.reading metadata.license metadata.kernel_version t (symbols_at symbols t)) p.programs s rest i;
+  maps = put_all-flat_map (λ t. maps_in metadata.mode metadata.btf t (symbols_at symbols t)) p.maps s rest i;
+  programs = put_all-flat_map (λ t. programs_in metadata.mode metadata.license metadata.kernel_version t (symbols_at symbols t)) p.programs s rest i;
   functions = put_all-flat_map (λ t. functions_in metadata.btf_ext t (symbols_at symbols t)) p.functions s rest i;
   relocations = put_all-flat_map relocations_in p.relocations s rest i;
   section_infos = put_all-flat_map section_info_entry p.section_infos s rest i;
@@ -55,9 +55,9 @@ unfolding section_of section_with
 one_more metadata p symbols s rest e =
     ap (λ l. all_added metadata p symbols (map section_of l)) (kept s rest e) ∙ all_more metadata p symbols (section_of s) (map section_of (others rest))
 
-pub fault_more : (reading : Reading) (types : Option TypeInfo) (bytes : List ℕ) (s : SectionOf) (rest : List SectionOf) → is_type_information s ≡ false
-    → first_some (read_fault reading types bytes) (others (s ∷ rest)) ≡ or_else (read_fault reading types bytes s) (first_some (read_fault reading types bytes) (others rest))
-fault_more reading types bytes s rest e = ap (first_some (read_fault reading types bytes)) (kept s rest e)
+pub fault_more : (mode : ParseMode) (types : Option TypeInfo) (bytes : List ℕ) (s : SectionOf) (rest : List SectionOf) → is_type_information s ≡ false
+    → first_some (read_fault mode types bytes) (others (s ∷ rest)) ≡ or_else (read_fault mode types bytes s) (first_some (read_fault mode types bytes) (others rest))
+fault_more mode types bytes s rest e = ap (first_some (read_fault mode types bytes)) (kept s rest e)
 
 -- the first fault refuses, whatever comes after it
 pub refused_first : {E : Type 0} (memory : E → Bool) (e : E) (x rest : Option E) → MatchBool (memory e) ⊤ (x ≡ Some e) → MatchBool (memory e) ⊤ (or_else x rest ≡ Some e)
@@ -78,7 +78,7 @@ module _ (list : List ElfRelocation) (s : SectionValue) where
   abbrev p : SectionValue
   p = with_relocations list s
 
-  declared_same : (types : Option TypesInReading) (ys : List SymbolValue) → btf_defined_maps types p ys ≡ btf_defined_maps types s ys
+  declared_same : (types : Option TypesInMode) (ys : List SymbolValue) → btf_defined_maps types p ys ≡ btf_defined_maps types s ys
   unfolding btf_defined_maps
   declared_same None ys = refl
   declared_same (Some types) ys = refl
@@ -94,21 +94,21 @@ module _ (list : List ElfRelocation) (s : SectionValue) where
   last_same : (last : FinMap text_cmp ℕ) → last_maps last p ≡ last_maps last s
   last_same last = ap (λ m. if is_index s.index.0 (get last s.name) then (s.name, m) ∷ [] else []) data_same
 
-  maps_same : (last : FinMap text_cmp ℕ) (reading : Reading) (types : Option TypeInfo) (ys : List SymbolValue) (k : EbpfSectionKind) → put_by k last reading types p ys ≡ put_by k last reading types s ys
+  maps_same : (last : FinMap text_cmp ℕ) (mode : ParseMode) (types : Option TypeInfo) (ys : List SymbolValue) (k : EbpfSectionKind) → put_by k last mode types p ys ≡ put_by k last mode types s ys
   unfolding legacy_map
-  maps_same last reading types ys Data = last_same last
-  maps_same last reading types ys Rodata = last_same last
-  maps_same last reading types ys Bss = last_same last
-  maps_same last reading types ys BtfMaps = declared_same (types_in_reading reading types) ys
-  maps_same last reading types ys _ = refl
+  maps_same last mode types ys Data = last_same last
+  maps_same last mode types ys Rodata = last_same last
+  maps_same last mode types ys Bss = last_same last
+  maps_same last mode types ys BtfMaps = declared_same (types_in_mode mode types) ys
+  maps_same last mode types ys _ = refl
 
   named_same : (license : List ℕ) (version : Option ℕ) (ys : List SymbolValue) (kind : Option ProgramSection) → programs_of license version p ys kind ≡ programs_of license version s ys kind
   named_same license version ys None = refl
   named_same license version ys (Some kind) = refl
 
-  programs_same : (reading : Reading) (license : List ℕ) (version : Option ℕ) (ys : List SymbolValue) (k : EbpfSectionKind) → programs_by k reading license version p ys ≡ programs_by k reading license version s ys
-  programs_same reading license version ys Programs = named_same license version ys (section_as reading s.name)
-  programs_same reading license version ys _ = refl
+  programs_same : (mode : ParseMode) (license : List ℕ) (version : Option ℕ) (ys : List SymbolValue) (k : EbpfSectionKind) → programs_by k mode license version p ys ≡ programs_by k mode license version s ys
+  programs_same mode license version ys Programs = named_same license version ys (section_as mode s.name)
+  programs_same mode license version ys _ = refl
 
   -- ---- functions of a Text section
 
@@ -142,28 +142,28 @@ module _ (list : List ElfRelocation) (s : SectionValue) where
   unfolding text_fault text_fault_at symbol_at_offset
   text_fault_same ys = λ i. or_else (conflict_fault s.index.0 ys) (first_some (λ offset. refused_same offset (symbol_at_offset s ys offset) i) (offsets_same ys (length s.bytes) 0 i))
 
-  declared_fault_same : (types : Option TypesInReading) (ys : List SymbolValue) → btf_defined_maps_fault types p ys ≡ btf_defined_maps_fault types s ys
+  declared_fault_same : (types : Option TypesInMode) (ys : List SymbolValue) → btf_defined_maps_fault types p ys ≡ btf_defined_maps_fault types s ys
   unfolding btf_defined_maps_fault
   declared_fault_same None ys = refl
   declared_fault_same (Some types) ys = refl
 
-  fault_same : (reading : Reading) (types : Option TypeInfo) (ys : List SymbolValue) (k : EbpfSectionKind) → fault_by k reading types p ys ≡ fault_by k reading types s ys
+  fault_same : (mode : ParseMode) (types : Option TypeInfo) (ys : List SymbolValue) (k : EbpfSectionKind) → fault_by k mode types p ys ≡ fault_by k mode types s ys
   unfolding program_section_faults program_fault data_map_fault legacy_maps_fault legacy_fault
-  fault_same reading types ys Programs = refl
-  fault_same reading types ys Text = text_fault_same ys
-  fault_same reading types ys BtfMaps = declared_fault_same (types_in_reading reading types) ys
-  fault_same reading types ys _ = refl
+  fault_same mode types ys Programs = refl
+  fault_same mode types ys Text = text_fault_same ys
+  fault_same mode types ys BtfMaps = declared_fault_same (types_in_mode mode types) ys
+  fault_same mode types ys _ = refl
 
-  pub same_fault : (reading : Reading) (types : Option TypeInfo) (ys : List SymbolValue) → fault_in reading types p ys ≡ fault_in reading types s ys
+  pub same_fault : (mode : ParseMode) (types : Option TypeInfo) (ys : List SymbolValue) → fault_in mode types p ys ≡ fault_in mode types s ys
   unfolding fault_in
-  same_fault reading types ys = fault_same reading types ys s.kind
+  same_fault mode types ys = fault_same mode types ys s.kind
 
   pub same_added : (last : FinMap text_cmp ℕ) (metadata : FileMetadata) (before : ObjectTables) (ys : List SymbolValue)
       → added_last last metadata before p ys ≡ record (added_last last metadata before s ys) { relocations = put_all before.relocations (relocations_in p) }
   unfolding added programs_in functions_in
   same_added last metadata before ys = λ i. record {
-    maps = put_all before.maps (maps_same last metadata.reading metadata.btf ys s.kind i);
-    programs = put_all before.programs (programs_same metadata.reading metadata.license metadata.kernel_version ys s.kind i);
+    maps = put_all before.maps (maps_same last metadata.mode metadata.btf ys s.kind i);
+    programs = put_all before.programs (programs_same metadata.mode metadata.license metadata.kernel_version ys s.kind i);
     functions = put_all before.functions (map with_key (functions_same (func_and_line_info_of metadata.btf_ext s.name) ys s.kind i));
     relocations = put_all before.relocations (relocations_in p);
     section_infos = put_all before.section_infos (section_info_entry s);

@@ -9,7 +9,7 @@ use Rattle.ebpf_base.specs.Maps.{put_all, text_cmp, text_total}
 use Rattle.ebpf_btf.specs.TypeInfo.{TypeInfo}
 use Rattle.ebpf_parts.specs.Sections.{SectionValue}
 use Rattle.ebpf_parts.specs.declared.maps.either.Map.{Map}
-use Rattle.ebpf_parts.specs.declared.reading.Reading.{Reading}
+use Rattle.ebpf_parts.specs.declared.parse_mode.ParseMode.{ParseMode}
 use Rattle.ebpf_parts.specs.declared.section.EbpfSectionKind.{EbpfSectionKind}
 use Rattle.ebpf_parts.specs.declared.section.EbpfSectionKind.TheVariants.{Undefined, Maps, BtfMaps, Data, Rodata, Bss, Text, Btf, BtfExt, License, Version, Program as Programs}
 use Rattle.ebpf_parsing.specs.FileContents.{symbols_at}
@@ -27,9 +27,9 @@ use Rattle.ebpf_sections.proofs.Lasts.{has, false_is_not, put_again, Lasts, anot
 abbrev pub DataLasts : FinMap text_cmp ℕ → List SectionValue → Type 0
 DataLasts last rest = Lasts text_total data_row last rest
 
-module _ (reading : Reading) (types : Option TypeInfo) where
+module _ (mode : ParseMode) (types : Option TypeInfo) where
   -- a section of data gives a map of its name
-  data_gives : (q : List ℕ) (s : SectionValue) (symbols : List SymbolValue) (k : EbpfSectionKind) → has text_cmp q (if is_data_kind k then (s.name, s.index.0) ∷ [] else []) ≡ true → has text_cmp q (maps_by k reading types s symbols) ≡ true
+  data_gives : (q : List ℕ) (s : SectionValue) (symbols : List SymbolValue) (k : EbpfSectionKind) → has text_cmp q (if is_data_kind k then (s.name, s.index.0) ∷ [] else []) ≡ true → has text_cmp q (maps_by k mode types s symbols) ≡ true
   data_gives q s symbols Data h = h
   data_gives q s symbols Rodata h = h
   data_gives q s symbols Bss h = h
@@ -45,14 +45,14 @@ module _ (reading : Reading) (types : Option TypeInfo) where
 
   module _ (ys : List SymbolValue) where
     abbrev maps_of : List SectionValue → List (List ℕ × Map)
-    maps_of rest = flat_map (λ s. maps_in reading types s (symbols_at ys s)) rest
+    maps_of rest = flat_map (λ s. maps_in mode types s (symbols_at ys s)) rest
 
     all_give : (q : List ℕ) (rest : List SectionValue) → has text_cmp q (flat_map data_row rest) ≡ true → has text_cmp q (maps_of rest) ≡ true
     unfolding maps_in
     all_give q [] h = false_is_not h
     all_give q (s ∷ rest) h =
-        list_any-append (λ e. eq_by_cmp text_cmp q e.0) (maps_in reading types s (symbols_at ys s)) (maps_of rest)
-        ∙ either (has text_cmp q (data_row s)) (has text_cmp q (flat_map data_row rest)) (has text_cmp q (maps_in reading types s (symbols_at ys s))) (has text_cmp q (maps_of rest))
+        list_any-append (λ e. eq_by_cmp text_cmp q e.0) (maps_in mode types s (symbols_at ys s)) (maps_of rest)
+        ∙ either (has text_cmp q (data_row s)) (has text_cmp q (flat_map data_row rest)) (has text_cmp q (maps_in mode types s (symbols_at ys s))) (has text_cmp q (maps_of rest))
         (data_gives q s (symbols_at ys s) s.kind) (all_give q rest) (sym (list_any-append (λ e. eq_by_cmp text_cmp q e.0) (data_row s) (flat_map data_row rest)) ∙ h)
       where
         either : (a b c d : Bool) → (a ≡ true → c ≡ true) → (b ≡ true → d ≡ true) → (a || b) ≡ true → (c || d) ≡ true
@@ -62,16 +62,16 @@ module _ (reading : Reading) (types : Option TypeInfo) where
 
 module _ (last : FinMap text_cmp ℕ) (s : SectionValue) (rest : List SectionValue) (lasts : DataLasts last (s ∷ rest)) (metadata : FileMetadata) (p : ObjectTables) (ys : List SymbolValue) where
   abbrev rest_maps : List (List ℕ × Map)
-  rest_maps = maps_of metadata.reading metadata.btf ys rest
+  rest_maps = maps_of metadata.mode metadata.btf ys rest
 
   skipped : is_data_kind s.kind ≡ true → put_all (put_all p.maps (last_maps last s)) rest_maps ≡ put_all (put_all p.maps (data_maps s)) rest_maps
   skipped is = step (is_index s.index.0 (get last s.name)) refl
     where
       step : (b : Bool) → is_index s.index.0 (get last s.name) ≡ b → put_all (put_all p.maps (if is_index s.index.0 (get last s.name) then data_maps s else [])) rest_maps ≡ put_all (put_all p.maps (data_maps s)) rest_maps
       step true at = rw at refl
-      step false at = rw at (sym (put_again text_total text_exact p.maps s.name _ rest_maps (all_give metadata.reading metadata.btf ys s.name rest (another text_total data_row last s rest lasts s.name s.index.0 (ap (λ (b : Bool). if b then (s.name, s.index.0) ∷ [] else []) is) at))))
+      step false at = rw at (sym (put_again text_total text_exact p.maps s.name _ rest_maps (all_give metadata.mode metadata.btf ys s.name rest (another text_total data_row last s rest lasts s.name s.index.0 (ap (λ (b : Bool). if b then (s.name, s.index.0) ∷ [] else []) is) at))))
 
-  same_put : (symbols : List SymbolValue) (k : EbpfSectionKind) → s.kind ≡ k → put_all (put_all p.maps (put_by k last metadata.reading metadata.btf s symbols)) rest_maps ≡ put_all (put_all p.maps (maps_by k metadata.reading metadata.btf s symbols)) rest_maps
+  same_put : (symbols : List SymbolValue) (k : EbpfSectionKind) → s.kind ≡ k → put_all (put_all p.maps (put_by k last metadata.mode metadata.btf s symbols)) rest_maps ≡ put_all (put_all p.maps (maps_by k metadata.mode metadata.btf s symbols)) rest_maps
   same_put symbols Data at = skipped (ap is_data_kind at)
   same_put symbols Rodata at = skipped (ap is_data_kind at)
   same_put symbols Bss at = skipped (ap is_data_kind at)

@@ -10,7 +10,7 @@ use Rattle.ebpf_btf.specs.TypeInfo.{TypeInfo}
 use Rattle.ebpf_btf.specs.declared.error.BtfError.{BtfError as TypeError}
 use Rattle.ebpf_btf.specs.declared.error.BtfError.TheVariants.{InvalidSymbolName}
 use Rattle.ebpf_btf_decls.specs.DataSections.{DatasecMatch, Named, UnreadableName, datasec_match}
-use Rattle.ebpf_btf_decls.specs.Maps.{declared, map_with_symbol, map_at, entry_map, matched_maps_fault as fault_of_entries, type_maps_fault, btf_maps_fault, TypesInReading, types_in_reading}
+use Rattle.ebpf_btf_decls.specs.Maps.{declared, map_with_symbol, map_at, entry_map, matched_maps_fault as fault_of_entries, type_maps_fault, btf_maps_fault, TypesInMode, types_in_mode}
 use Rattle.ebpf_btf_decls.specs.declared.members.MapDefinitions.{MapDefinitions}
 use Rattle.ebpf_elf.specs.Faults.{faults}
 use Rattle.ebpf_elf.specs.Headers.{ei_data}
@@ -25,16 +25,16 @@ use Rattle.ebpf_parts.specs.declared.error.ParseError.{ParseError}
 use Rattle.ebpf_parts.specs.declared.error.ParseError.TheVariants.{ElfError, BtfError, MissingLicenseNullTerminator, InvalidLicense, InvalidKernelVersion, SectionError, UnsupportedRelocationTarget, InvalidProgramSection, InvalidMapDefinition, InvalidSymbol, SymbolNotFound, NoSymbolsForSection, BigEndianCode, TooLarge}
 use Rattle.ebpf_parts.specs.declared.maps.either.Map.{Map}
 use Rattle.ebpf_parts.specs.declared.program_section.ProgramSection.{ProgramSection}
-use Rattle.ebpf_parts.specs.declared.reading.Reading.{Reading}
-use Rattle.ebpf_parts.specs.declared.reading.Reading.TheVariants.{Stated, Broad}
+use Rattle.ebpf_parts.specs.declared.parse_mode.ParseMode.{ParseMode}
+use Rattle.ebpf_parts.specs.declared.parse_mode.ParseMode.TheVariants.{Strict, Lenient}
 use Rattle.ebpf_parts.specs.declared.section.EbpfSectionKind.{EbpfSectionKind}
 use Rattle.ebpf_parts.specs.declared.section.EbpfSectionKind.TheVariants.{Maps, BtfMaps, Data, Rodata, Bss, Text, Program as Programs}
 use Rattle.ebpf_parsing.specs.FileContents.{read_fault, sections_fault, parse_fault_as}
 use Rattle.ebpf_parsing.specs.FileTypes.{types_of_file, externs_fault_beside, file_externs_fault, btf_of, types_fault_in, btf_fault, ext_fault_in, ext_fault_beside, ext_fault, file_types_fault, types_section, ext_section}
-use Rattle.ebpf_parsing.specs.Laws.{BroadRefusesNoName, StatedTakesBothOrders}
+use Rattle.ebpf_parsing.specs.Laws.{LenientRefusesNoName, StrictTakesBothOrders}
 use Rattle.ebpf_parsing.specs.Maps.{data_map_fault, btf_defined_maps_fault, struct_bytes, word_at, legacy_fault, legacy_maps_fault}
 use Rattle.ebpf_parsing.specs.OfSection.{fault_by, fault_in, program_section_faults}
-use Rattle.ebpf_sections.specs.LicenseAndVersion.{stated_text_fault, license_text_fault, license_fault_in, license_fault_as, version_number_fault, version_fault_in, version_fault, has_zero, front_of}
+use Rattle.ebpf_sections.specs.LicenseAndVersion.{strict_text_fault, license_text_fault, license_fault_in, license_fault_as, version_number_fault, version_fault_in, version_fault, has_zero, front_of}
 use Rattle.ebpf_sections.specs.Programs.{is_program_symbol, program_bytes, range_faults, program_fault, programs_fault}
 use Rattle.ebpf_sections.specs.Sections.{has_big_endian_code, order_fault_as, other_sections}
 use Rattle.ebpf_sections.specs.Symbols.{file_symbols, symbol_fault, symbols_fault, SymbolValue, section_symbols}
@@ -105,22 +105,22 @@ section_plain s =
     (either told (data_fault s) _ (made_plain (SectionError s.index) (λ e. refl) (first_of (data_faults s)))
     (if_plain (list_any (λ r. r.symbol_index == 0) (relocations s)) UnsupportedRelocationTarget refl))
 
-stated_plain : (bytes : List ℕ) → Plain (stated_text_fault bytes)
-unfolding stated_text_fault
+stated_plain : (bytes : List ℕ) → Plain (strict_text_fault bytes)
+unfolding strict_text_fault
 stated_plain bytes = rows_plain ((nat_lt (length bytes) 2, InvalidLicense bytes) ∷ (not (has_zero bytes), MissingLicenseNullTerminator bytes) ∷ (has_zero (front_of bytes), InvalidLicense bytes) ∷ []) (refl, (refl, (refl, tt)))
 
-license_text_plain : (reading : Reading) (bytes : List ℕ) → Plain (license_text_fault reading bytes)
+license_text_plain : (mode : ParseMode) (bytes : List ℕ) → Plain (license_text_fault mode bytes)
 unfolding license_text_fault
-license_text_plain Stated bytes = stated_plain bytes
-license_text_plain Broad bytes = unless_plain _ (stated_text_fault bytes) (stated_plain bytes)
+license_text_plain Strict bytes = stated_plain bytes
+license_text_plain Lenient bytes = unless_plain _ (strict_text_fault bytes) (stated_plain bytes)
 
-license_in_plain : (reading : Reading) (s : Option SectionOf) → Plain (license_fault_in reading s)
-license_in_plain reading None = refl
-license_in_plain reading (Some s) = either told (section_fault s) _ (section_plain s) (license_text_plain reading (section_of s).bytes)
+license_in_plain : (mode : ParseMode) (s : Option SectionOf) → Plain (license_fault_in mode s)
+license_in_plain mode None = refl
+license_in_plain mode (Some s) = either told (section_fault s) _ (section_plain s) (license_text_plain mode (section_of s).bytes)
 
-license_plain : (reading : Reading) (bytes : List ℕ) → Plain (license_fault_as reading bytes)
+license_plain : (mode : ParseMode) (bytes : List ℕ) → Plain (license_fault_as mode bytes)
 unfolding license_fault_as
-license_plain reading bytes = license_in_plain reading _
+license_plain mode bytes = license_in_plain mode _
 
 version_in_plain : (s : Option SectionOf) → Plain (version_fault_in s)
 unfolding version_number_fault
@@ -207,50 +207,50 @@ module _ (numbers : List ℕ → Option ℕ) (section : ℕ) where
   placed_plain (Err e) = refl
   placed_plain (Ok d) = numbered_plain d (numbers d.0)
 
-  met_plain : (reading : Reading) (info : TypeInfo) (met : Option DatasecMatch) → Plain (fault_of_entries reading info numbers section met)
+  met_plain : (mode : ParseMode) (info : TypeInfo) (met : Option DatasecMatch) → Plain (fault_of_entries mode info numbers section met)
   unfolding entry_map
-  met_plain reading info None = refl
-  met_plain reading info (Some (UnreadableName e)) = refl
-  met_plain reading info (Some (Named entries)) = plain_all (λ entry. fault_of (entry_map reading info numbers section entry)) (λ entry. placed_plain (declared reading info entry)) entries
+  met_plain mode info None = refl
+  met_plain mode info (Some (UnreadableName e)) = refl
+  met_plain mode info (Some (Named entries)) = plain_all (λ entry. fault_of (entry_map mode info numbers section entry)) (λ entry. placed_plain (declared mode info entry)) entries
 
-  types_plain : (reading : Reading) (info : TypeInfo) (name : List ℕ) → Plain (btf_maps_fault reading info numbers section name)
+  types_plain : (mode : ParseMode) (info : TypeInfo) (name : List ℕ) → Plain (btf_maps_fault mode info numbers section name)
   unfolding type_maps_fault
-  types_plain reading info name = plain_all (type_maps_fault reading info numbers section name) (λ t. met_plain reading info (datasec_match info name t)) info.types
+  types_plain mode info name = plain_all (type_maps_fault mode info numbers section name) (λ t. met_plain mode info (datasec_match info name t)) info.types
 
-declared_plain : (types : Option TypesInReading) (s : SectionValue) (ys : List SymbolValue) → Plain (btf_defined_maps_fault types s ys)
+declared_plain : (types : Option TypesInMode) (s : SectionValue) (ys : List SymbolValue) → Plain (btf_defined_maps_fault types s ys)
 unfolding btf_defined_maps_fault
 declared_plain None s ys = refl
-declared_plain (Some d) s ys = either told _ _ (rows_plain ((length ys == 0, NoSymbolsForSection s.name) ∷ []) (refl, tt)) (types_plain _ s.index.0 d.reading d.types s.name)
+declared_plain (Some d) s ys = either told _ _ (rows_plain ((length ys == 0, NoSymbolsForSection s.name) ∷ []) (refl, tt)) (types_plain _ s.index.0 d.mode d.types s.name)
 
 -- ---- a test that says no of every other fault
 
-module _ (test : Option ParseError → Bool) (plain : (o : Option ParseError) → Plain o → test o ≡ false) (reading : Reading)
-    (named : (name : List ℕ) → test (no_section name (section_as reading name)) ≡ false) where
-  name_passes : (s : SectionValue) (ys : List SymbolValue) → test (program_section_faults reading s ys) ≡ false
+module _ (test : Option ParseError → Bool) (plain : (o : Option ParseError) → Plain o → test o ≡ false) (mode : ParseMode)
+    (named : (name : List ℕ) → test (no_section name (section_as mode name)) ≡ false) where
+  name_passes : (s : SectionValue) (ys : List SymbolValue) → test (program_section_faults mode s ys) ≡ false
   unfolding program_section_faults
   name_passes s ys = either test _ _ (named s.name) (plain _ (behind_name s ys))
 
-  kind_passes : (types : Option TypeInfo) (s : SectionValue) (ys : List SymbolValue) (kind : EbpfSectionKind) → test (fault_by kind reading types s ys) ≡ false
+  kind_passes : (types : Option TypeInfo) (s : SectionValue) (ys : List SymbolValue) (kind : EbpfSectionKind) → test (fault_by kind mode types s ys) ≡ false
   kind_passes types s ys Programs = name_passes s ys
   kind_passes types s ys Text = plain _ (text_plain s ys)
   kind_passes types s ys Data = plain _ (data_plain s)
   kind_passes types s ys Rodata = plain _ (data_plain s)
   kind_passes types s ys Bss = plain _ (data_plain s)
   kind_passes types s ys Maps = plain _ (structs_plain s ys)
-  kind_passes types s ys BtfMaps = plain _ (declared_plain (types_in_reading reading types) s ys)
+  kind_passes types s ys BtfMaps = plain _ (declared_plain (types_in_mode mode types) s ys)
   kind_passes types s ys _ = plain None refl
 
-  sections_pass : (types : Option TypeInfo) (bytes : List ℕ) → test (sections_fault reading types bytes) ≡ false
+  sections_pass : (types : Option TypeInfo) (bytes : List ℕ) → test (sections_fault mode types bytes) ≡ false
   unfolding sections_fault fault_in
-  sections_pass types bytes = all_of test (plain None refl) (read_fault reading types bytes)
+  sections_pass types bytes = all_of test (plain None refl) (read_fault mode types bytes)
       (λ s. either test (section_fault s) _ (plain _ (section_plain s)) (kind_passes types (section_of s) (section_symbols (file_symbols bytes) s.index) (section_of s).kind))
       (other_sections bytes)
 
   -- what follows the order of code
   behind_order : (bytes : List ℕ)
-      → test (or_else (license_fault_as reading bytes) (or_else (version_fault bytes) (or_else (symbols_fault bytes) (or_else (file_types_fault bytes) (or_else (file_externs_fault bytes) (sections_fault reading (types_of_file bytes) bytes)))))) ≡ false
+      → test (or_else (license_fault_as mode bytes) (or_else (version_fault bytes) (or_else (symbols_fault bytes) (or_else (file_types_fault bytes) (or_else (file_externs_fault bytes) (sections_fault mode (types_of_file bytes) bytes)))))) ≡ false
   behind_order bytes =
-      either test _ _ (plain _ (license_plain reading bytes))
+      either test _ _ (plain _ (license_plain mode bytes))
       (either test _ _ (plain _ (version_plain bytes))
       (either test _ _ (plain _ (plain_all symbol_fault symbol_plain (symbols bytes)))
       (either test _ _ (plain _ (file_types_plain bytes))
@@ -259,7 +259,7 @@ module _ (test : Option ParseError → Bool) (plain : (o : Option ParseError) �
 file_plain : (bytes : List ℕ) → Plain (option_map ElfError (first_in (faults bytes)))
 file_plain bytes = made_plain ElfError (λ e. refl) _
 
--- ---- the broad reading
+-- ---- lenient parsing
 
 no_name : (name : List ℕ) (o : Option ParseError) → Plain o → o ≢ Some (InvalidProgramSection name)
 no_name name o plain is = let no : true ≡ false = sym (ap told is) ∙ plain in cc
@@ -270,14 +270,14 @@ in_order name (Some e) ordered rest first later is = no_name name (Some e) first
 in_order name None true rest first later is = cc
 in_order name None false rest first later is = no_name name rest later is
 
-broad_name : (name : List ℕ) → Plain (no_section name (section_as Broad name))
+lenient_name : (name : List ℕ) → Plain (no_section name (section_as Lenient name))
 unfolding section_as
-broad_name name = refl
+lenient_name name = refl
 
-pub broad_refuses_no_name : BroadRefusesNoName
-broad_refuses_no_name bytes name = in_order name _ (has_big_endian_code bytes) _ (file_plain bytes) (behind_order told (λ o plain. plain) Broad broad_name bytes)
+pub lenient_refuses_no_name : LenientRefusesNoName
+lenient_refuses_no_name bytes name = in_order name _ (has_big_endian_code bytes) _ (file_plain bytes) (behind_order told (λ o plain. plain) Lenient lenient_name bytes)
 
--- ---- the stated reading
+-- ---- strict parsing
 
 from_plain : (o : Option ParseError) → Plain o → says is_big_endian_code o ≡ false
 from_plain None plain = refl
@@ -288,10 +288,10 @@ unnamed : (test : ParseError → Bool) (name : List ℕ) → test (InvalidProgra
 unnamed test name other None = other
 unnamed test name other (Some kind) = refl
 
-pub stated_takes_both_orders : StatedTakesBothOrders
-stated_takes_both_orders bytes is =
-    let never : says is_big_endian_code (parse_fault_as Stated bytes) ≡ false =
-    either (says is_big_endian_code) _ _ (from_plain _ (file_plain bytes)) (behind_order (says is_big_endian_code) from_plain Stated (λ name. unnamed is_big_endian_code name refl (section_as Stated name)) bytes) in
+pub strict_takes_both_orders : StrictTakesBothOrders
+strict_takes_both_orders bytes is =
+    let never : says is_big_endian_code (parse_fault_as Strict bytes) ≡ false =
+    either (says is_big_endian_code) _ _ (from_plain _ (file_plain bytes)) (behind_order (says is_big_endian_code) from_plain Strict (λ name. unnamed is_big_endian_code name refl (section_as Strict name)) bytes) in
     let no : true ≡ false = sym (ap (says is_big_endian_code) is) ∙ never in
     cc
 
@@ -306,17 +306,17 @@ small None plain = refl
 small (Some (TooLarge _)) plain = absurd (cc)
 small (Some _) plain = refl
 
-small_order : (reading : Reading) (bytes : List ℕ) → says is_too_large (order_fault_as reading bytes) ≡ false
-small_order Stated bytes = refl
-small_order Broad bytes = elim (has_big_endian_code bytes) as (λ b. says is_too_large (if b then Some BigEndianCode else None) ≡ false) [
+small_order : (mode : ParseMode) (bytes : List ℕ) → says is_too_large (order_fault_as mode bytes) ≡ false
+small_order Strict bytes = refl
+small_order Lenient bytes = elim (has_big_endian_code bytes) as (λ b. says is_too_large (if b then Some BigEndianCode else None) ≡ false) [
   | true ↦ refl
   | false ↦ refl
 ]
 
-pub never_too_large : (reading : Reading) (bytes : List ℕ) (most : ℕ) → parse_fault_as reading bytes ≢ Some (TooLarge most)
-never_too_large reading bytes most is =
-    let never : says is_too_large (parse_fault_as reading bytes) ≡ false =
+pub never_too_large : (mode : ParseMode) (bytes : List ℕ) (most : ℕ) → parse_fault_as mode bytes ≢ Some (TooLarge most)
+never_too_large mode bytes most is =
+    let never : says is_too_large (parse_fault_as mode bytes) ≡ false =
     either (says is_too_large) _ _ (small _ (file_plain bytes))
-    (either (says is_too_large) _ _ (small_order reading bytes) (behind_order (says is_too_large) small reading (λ name. unnamed is_too_large name refl (section_as reading name)) bytes)) in
+    (either (says is_too_large) _ _ (small_order mode bytes) (behind_order (says is_too_large) small mode (λ name. unnamed is_too_large name refl (section_as mode name)) bytes)) in
     let no : true ≡ false = sym (ap (says is_too_large) is) ∙ never in
     cc

@@ -18,7 +18,7 @@ use Rattle.ebpf_elf.specs.declared.constants.TheConstants.{SHT_NOBITS}
 use Rattle.ebpf_model.specs.declared.function.Function.{Function}
 use Rattle.ebpf_parts.specs.Sections.{SectionValue, section_of, section_with, section_fault, section_fault_with, section_name_fault, data_fault, target_fault}
 use Rattle.ebpf_parts.specs.declared.error.ParseError.TheVariants.{ElfError}
-use Rattle.ebpf_parts.specs.declared.reading.Reading.{Reading}
+use Rattle.ebpf_parts.specs.declared.parse_mode.ParseMode.{ParseMode}
 use Rattle.ebpf_parsing.specs.FileContents.{parse_fault_as, read_fault, sections_fault, own_symbols, functions, function_entries}
 use Rattle.ebpf_parsing.specs.FileTypes.{types_of_file, file_externs_fault, file_types_fault, ext_of}
 use Rattle.ebpf_parsing.specs.Laws.{IsTextSection, AreInOrder, own_functions, AtEachAddress, InOrder, SectionsTile}
@@ -42,28 +42,28 @@ clear_item f g [] j b clear e = absurd (let no : ⊥ = cc in no)
 clear_item f g (x ∷ xs) zero b clear e = let same : g x ≡ b = cc in (x, (same, (both_None (f x) (first_some f xs) clear).0))
 clear_item f g (x ∷ xs) (suc j) b clear e = clear_item f g xs j b (both_None (f x) (first_some f xs) clear).1 e
 
-clear_sections : (reading : Reading) (bytes : List ℕ) → parse_fault_as reading bytes ≡ None → first_some (read_fault reading (types_of_file bytes) bytes) (other_sections bytes) ≡ None
+clear_sections : (mode : ParseMode) (bytes : List ℕ) → parse_fault_as mode bytes ≡ None → first_some (read_fault mode (types_of_file bytes) bytes) (other_sections bytes) ≡ None
 unfolding sections_fault
-clear_sections reading bytes clear =
+clear_sections mode bytes clear =
     let a = both_None (option_map ElfError (first_in (faults bytes))) _ clear in
-    let o = both_None (order_fault_as reading bytes) _ a.1 in
-    let b = both_None (license_fault_as reading bytes) _ o.1 in
+    let o = both_None (order_fault_as mode bytes) _ a.1 in
+    let b = both_None (license_fault_as mode bytes) _ o.1 in
     let c = both_None (version_fault bytes) _ b.1 in
     let d = both_None (symbols_fault bytes) _ c.1 in
     let e = both_None (file_types_fault bytes) _ d.1 in
     (both_None (file_externs_fault bytes) _ e.1).1
 
-module _ (reading : Reading) (bytes : List ℕ) (clear : parse_fault_as reading bytes ≡ None) (n : ℕ) (s : SectionValue) (here : slice_get (object_sections bytes) n ≡ Some s) where
-  read : (x : SectionOf) × ((section_of x ≡ s) × (read_fault reading (types_of_file bytes) bytes x ≡ None))
-  read = clear_item (read_fault reading (types_of_file bytes) bytes) section_of (other_sections bytes) n s (clear_sections reading bytes clear) here
+module _ (mode : ParseMode) (bytes : List ℕ) (clear : parse_fault_as mode bytes ≡ None) (n : ℕ) (s : SectionValue) (here : slice_get (object_sections bytes) n ≡ Some s) where
+  read : (x : SectionOf) × ((section_of x ≡ s) × (read_fault mode (types_of_file bytes) bytes x ≡ None))
+  read = clear_item (read_fault mode (types_of_file bytes) bytes) section_of (other_sections bytes) n s (clear_sections mode bytes clear) here
 
-  both : (section_fault read.0 ≡ None) × (fault_in reading (types_of_file bytes) (section_of read.0) (section_symbols (file_symbols bytes) read.0.index) ≡ None)
-  both = both_None (section_fault read.0) (fault_in reading (types_of_file bytes) (section_of read.0) (section_symbols (file_symbols bytes) read.0.index)) read.1.1
+  both : (section_fault read.0 ≡ None) × (fault_in mode (types_of_file bytes) (section_of read.0) (section_symbols (file_symbols bytes) read.0.index) ≡ None)
+  both = both_None (section_fault read.0) (fault_in mode (types_of_file bytes) (section_of read.0) (section_symbols (file_symbols bytes) read.0.index)) read.1.1
 
   -- what the section's kind asks for is there
-  pub kind_clear : fault_in reading (types_of_file bytes) s (own_symbols bytes s) ≡ None
+  pub kind_clear : fault_in mode (types_of_file bytes) s (own_symbols bytes s) ≡ None
   unfolding section_of section_with
-  kind_clear = subst (λ t. fault_in reading (types_of_file bytes) t (own_symbols bytes t) ≡ None) read.1.0 both.1
+  kind_clear = subst (λ t. fault_in mode (types_of_file bytes) t (own_symbols bytes t) ≡ None) read.1.0 both.1
 
   -- no relocation names symbol 0
   pub targets_clear : target_fault s.relocations ≡ None
@@ -188,7 +188,7 @@ at_key (g ∷ fs) (suc i) f d e =
 
 -- ---- the Text section
 
-module _ (reading : Reading) (bytes : List ℕ) (n : ℕ) (s : SectionValue) (is : IsTextSection reading bytes n s) where
+module _ (mode : ParseMode) (bytes : List ℕ) (n : ℕ) (s : SectionValue) (is : IsTextSection mode bytes n s) where
   abbrev infos : FuncAndLineInfo
   infos = func_and_line_info_of (ext_of bytes) s.name
 
@@ -203,8 +203,8 @@ module _ (reading : Reading) (bytes : List ℕ) (n : ℕ) (s : SectionValue) (is
 
   text_clear : text_fault s symbols ≡ None
   unfolding fault_in
-  text_clear = ap (λ k. fault_by k reading (types_of_file bytes) s symbols) (sym is.text)
-      ∙ kind_clear reading bytes is.clear n s is.here
+  text_clear = ap (λ k. fault_by k mode (types_of_file bytes) s symbols) (sym is.text)
+      ∙ kind_clear mode bytes is.clear n s is.here
 
   walk_clear : walk_fault s symbols ≡ None
   unfolding text_fault
@@ -253,16 +253,16 @@ by_address number a (f ∷ fs) mine =
     λ i. cond (test i) (Some f) (by_address number a fs mine.1 i)
 
 pub at_each_address : AtEachAddress
-at_each_address reading bytes n s is a =
-    here reading bytes n s is (s.index.0, a) refl ∙ by_address s.index.0 a (own_functions bytes s) (numbered reading bytes n s is)
+at_each_address mode bytes n s is a =
+    here mode bytes n s is (s.index.0, a) refl ∙ by_address s.index.0 a (own_functions bytes s) (numbered mode bytes n s is)
 
 pub in_order : InOrder
-in_order reading bytes n s is = in_table reading bytes n s is
+in_order mode bytes n s is = in_table mode bytes n s is
 
 pub sections_tile : SectionsTile
-sections_tile reading bytes n s is fs order =
-    let own = in_table reading bytes n s is in
+sections_tile mode bytes n s is fs order =
+    let own = in_table mode bytes n s is in
     let same : fs ≡ own_functions bytes s = one_order fs (own_functions bytes s) order.rise own.rise
     (λ i f e. own.all f.address f (order.stand i f e)) (λ i f e. order.all f.address f (own.stand i f e)) in
     ap (flat_map (λ f. f.instructions)) same
-    ∙ tiles.functions_tile (func_and_line_info_of (ext_of bytes) s.name) s (own_symbols bytes s) (text_clear reading bytes n s is)
+    ∙ tiles.functions_tile (func_and_line_info_of (ext_of bytes) s.name) s (own_symbols bytes s) (text_clear mode bytes n s is)

@@ -20,7 +20,7 @@ use Rattle.ebpf_btf.specs.declared.error.BtfError.{BtfError}
 use Rattle.ebpf_btf.specs.declared.members.DataSecEntry.{DataSecEntry}
 use Rattle.ebpf_btf_decls.specs.DataSections.{given, matched_entries, DatasecMatch, Named, UnreadableName, datasec_match}
 use Rattle.ebpf_btf_decls.specs.Externs.{extern_of, extern_types, ksyms_datasec}
-use Rattle.ebpf_btf_decls.specs.Maps.{declared, map_at, entry_map, type_maps, map_with_symbol, matched_maps as maps_of_entries, TypesInReading, types_in_reading}
+use Rattle.ebpf_btf_decls.specs.Maps.{declared, map_at, entry_map, type_maps, map_with_symbol, matched_maps as maps_of_entries, TypesInMode, types_in_mode}
 use Rattle.ebpf_btf_decls.specs.declared.members.MapDefinitions.{MapDefinitions}
 use Rattle.ebpf_elf.specs.Symbols.{symbol_table_section as table_of, symbols_in}
 use Rattle.ebpf_elf.specs.declared.relocation.ElfRelocation.{ElfRelocation}
@@ -34,7 +34,7 @@ use Rattle.ebpf_parts.specs.declared.error.ParseError.{ParseError}
 use Rattle.ebpf_parts.specs.declared.error.ParseError.TheVariants.{UnsupportedRelocationTarget, SymbolNotFound}
 use Rattle.ebpf_parts.specs.declared.maps.either.Map.{Map}
 use Rattle.ebpf_parts.specs.declared.program_section.ProgramSection.{ProgramSection}
-use Rattle.ebpf_parts.specs.declared.reading.Reading.{Reading}
+use Rattle.ebpf_parts.specs.declared.parse_mode.ParseMode.{ParseMode}
 use Rattle.ebpf_parts.specs.declared.section.EbpfSectionKind.{EbpfSectionKind}
 use Rattle.ebpf_parts.specs.declared.section.EbpfSectionKind.TheVariants.{Text, Program as Programs, Data, Rodata, Bss, Maps, BtfMaps}
 use Rattle.ebpf_parsing.specs.FileContents.{programs_as, functions, relocation_tables, own_symbols, function_entries, program_entries, relocation_entries, maps_as, map_entries}
@@ -133,18 +133,18 @@ module _ (all : List ((ℕ × ℕ) × Function)) (infos : FuncAndLineInfo) (s : 
   each_of None ys holds = tt
   each_of (Some kind) ys holds = each_program kind (filter is_program_symbol ys) holds
 
-  programs_of_kind : (reading : Reading) (kind : EbpfSectionKind) (ys : List SymbolValue) → Holds (map with_key (functions_by kind infos s ys)) → AllByRecursion HasFunction (programs_by kind reading license version s ys)
-  programs_of_kind reading Programs ys holds = each_of (section_as reading s.name) ys holds
-  programs_of_kind reading _ ys holds = tt
+  programs_of_kind : (mode : ParseMode) (kind : EbpfSectionKind) (ys : List SymbolValue) → Holds (map with_key (functions_by kind infos s ys)) → AllByRecursion HasFunction (programs_by kind mode license version s ys)
+  programs_of_kind mode Programs ys holds = each_of (section_as mode s.name) ys holds
+  programs_of_kind mode _ ys holds = tt
 
 pub programs_stand : ProgramsHaveFunctions
 unfolding programs_as program_entries programs_in functions function_entries functions_in
-programs_stand reading bytes name p e =
+programs_stand mode bytes name p e =
     let ext = ext_of bytes in
     let all : List ((ℕ × ℕ) × Function) = function_entries ext bytes in
-    let found = stands text_cmp text_exact (λ n x. (f : Function) × Among ((x.section_index, x.address), f) all) name later_text_stands (program_entries reading (license_as reading bytes) (kernel_version_of bytes) bytes)
-    (all_flat_map (λ x. (f : Function) × Among ((x.1.section_index, x.1.address), f) all) (λ s. programs_in reading (license_as reading bytes) (kernel_version_of bytes) s (own_symbols bytes s)) (object_sections bytes)
-    (λ i s here. programs_of_kind all (func_and_line_info_of ext s.name) s (license_as reading bytes) (kernel_version_of bytes) reading s.kind (own_symbols bytes s)
+    let found = stands text_cmp text_exact (λ n x. (f : Function) × Among ((x.section_index, x.address), f) all) name later_text_stands (program_entries mode (license_as mode bytes) (kernel_version_of bytes) bytes)
+    (all_flat_map (λ x. (f : Function) × Among ((x.1.section_index, x.1.address), f) all) (λ s. programs_in mode (license_as mode bytes) (kernel_version_of bytes) s (own_symbols bytes s)) (object_sections bytes)
+    (λ i s here. programs_of_kind all (func_and_line_info_of ext s.name) s (license_as mode bytes) (kernel_version_of bytes) mode s.kind (own_symbols bytes s)
     (λ j b g. in_flat_map b (λ t. functions_in ext t (own_symbols bytes t)) (object_sections bytes) i s here j g))) p e in
     known key_cmp key_total (p.section_index, p.address) later_key_stands all found.0 found.1
 
@@ -216,10 +216,10 @@ all_named (r ∷ rs) h =
     (not_zero r.symbol_index both.0, all_named rs both.1)
 
 pub relocations_name_symbols : RelocationsNameSymbols
-relocations_name_symbols reading bytes clear section table e o r at =
+relocations_name_symbols mode bytes clear section table e o r at =
     let code = tables_of_code bytes section table e in
     let rs = code.section.relocations in
-    let named = clear_test (list_any (λ x. x.symbol_index == 0) rs) (targets_clear reading bytes clear code.index code.section code.here) in
+    let named = clear_test (list_any (λ x. x.symbol_index == 0) rs) (targets_clear mode bytes clear code.index code.section code.here) in
     stands nat_cmp exact_unsigned (λ k x. x.symbol_index ≢ 0) o later_number_stands (map offset_of rs) (all_named rs named) r (ap (λ t. get t o) (sym code.own) ∙ at)
 
 -- ---- the symbols of maps, and the maps without one
@@ -315,25 +315,25 @@ module _ (bytes : List ℕ) where
     by_declared (Err x) = tt
     by_declared (Ok d) = by_number d (numbers d.0) refl
 
-    by_entries : (reading : Reading) (info : TypeInfo) (o : Option DatasecMatch) → ArePlaced (maps_of_entries reading info numbers section o)
+    by_entries : (mode : ParseMode) (info : TypeInfo) (o : Option DatasecMatch) → ArePlaced (maps_of_entries mode info numbers section o)
     unfolding entry_map
-    by_entries reading info None = tt
-    by_entries reading info (Some (UnreadableName x)) = tt
-    by_entries reading info (Some (Named entries)) =
-        all_flat_map (λ e. IsPlaced e.0 e.1) (λ entry. given (entry_map reading info numbers section entry)) entries (λ i entry here. by_declared (declared reading info entry))
+    by_entries mode info None = tt
+    by_entries mode info (Some (UnreadableName x)) = tt
+    by_entries mode info (Some (Named entries)) =
+        all_flat_map (λ e. IsPlaced e.0 e.1) (λ entry. given (entry_map mode info numbers section entry)) entries (λ i entry here. by_declared (declared mode info entry))
 
   numbers_known : (section : ℕ) (ys : List SymbolValue) → AllByRecursion (λ y. IsSymbolIn bytes y.index y.name section) ys → AllByRecursion (λ e. IsSymbolIn bytes e.1 e.0 section) (map name_and_index ys)
   numbers_known section [] all = tt
   numbers_known section (y ∷ ys) all = (all.0, numbers_known section ys all.1)
 
-  by_types : (types : Option TypesInReading) (s : SectionValue) (ys : List SymbolValue) → AllByRecursion (λ y. IsSymbolIn bytes y.index y.name s.index.0) ys → ArePlaced (btf_defined_maps types s ys)
+  by_types : (types : Option TypesInMode) (s : SectionValue) (ys : List SymbolValue) → AllByRecursion (λ y. IsSymbolIn bytes y.index y.name s.index.0) ys → ArePlaced (btf_defined_maps types s ys)
   unfolding btf_defined_maps type_maps
   by_types None s ys all = tt
   by_types (Some d) s ys all =
       let numbers : List ℕ → Option ℕ = get (symbol_indices_by_name ys) in
       let symbols = λ (name : List ℕ) (i : ℕ) (e : numbers name ≡ Some i). stands text_cmp text_exact (λ n k. IsSymbolIn bytes k n s.index.0) name later_text_stands (map name_and_index ys) (numbers_known s.index.0 ys all) i e in
-      all_flat_map (λ e. IsPlaced e.0 e.1) (type_maps d.reading d.types numbers s.index.0 s.name) d.types.types
-      (λ i t here. by_entries s.index.0 numbers symbols d.reading d.types (datasec_match d.types s.name t))
+      all_flat_map (λ e. IsPlaced e.0 e.1) (type_maps d.mode d.types numbers s.index.0 s.name) d.types.types
+      (λ i t here. by_entries s.index.0 numbers symbols d.mode d.types (datasec_match d.types s.name t))
 
   -- of data
   no_symbol : (s : SectionValue) (k : ℕ) → symbol_index_of (data_map s) ≡ Some k → IsSymbolIn bytes k s.name (section_index_of (data_map s))
@@ -343,22 +343,22 @@ module _ (bytes : List ℕ) where
   by_data : (i : ℕ) (s : SectionValue) → slice_get (object_sections bytes) i ≡ Some s → (s.kind ≡ Data) ⊎ ((s.kind ≡ Rodata) ⊎ (s.kind ≡ Bss)) → ArePlaced (data_maps s)
   by_data i s here kind = ((no_symbol s, (λ e. record { index = i; section = s; here = here; kind = kind; named = refl; own = refl })), tt)
 
-  by_kind : (reading : Reading) (types : Option TypeInfo) (i : ℕ) (s : SectionValue) → slice_get (object_sections bytes) i ≡ Some s → (kind : EbpfSectionKind) → s.kind ≡ kind → ArePlaced (maps_by kind reading types s (own_symbols bytes s))
-  by_kind reading types i s here Data e = by_data i s here (inl e)
-  by_kind reading types i s here Rodata e = by_data i s here (inr (inl e))
-  by_kind reading types i s here Bss e = by_data i s here (inr (inr e))
-  by_kind reading types i s here Maps e = by_structs s (own_symbols bytes s) (in_section s.index.0)
-  by_kind reading types i s here BtfMaps e = by_types (types_in_reading reading types) s (own_symbols bytes s) (in_section s.index.0)
-  by_kind reading types i s here _ e = tt
+  by_kind : (mode : ParseMode) (types : Option TypeInfo) (i : ℕ) (s : SectionValue) → slice_get (object_sections bytes) i ≡ Some s → (kind : EbpfSectionKind) → s.kind ≡ kind → ArePlaced (maps_by kind mode types s (own_symbols bytes s))
+  by_kind mode types i s here Data e = by_data i s here (inl e)
+  by_kind mode types i s here Rodata e = by_data i s here (inr (inl e))
+  by_kind mode types i s here Bss e = by_data i s here (inr (inr e))
+  by_kind mode types i s here Maps e = by_structs s (own_symbols bytes s) (in_section s.index.0)
+  by_kind mode types i s here BtfMaps e = by_types (types_in_mode mode types) s (own_symbols bytes s) (in_section s.index.0)
+  by_kind mode types i s here _ e = tt
 
-  placed_map : (reading : Reading) (name : List ℕ) (m : Map) → get (maps_as reading bytes) name ≡ Some m → IsPlaced name m
+  placed_map : (mode : ParseMode) (name : List ℕ) (m : Map) → get (maps_as mode bytes) name ≡ Some m → IsPlaced name m
   unfolding maps_as map_entries maps_in
-  placed_map reading name m e =
-      stands text_cmp text_exact IsPlaced name later_text_stands (map_entries reading (types_of_file bytes) bytes)
-      (all_flat_map (λ x. IsPlaced x.0 x.1) (λ s. maps_in reading (types_of_file bytes) s (own_symbols bytes s)) (object_sections bytes) (λ i s here. by_kind reading (types_of_file bytes) i s here s.kind refl)) m e
+  placed_map mode name m e =
+      stands text_cmp text_exact IsPlaced name later_text_stands (map_entries mode (types_of_file bytes) bytes)
+      (all_flat_map (λ x. IsPlaced x.0 x.1) (λ s. maps_in mode (types_of_file bytes) s (own_symbols bytes s)) (object_sections bytes) (λ i s here. by_kind mode (types_of_file bytes) i s here s.kind refl)) m e
 
 pub maps_have_symbols : MapsHaveTheirSymbols
-maps_have_symbols reading bytes name m e = (placed_map bytes reading name m e).0
+maps_have_symbols mode bytes name m e = (placed_map bytes mode name m e).0
 
 pub others_of_data : OtherMapsAreOfData
-others_of_data reading bytes name m e = (placed_map bytes reading name m e).1
+others_of_data mode bytes name m e = (placed_map bytes mode name m e).1

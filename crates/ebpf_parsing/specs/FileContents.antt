@@ -20,8 +20,8 @@ use Rattle.ebpf_parts.specs.Sections.{SectionValue, section_of, section_fault}
 use Rattle.ebpf_parts.specs.declared.error.ParseError.{ParseError}
 use Rattle.ebpf_parts.specs.declared.error.ParseError.TheVariants.{ElfError}
 use Rattle.ebpf_parts.specs.declared.maps.either.Map.{Map}
-use Rattle.ebpf_parts.specs.declared.reading.Reading.{Reading}
-use Rattle.ebpf_parts.specs.declared.reading.Reading.TheVariants.{Stated}
+use Rattle.ebpf_parts.specs.declared.parse_mode.ParseMode.{ParseMode}
+use Rattle.ebpf_parts.specs.declared.parse_mode.ParseMode.TheVariants.{Strict}
 use Rattle.ebpf_parsing.specs.FileTypes.{types_of_file, externs_of, file_externs_fault, ext_of, type_info_names, file_types_fault}
 use Rattle.ebpf_parsing.specs.OfSection.{maps_in, programs_in, functions_in, relocations_in, fault_in}
 use Rattle.ebpf_parsing.specs.declared.file_contents.FileContents.{FileContents}
@@ -42,11 +42,11 @@ own_symbols bytes s = symbols_at (file_symbols bytes) s
 
 -- ---- the entries of each table, in order
 
-unfoldable pub map_entries : Reading → Option TypeInfo → List ℕ → List (List ℕ × Map)
-map_entries reading types bytes = flat_map (λ s. maps_in reading types s (own_symbols bytes s)) (object_sections bytes)
+unfoldable pub map_entries : ParseMode → Option TypeInfo → List ℕ → List (List ℕ × Map)
+map_entries mode types bytes = flat_map (λ s. maps_in mode types s (own_symbols bytes s)) (object_sections bytes)
 
-unfoldable pub program_entries : Reading → List ℕ → Option ℕ → List ℕ → List (List ℕ × Program)
-program_entries reading license version bytes = flat_map (λ s. programs_in reading license version s (own_symbols bytes s)) (object_sections bytes)
+unfoldable pub program_entries : ParseMode → List ℕ → Option ℕ → List ℕ → List (List ℕ × Program)
+program_entries mode license version bytes = flat_map (λ s. programs_in mode license version s (own_symbols bytes s)) (object_sections bytes)
 
 unfoldable pub function_entries : Option ExtInfo → List ℕ → List (FunctionKey × Function)
 function_entries ext bytes = flat_map (λ s. functions_in ext s (own_symbols bytes s)) (object_sections bytes)
@@ -59,11 +59,11 @@ name_entries bytes = flat_map section_info_entry (object_sections bytes)
 
 -- ---- the tables
 
-unfoldable pub maps_as : Reading → List ℕ → FinMap text_cmp Map
-maps_as reading bytes = put_all empty (map_entries reading (types_of_file bytes) bytes)
+unfoldable pub maps_as : ParseMode → List ℕ → FinMap text_cmp Map
+maps_as mode bytes = put_all empty (map_entries mode (types_of_file bytes) bytes)
 
-unfoldable pub programs_as : Reading → List ℕ → FinMap text_cmp Program
-programs_as reading bytes = put_all empty (program_entries reading (license_as reading bytes) (kernel_version_of bytes) bytes)
+unfoldable pub programs_as : ParseMode → List ℕ → FinMap text_cmp Program
+programs_as mode bytes = put_all empty (program_entries mode (license_as mode bytes) (kernel_version_of bytes) bytes)
 
 unfoldable pub functions : List ℕ → FinMap key_cmp Function
 functions bytes = put_all empty (function_entries (ext_of bytes) bytes)
@@ -77,63 +77,63 @@ unfoldable pub section_infos : List ℕ → FinMap text_cmp SectionIndex
 section_infos bytes = put_all (type_info_names bytes) (name_entries bytes)
 
 abbrev pub maps : List ℕ → FinMap text_cmp Map
-maps bytes = maps_as Stated bytes
+maps bytes = maps_as Strict bytes
 
 abbrev pub programs : List ℕ → FinMap text_cmp Program
-programs bytes = programs_as Stated bytes
+programs bytes = programs_as Strict bytes
 
 -- ---- the whole
 
 -- what programs and functions carry of it
-abbrev pub metadata_as : Reading → List ℕ → FileMetadata
-metadata_as reading bytes = record {
-  reading = reading;
-  license = license_as reading bytes;
+abbrev pub metadata_as : ParseMode → List ℕ → FileMetadata
+metadata_as mode bytes = record {
+  mode = mode;
+  license = license_as mode bytes;
   kernel_version = kernel_version_of bytes;
   btf = types_of_file bytes;
   btf_ext = ext_of bytes;
 }
 
 -- what its sections give
-abbrev pub tables_as : Reading → List ℕ → ObjectTables
-tables_as reading bytes = record {
-  maps = maps_as reading bytes;
-  programs = programs_as reading bytes;
+abbrev pub tables_as : ParseMode → List ℕ → ObjectTables
+tables_as mode bytes = record {
+  maps = maps_as mode bytes;
+  programs = programs_as mode bytes;
   functions = functions bytes;
   relocations = relocation_tables bytes;
   section_infos = section_infos bytes;
 }
 
-abbrev pub contents_as : Reading → List ℕ → FileContents
-contents_as reading bytes = record {
+abbrev pub contents_as : ParseMode → List ℕ → FileContents
+contents_as mode bytes = record {
   endianness = ei_data bytes;
-  metadata = metadata_as reading bytes;
+  metadata = metadata_as mode bytes;
   externs = externs_of bytes;
   symbol_table = symbol_table (file_symbols bytes);
-  object_tables = tables_as reading bytes;
+  object_tables = tables_as mode bytes;
 }
 
 -- ---- the first fault
 
 -- of one section, beside the file's types
-abbrev pub read_fault : Reading → Option TypeInfo → List ℕ → SectionOf → Option ParseError
-read_fault reading types bytes s = or_else (section_fault s) (fault_in reading types (section_of s) (section_symbols (file_symbols bytes) s.index))
+abbrev pub read_fault : ParseMode → Option TypeInfo → List ℕ → SectionOf → Option ParseError
+read_fault mode types bytes s = or_else (section_fault s) (fault_in mode types (section_of s) (section_symbols (file_symbols bytes) s.index))
 
-unfoldable pub sections_fault : Reading → Option TypeInfo → List ℕ → Option ParseError
-sections_fault reading types bytes = first_some (read_fault reading types bytes) (other_sections bytes)
+unfoldable pub sections_fault : ParseMode → Option TypeInfo → List ℕ → Option ParseError
+sections_fault mode types bytes = first_some (read_fault mode types bytes) (other_sections bytes)
 
 -- of a file, in the order of the steps: the file, code in the big-endian order, the license and the version, the
 -- symbols, the type information, the externs, the sections
-abbrev pub parse_fault_as : Reading → List ℕ → Option ParseError
-parse_fault_as reading bytes =
+abbrev pub parse_fault_as : ParseMode → List ℕ → Option ParseError
+parse_fault_as mode bytes =
     or_else (option_map ElfError (first_in (faults bytes)))
-    (or_else (order_fault_as reading bytes)
-    (or_else (license_fault_as reading bytes)
+    (or_else (order_fault_as mode bytes)
+    (or_else (license_fault_as mode bytes)
     (or_else (version_fault bytes)
     (or_else (symbols_fault bytes)
     (or_else (file_types_fault bytes)
     (or_else (file_externs_fault bytes)
-    (sections_fault reading (types_of_file bytes) bytes)))))))
+    (sections_fault mode (types_of_file bytes) bytes)))))))
 
 abbrev pub parse_fault : List ℕ → Option ParseError
-parse_fault bytes = parse_fault_as Stated bytes
+parse_fault bytes = parse_fault_as Strict bytes

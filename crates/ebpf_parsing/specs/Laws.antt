@@ -18,8 +18,8 @@ use Rattle.ebpf_parts.specs.Slots.{slots_of}
 use Rattle.ebpf_parts.specs.declared.error.ParseError.TheVariants.{InvalidProgramSection, BigEndianCode}
 use Rattle.ebpf_parts.specs.declared.maps.either.Map.{Map}
 use Rattle.ebpf_parts.specs.declared.program_section.ProgramSection.TheVariants.{Other}
-use Rattle.ebpf_parts.specs.declared.reading.Reading.{Reading}
-use Rattle.ebpf_parts.specs.declared.reading.Reading.TheVariants.{Broad}
+use Rattle.ebpf_parts.specs.declared.parse_mode.ParseMode.{ParseMode}
+use Rattle.ebpf_parts.specs.declared.parse_mode.ParseMode.TheVariants.{Lenient}
 use Rattle.ebpf_parts.specs.declared.section.EbpfSectionKind.TheVariants.{Data, Rodata, Bss, Text, Program as Programs}
 use Rattle.ebpf_parsing.specs.FileContents.{maps_as, programs_as, functions, relocation_tables, parse_fault_as, own_symbols, maps, programs, parse_fault}
 use Rattle.ebpf_parsing.specs.FileTypes.{externs_of, ext_of}
@@ -70,12 +70,12 @@ TablesOfCode = (bytes : List ℕ) (section : ℕ) (table : FinMap nat_cmp ElfRel
 
 -- in a file without a fault no relocation names symbol 0, which is none
 abbrev pub RelocationsNameSymbols : Type 0
-RelocationsNameSymbols = (reading : Reading) (bytes : List ℕ) → parse_fault_as reading bytes ≡ None → (section : ℕ) (table : FinMap nat_cmp ElfRelocation) → get (relocation_tables bytes) section ≡ Some table
+RelocationsNameSymbols = (mode : ParseMode) (bytes : List ℕ) → parse_fault_as mode bytes ≡ None → (section : ℕ) (table : FinMap nat_cmp ElfRelocation) → get (relocation_tables bytes) section ≡ Some table
     → (o : ℕ) (r : ElfRelocation) → get table o ≡ Some r → r.symbol_index ≢ 0
 
 -- a program's key is that of a function
 abbrev pub ProgramsHaveFunctions : Type 0
-ProgramsHaveFunctions = (reading : Reading) (bytes : List ℕ) (name : List ℕ) (p : Program) → get (programs_as reading bytes) name ≡ Some p
+ProgramsHaveFunctions = (mode : ParseMode) (bytes : List ℕ) (name : List ℕ) (p : Program) → get (programs_as mode bytes) name ≡ Some p
     → (f : Function) × (get (functions bytes) (p.section_index, p.address) ≡ Some f)
 
 -- the table has a symbol i, with this name and in this section
@@ -87,7 +87,7 @@ pub record IsSymbolIn (bytes : List ℕ) (i : ℕ) (name : List ℕ) (section : 
 
 -- the symbol of a map, where it has one, has the map's name and is in the map's section
 abbrev pub MapsHaveTheirSymbols : Type 0
-MapsHaveTheirSymbols = (reading : Reading) (bytes : List ℕ) (name : List ℕ) (m : Map) → get (maps_as reading bytes) name ≡ Some m
+MapsHaveTheirSymbols = (mode : ParseMode) (bytes : List ℕ) (name : List ℕ) (m : Map) → get (maps_as mode bytes) name ≡ Some m
     → (i : ℕ) → symbol_index_of m ≡ Some i → IsSymbolIn bytes i name (section_index_of m)
 
 -- the map of a section of data with this name
@@ -101,7 +101,7 @@ pub record IsDataMap (bytes : List ℕ) (name : List ℕ) (m : Map) : Type 0 whe
 
 -- any other map is that of a section of data
 abbrev pub OtherMapsAreOfData : Type 0
-OtherMapsAreOfData = (reading : Reading) (bytes : List ℕ) (name : List ℕ) (m : Map) → get (maps_as reading bytes) name ≡ Some m → symbol_index_of m ≡ None → IsDataMap bytes name m
+OtherMapsAreOfData = (mode : ParseMode) (bytes : List ℕ) (name : List ℕ) (m : Map) → get (maps_as mode bytes) name ≡ Some m → symbol_index_of m ≡ None → IsDataMap bytes name m
 
 -- an extern is not resolved: it has no id and no address
 abbrev pub ExternsAreUnresolved : Type 0
@@ -119,9 +119,9 @@ FunctionsTile = (infos : FuncAndLineInfo) (s : SectionValue) (symbols : List Sym
 
 -- a Text section of a file without a fault, by its place among the sections that are read; as each slice,
 -- the file has fewer than 2 ^ 64 bytes
-pub record IsTextSection (reading : Reading) (bytes : List ℕ) (n : ℕ) (s : SectionValue) : Type 0 where
+pub record IsTextSection (mode : ParseMode) (bytes : List ℕ) (n : ℕ) (s : SectionValue) : Type 0 where
   pub short : length bytes < 2 ^ 64
-  pub clear : parse_fault_as reading bytes ≡ None
+  pub clear : parse_fault_as mode bytes ≡ None
   pub here : slice_get (object_sections bytes) n ≡ Some s
   pub text : s.kind ≡ Text
 
@@ -141,39 +141,39 @@ pub record AreInOrder (table : FinMap key_cmp Function) (number : ℕ) (fs : Lis
 
 -- the table has at each address of the section the function that begins there,
 abbrev pub AtEachAddress : Type 0
-AtEachAddress = (reading : Reading) (bytes : List ℕ) (n : ℕ) (s : SectionValue) → IsTextSection reading bytes n s
+AtEachAddress = (mode : ParseMode) (bytes : List ℕ) (n : ℕ) (s : SectionValue) → IsTextSection mode bytes n s
     → (address : ℕ) → get (functions bytes) (s.index.0, address) ≡ find (λ f. f.address == address) (own_functions bytes s)
 
 -- and just these, also where the section's addresses begin again at 0 behind 2 ^ 64;
 abbrev pub InOrder : Type 0
-InOrder = (reading : Reading) (bytes : List ℕ) (n : ℕ) (s : SectionValue) → IsTextSection reading bytes n s → AreInOrder (functions bytes) s.index.0 (own_functions bytes s)
+InOrder = (mode : ParseMode) (bytes : List ℕ) (n : ℕ) (s : SectionValue) → IsTextSection mode bytes n s → AreInOrder (functions bytes) s.index.0 (own_functions bytes s)
 
 -- concatenated in order of their offset they are the slots of the section's data
 abbrev pub SectionsTile : Type 0
-SectionsTile = (reading : Reading) (bytes : List ℕ) (n : ℕ) (s : SectionValue) → IsTextSection reading bytes n s → (fs : List Function) → AreInOrder (functions bytes) s.index.0 fs
+SectionsTile = (mode : ParseMode) (bytes : List ℕ) (n : ℕ) (s : SectionValue) → IsTextSection mode bytes n s → (fs : List Function) → AreInOrder (functions bytes) s.index.0 fs
     → flat_map (λ f. f.instructions) fs ≡ slots_of s.bytes
 
 -- ---- what the two readings of a file have in common, and what each of them alone answers
 
--- the broad reading of a file has no fault, and gives what the stated one gives
+-- lenient parsing of a file has no fault, and gives what the stated one gives
 pub record IsReadAlike (bytes : List ℕ) : Type 0 where
-  pub license : license_as Broad bytes ≡ license_of bytes
-  pub maps : maps_as Broad bytes ≡ maps bytes
-  pub programs : programs_as Broad bytes ≡ programs bytes
-  pub sound : parse_fault_as Broad bytes ≡ None
+  pub license : license_as Lenient bytes ≡ license_of bytes
+  pub maps : maps_as Lenient bytes ≡ maps bytes
+  pub programs : programs_as Lenient bytes ≡ programs bytes
+  pub sound : parse_fault_as Lenient bytes ≡ None
 
--- so is each little-endian file that the stated reading takes
-abbrev pub ReadingsAgree : Type 0
-ReadingsAgree = (bytes : List ℕ) → ei_data bytes ≡ Little → parse_fault bytes ≡ None → IsReadAlike bytes
+-- so is each little-endian file that strict parsing takes
+abbrev pub ModesAgree : Type 0
+ModesAgree = (bytes : List ℕ) → ei_data bytes ≡ Little → parse_fault bytes ≡ None → IsReadAlike bytes
 
--- the broad reading refuses no file for a section's name
-abbrev pub BroadRefusesNoName : Type 0
-BroadRefusesNoName = (bytes name : List ℕ) → parse_fault_as Broad bytes ≢ Some (InvalidProgramSection name)
+-- lenient parsing refuses no file for a section's name
+abbrev pub LenientRefusesNoName : Type 0
+LenientRefusesNoName = (bytes name : List ℕ) → parse_fault_as Lenient bytes ≢ Some (InvalidProgramSection name)
 
--- the stated reading refuses no file for the order of its code
-abbrev pub StatedTakesBothOrders : Type 0
-StatedTakesBothOrders = (bytes : List ℕ) → parse_fault bytes ≢ Some BigEndianCode
+-- strict parsing refuses no file for the order of its code
+abbrev pub StrictTakesBothOrders : Type 0
+StrictTakesBothOrders = (bytes : List ℕ) → parse_fault bytes ≢ Some BigEndianCode
 
--- in the stated reading each program has a kind of the table
-abbrev pub StatedKindsAreNamed : Type 0
-StatedKindsAreNamed = (bytes name : List ℕ) (p : Program) → get (programs bytes) name ≡ Some p → p.section ≢ Other
+-- in strict parsing each program has a kind of the table
+abbrev pub StrictKindsAreNamed : Type 0
+StrictKindsAreNamed = (bytes name : List ℕ) (p : Program) → get (programs bytes) name ≡ Some p → p.section ≢ Other

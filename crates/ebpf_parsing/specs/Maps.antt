@@ -4,7 +4,7 @@ use Rattle.std.specs.Prelude.{ℕ, ◌^◌, not, List, [], ◌∷◌, Option, No
 use Rattle.ebpf_base.specs.Faults.{first_of, or_else, first_some}
 use Rattle.ebpf_base.specs.Numbers.{number_at}
 use Rattle.ebpf_base.specs.declared.endianness.Endianness.TheVariants.{Little}
-use Rattle.ebpf_btf_decls.specs.Maps.{btf_maps, btf_maps_fault, TypesInReading}
+use Rattle.ebpf_btf_decls.specs.Maps.{btf_maps, btf_maps_fault, TypesInMode}
 use Rattle.ebpf_parts.specs.Sections.{SectionValue}
 use Rattle.ebpf_parts.specs.declared.error.ParseError.{ParseError}
 use Rattle.ebpf_parts.specs.declared.error.ParseError.TheVariants.{InvalidMapDefinition, InvalidSymbol, NoSymbolsForSection, NoBTF}
@@ -119,12 +119,12 @@ legacy_maps_fault s symbols =
 -- ---- the BTF-defined maps of a section as `.maps` (libbpf's names)
 
 -- by name; without types there are none
-unfoldable pub btf_defined_maps : Option TypesInReading → SectionValue → List SymbolValue → List (List ℕ × Map)
+unfoldable pub btf_defined_maps : Option TypesInMode → SectionValue → List SymbolValue → List (List ℕ × Map)
 btf_defined_maps None s symbols = []
-btf_defined_maps (Some d) s symbols = btf_maps d.reading d.types (get (symbol_indices_by_name symbols)) s.index.0 s.name
+btf_defined_maps (Some d) s symbols = btf_maps d.mode d.types (get (symbol_indices_by_name symbols)) s.index.0 s.name
 
 -- no types, no symbol, then the faults of the maps
-unfoldable pub btf_defined_maps_fault : Option TypesInReading → SectionValue → List SymbolValue → Option ParseError
+unfoldable pub btf_defined_maps_fault : Option TypesInMode → SectionValue → List SymbolValue → Option ParseError
 btf_defined_maps_fault None s symbols = Some NoBTF
 btf_defined_maps_fault (Some d) s symbols =
-    or_else (first_of ((length symbols == 0, NoSymbolsForSection s.name) ∷ [])) (btf_maps_fault d.reading d.types (get (symbol_indices_by_name symbols)) s.index.0 s.name)
+    or_else (first_of ((length symbols == 0, NoSymbolsForSection s.name) ∷ [])) (btf_maps_fault d.mode d.types (get (symbol_indices_by_name symbols)) s.index.0 s.name)

@@ -4,7 +4,7 @@ ghost use Rattle.std.specs.Prelude.{◌≡◌, ℕ, IfOk, None, OnOk};
 ghost use Rattle.ebpf_base.specs.Faults.{Refuses, or_else};
 ghost use Rattle.ebpf_base.specs.Maps.{lent_bytes};
 ghost use Rattle.ebpf_parts.specs.Memory.{is_parse_memory};
-ghost use Rattle.ebpf_parts.specs.declared.reading.Reading.{Reading};
+ghost use Rattle.ebpf_parts.specs.declared.parse_mode.ParseMode.{ParseMode};
 ghost use Rattle.ebpf_parsing.specs.FileContents.{contents_as, metadata_as, parse_fault_as, sections_fault};
 ghost use Rattle.ebpf_parsing.specs.FileTypes.{externs_of, file_externs_fault, types_of_file, file_types_fault, type_info_names};
 ghost use Rattle.ebpf_parsing.specs.ObjectTables.{object_tables_of};
@@ -19,7 +19,7 @@ use ebpf_btf::{Btf, Endianness};
 use ebpf_elf::{ElfFile, SectionIndex};
 use ebpf_btf_ext::BtfExt;
 use ebpf_model::{ExternDesc, Symbol};
-use ebpf_parts::{ParseError, Reading};
+use ebpf_parts::{ParseError, ParseMode};
 use ebpf_sections::license::{read_license, read_version};
 use ebpf_sections::metadata::FileMetadata;
 use ebpf_sections::relocations::{RelocationTable, read_relocation_sections};
@@ -57,15 +57,15 @@ fn read_head(
     alloc: Global,
     file: &ElfFile<'_>,
     tables: &Groups<RelocationTable<'_>>,
-    reading: Reading,
+    mode: ParseMode,
     license: Items<u8>,
     kernel_version: Option<u32>,
 ) -> Result<FileHead, ParseError>
     requires tables { AreTablesOf file.now tables.now.groups }
     requires names { symbols_fault file.now ≡ None }
-    requires license { license ≡ license_as reading file.now }
+    requires license { license ≡ license_as mode file.now }
     requires version { kernel_version ≡ kernel_version_of file.now }
-    ensures metadata { IfOk result (λ head. head.metadata ≡ metadata_as reading file.now) }
+    ensures metadata { IfOk result (λ head. head.metadata ≡ metadata_as mode file.now) }
     ensures externs { IfOk result (λ head. head.externs ≡ externs_of file.now) }
     ensures section_infos { IfOk result (λ head. head.section_infos ≡ type_info_names file.now) }
     ensures types_clear { OnOk result (file_types_fault file.now ≡ None) }
@@ -76,7 +76,7 @@ fn read_head(
     let declared = FileExterns::read(alloc, file, types.btf)?;
     Ok(FileHead {
         metadata: FileMetadata {
-            reading,
+            mode,
             license,
             kernel_version,
             btf: declared.btf,
@@ -101,7 +101,7 @@ fn read_sections_and_symbols(
     requires grouped { (q : ℕ) → group_at symbols.groups.groups q ≡ section_symbols (file_symbols file.now) q }
     ensures object_tables { IfOk result (λ p. p.0 ≡ object_tables_of metadata.now section_infos file.now) }
     ensures symbol_table { IfOk result (λ p. p.1 ≡ symbol_table (file_symbols file.now)) }
-    ensures fault { Refuses is_parse_memory result (sections_fault metadata.now.reading metadata.now.btf file.now) }
+    ensures fault { Refuses is_parse_memory result (sections_fault metadata.now.mode metadata.now.btf file.now) }
 {
     let object_tables = read_sections(
         alloc,
@@ -126,15 +126,15 @@ fn read_tables(
     symbols: FileSymbols<'_>,
     head: FileHead,
 ) -> Result<FileContents, ParseError>
-    ghost reading: { Reading }
+    ghost mode: { ParseMode }
     requires tables { AreTablesOf file.now tables.now.groups }
     requires names { lent_bytes symbols.names.items ≡ names_of (file_symbols file.now) }
     requires grouped { (q : ℕ) → group_at symbols.groups.groups q ≡ section_symbols (file_symbols file.now) q }
-    requires metadata { head.metadata ≡ metadata_as reading file.now }
+    requires metadata { head.metadata ≡ metadata_as mode file.now }
     requires externs { head.externs ≡ externs_of file.now }
     requires section_infos { head.section_infos ≡ type_info_names file.now }
-    ensures file_contents { IfOk result (λ c. c ≡ contents_as reading file.now) }
-    ensures fault { Refuses is_parse_memory result (sections_fault reading (types_of_file file.now) file.now) }
+    ensures file_contents { IfOk result (λ c. c ≡ contents_as mode file.now) }
+    ensures fault { Refuses is_parse_memory result (sections_fault mode (types_of_file file.now) file.now) }
 {
     let FileHead {
         metadata,
@@ -163,37 +163,37 @@ fn read_parts(
     alloc: Global,
     file: &ElfFile<'_>,
     tables: &Groups<RelocationTable<'_>>,
-    reading: Reading,
+    mode: ParseMode,
 ) -> Result<FileContents, ParseError>
     requires tables { AreTablesOf file.now tables.now.groups }
-    ensures file_contents { IfOk result (λ c. c ≡ contents_as reading file.now) }
-    ensures fault { Refuses is_parse_memory result (or_else (license_fault_as reading file.now) (or_else (version_fault file.now) (or_else (symbols_fault file.now) (or_else (file_types_fault file.now) (or_else (file_externs_fault file.now) (sections_fault reading (types_of_file file.now) file.now)))))) }
+    ensures file_contents { IfOk result (λ c. c ≡ contents_as mode file.now) }
+    ensures fault { Refuses is_parse_memory result (or_else (license_fault_as mode file.now) (or_else (version_fault file.now) (or_else (symbols_fault file.now) (or_else (file_types_fault file.now) (or_else (file_externs_fault file.now) (sections_fault mode (types_of_file file.now) file.now)))))) }
 {
-    let license = read_license(alloc, file, tables, reading)?;
+    let license = read_license(alloc, file, tables, mode)?;
     let kernel_version = read_version(alloc, file, tables)?;
     let symbols = read_symbols(alloc, file)?;
-    let head = read_head(alloc, file, tables, reading, license, kernel_version)?;
+    let head = read_head(alloc, file, tables, mode, license, kernel_version)?;
     read_tables(alloc, file, tables, symbols, head)
 }
 
 impl FileContents {
-    /// What the bytes of an ELF64 file hold in a reading.
+    /// What the bytes of an ELF64 file hold by a parse mode.
     ///
     /// # Errors
     ///
     /// The first fault of the file, in this order: of the file itself, code in the big-endian order where the reading is
-    /// `Broad`, its license, its kernel version, its symbols' names, its type information, its externs, and its sections
+    /// `Lenient`, its license, its kernel version, its symbols' names, its type information, its externs, and its sections
     /// by number. `OutOfMemory` only where memory was refused.
-    pub fn read(alloc: Global, bytes: &[u8], reading: Reading) -> Result<FileContents, ParseError>
-        ensures file_contents { IfOk result (λ c. c ≡ contents_as reading bytes.now) }
-        ensures fault { Refuses is_parse_memory result (parse_fault_as reading bytes.now) }
+    pub fn read(alloc: Global, bytes: &[u8], mode: ParseMode) -> Result<FileContents, ParseError>
+        ensures file_contents { IfOk result (λ c. c ≡ contents_as mode bytes.now) }
+        ensures fault { Refuses is_parse_memory result (parse_fault_as mode bytes.now) }
     {
         let file = match ElfFile::parse(bytes) {
             Ok(file) => file,
             Err(error) => return Err(ParseError::ElfError(error)),
         };
-        check_order(&file, reading)?;
+        check_order(&file, mode)?;
         let tables = read_relocation_sections(alloc, &file)?;
-        read_parts(alloc, &file, &tables, reading)
+        read_parts(alloc, &file, &tables, mode)
     }
 }

@@ -3,7 +3,7 @@
 ghost use Rattle.std.specs.Prelude.{◌≡◌, IfOk, IfErr, OnOk, true, ◌≤◌, ◌<◌, ◌+◌, ◌*◌, length, slice_index};
 ghost use Rattle.ebpf_base.specs.Faults.{Refuses, first_some};
 ghost use Rattle.ebpf_base.specs.Maps.{put_all};
-ghost use Rattle.ebpf_btf_decls.specs.Maps.{types_in_reading};
+ghost use Rattle.ebpf_btf_decls.specs.Maps.{types_in_mode};
 ghost use Rattle.ebpf_parts.specs.Memory.{is_parse_memory};
 ghost use Rattle.ebpf_parsing.specs.Maps.{data_bytes, data_flags, data_map, data_map_fault, word_at, legacy_pinning, definition_of, legacy_map, legacy_fault, legacy_maps, legacy_maps_fault, btf_defined_maps, btf_defined_maps_fault};
 ghost use Rattle.ebpf_parsing.specs.ObjectTables.{last_maps};
@@ -12,7 +12,7 @@ use ebpf_base::{ByName, Items, Text};
 use ebpf_btf::Btf;
 use ebpf_btf_decls::{BtfDefinedMaps, parse_error};
 use ebpf_parts::maps::{LegacyMap, Map, PinningType, bpf_map_def};
-use ebpf_parts::{EbpfSectionKind, ParseError, Reading, Section};
+use ebpf_parts::{EbpfSectionKind, ParseError, ParseMode, Section};
 use ebpf_sections::sections::{SectionNames, is_index};
 use ebpf_sections::symbols::{NamedSymbol, symbol_indices_by_name};
 use std::alloc::Global;
@@ -236,16 +236,16 @@ pub fn put_legacy_maps(
 pub fn find_btf_defined_maps<'b>(
     alloc: Global,
     types: &'b Option<Btf>,
-    reading: Reading,
+    mode: ParseMode,
     names: &SectionNames<'_>,
 ) -> Result<Option<BtfDefinedMaps<'b>>, ParseError>
-    ensures types { IfOk result (λ declared. declared ≡ types_in_reading reading types.now) }
+    ensures types { IfOk result (λ declared. declared ≡ types_in_mode mode types.now) }
     ensures memory { IfErr result (λ e. is_parse_memory e ≡ true) }
 {
     let Some(types) = types else {
         return Ok(None);
     };
-    match BtfDefinedMaps::gather(alloc, types, reading, names.maps.as_slice()) {
+    match BtfDefinedMaps::gather(alloc, types, mode, names.maps.as_slice()) {
         Ok(declared) => Ok(Some(declared)),
         Err(error) => Err(parse_error(error)),
     }

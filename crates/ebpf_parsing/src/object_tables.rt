@@ -5,7 +5,7 @@ ghost use Rattle.std.specs.List.{flat_map};
 ghost use Rattle.std.specs.Prelude.{◌≡◌, ◌==◌, ◌∷◌, [], ℕ, filter, map, IfOk, OnOk, IfErr, Some, None, true};
 ghost use Rattle.ebpf_base.specs.Faults.{Refuses, or_else};
 ghost use Rattle.ebpf_base.specs.Maps.{put_all};
-ghost use Rattle.ebpf_btf_decls.specs.Maps.{types_in_reading};
+ghost use Rattle.ebpf_btf_decls.specs.Maps.{types_in_mode};
 ghost use Rattle.ebpf_elf.specs.Relocations.{relocation_sections, relocated_section, relocations, table_entries};
 ghost use Rattle.ebpf_parts.specs.Memory.{is_parse_memory};
 ghost use Rattle.ebpf_parts.specs.ProgramTypes.{section_as};
@@ -47,7 +47,7 @@ pub struct SectionInputs<'s> {
     pub records: RecordsByName<'s>,
     pub declared: Option<BtfDefinedMaps<'s>>,
     ghost infos: { records ≡ metadata.now.btf_ext },
-    ghost declared_are: { declared ≡ types_in_reading metadata.now.reading metadata.now.btf },
+    ghost declared_are: { declared ≡ types_in_mode metadata.now.mode metadata.now.btf },
 }
 
 impl<'s> Model for SectionInputs<'s> {
@@ -172,11 +172,11 @@ impl ObjectTables {
         symbols: &[NamedSymbol<'_>],
     ) -> Result<(), ParseError>
         requires { section.now.kind ≡ Programs }
-        ensures put { OnOk result (self.new ≡ record self.old { programs = put_all self.old.programs (programs_of inputs.now.license inputs.now.kernel_version section.now symbols.now (section_as inputs.now.reading section.now.name)); functions = put_all self.old.functions (functions_in inputs.now.btf_ext section.now symbols.now) }) }
-        ensures fault { Refuses is_parse_memory result (program_section_faults inputs.now.reading section.now symbols.now) }
+        ensures put { OnOk result (self.new ≡ record self.old { programs = put_all self.old.programs (programs_of inputs.now.license inputs.now.kernel_version section.now symbols.now (section_as inputs.now.mode section.now.name)); functions = put_all self.old.functions (functions_in inputs.now.btf_ext section.now symbols.now) }) }
+        ensures fault { Refuses is_parse_memory result (program_section_faults inputs.now.mode section.now symbols.now) }
     {
         let alloc = inputs.alloc;
-        let kind = ProgramSection::read(alloc, section.name, inputs.metadata.reading)?;
+        let kind = ProgramSection::read(alloc, section.name, inputs.metadata.mode)?;
         if symbols.len() == 0 {
             return Err(ParseError::NoSymbolsForSection {
                 section_name: Text::from_str(alloc, section.name)?,
@@ -205,7 +205,7 @@ impl ObjectTables {
         ensures inputs { inputs.new ≡ inputs.old }
         ensures others { OnOk result (self.new.relocations ≡ self.old.relocations) }
         ensures put { OnOk result (record self.new { relocations = put_all self.old.relocations (relocations_in section.now); section_infos = put_all self.new.section_infos ((section.now.name, section.now.index) ∷ []) } ≡ added_last last.now inputs.old self.old section.now symbols.now) }
-        ensures fault { Refuses is_parse_memory result (fault_in inputs.old.reading inputs.old.btf section.now symbols.now) }
+        ensures fault { Refuses is_parse_memory result (fault_in inputs.old.mode inputs.old.btf section.now symbols.now) }
     {
         let alloc = inputs.alloc;
         match section.kind {
@@ -241,7 +241,7 @@ impl ObjectTables {
         requires { tables.now ≡ filter (λ r. relocated_section r == section.now.index) (relocation_sections section.now.file) }
         ensures inputs { inputs.new ≡ inputs.old }
         ensures put { OnOk result (self.new ≡ added_last last.now inputs.old self.old (section_of section.now) symbols.now) }
-        ensures fault { Refuses is_parse_memory result (or_else (section_fault section.now) (fault_in inputs.old.reading inputs.old.btf (section_of section.now) symbols.now)) }
+        ensures fault { Refuses is_parse_memory result (or_else (section_fault section.now) (fault_in inputs.old.mode inputs.old.btf (section_of section.now) symbols.now)) }
     {
         let alloc = inputs.alloc;
         let section = read_section(alloc, section, tables)?;
@@ -261,7 +261,7 @@ fn section_inputs<'s>(
     ensures memory { IfErr result (λ e. is_parse_memory e ≡ true) }
 {
     let records = RecordsByName::gather(alloc, &metadata.btf_ext, names.code.as_slice())?;
-    let declared = find_btf_defined_maps(alloc, &metadata.btf, metadata.reading, names)?;
+    let declared = find_btf_defined_maps(alloc, &metadata.btf, metadata.mode, names)?;
     Ok(SectionInputs {
         alloc,
         metadata,
@@ -283,7 +283,7 @@ fn read_by_last(
     requires grouped { (q : ℕ) → group_at symbols.now.groups q ≡ section_symbols (file_symbols file.now) q }
     requires last { last.now ≡ last_data (object_sections file.now) }
     ensures object_tables { IfOk result (λ p. p ≡ object_tables_of inputs.old section_infos file.now) }
-    ensures fault { Refuses is_parse_memory result (sections_fault inputs.old.reading inputs.old.btf file.now) }
+    ensures fault { Refuses is_parse_memory result (sections_fault inputs.old.mode inputs.old.btf file.now) }
 {
     let mut object_tables = ObjectTables::new(inputs.alloc, section_infos);
     for section in file.sections() {
@@ -308,7 +308,7 @@ pub fn read_sections(
     requires tables { AreTablesOf file.now tables.now.groups }
     requires grouped { (q : ℕ) → group_at symbols.now.groups q ≡ section_symbols (file_symbols file.now) q }
     ensures object_tables { IfOk result (λ p. p ≡ object_tables_of metadata.now section_infos file.now) }
-    ensures fault { Refuses is_parse_memory result (sections_fault metadata.now.reading metadata.now.btf file.now) }
+    ensures fault { Refuses is_parse_memory result (sections_fault metadata.now.mode metadata.now.btf file.now) }
 {
     let names = SectionNames::read(alloc, file)?;
     let mut inputs = section_inputs(alloc, metadata, &names)?;

@@ -7,7 +7,7 @@ use Rattle.std.specs.Str.{bytes_eq}
 use Rattle.std.proofs.lemmas.Bool.{cases_Bool, eqb-true, or_parts}
 use Rattle.ebpf_base.specs.Faults.{or_else}
 use Rattle.ebpf_parts.proofs.ProgramKinds.{marked_says_none}
-use Rattle.ebpf_parts.specs.ProgramTypes.{is_marked, without_mark, program_section, first_piece, second_piece, lookup_piece, one_piece, cgroup_section, piece_sections, pair_sections, xdp_sections, sk_skb_sections, sk_reuseport_sections, cgroup_skb_sections, cgroup_sections, socket_events, address_calls, section_as, NoNameIsOther, BroadKeepsKinds, BroadTakesNames}
+use Rattle.ebpf_parts.specs.ProgramTypes.{is_marked, without_mark, program_section, first_piece, second_piece, lookup_piece, one_piece, cgroup_section, piece_sections, pair_sections, xdp_sections, sk_skb_sections, sk_reuseport_sections, cgroup_skb_sections, cgroup_sections, socket_events, address_calls, section_as, NoNameIsOther, LenientKeepsKinds, LenientTakesNames}
 use Rattle.ebpf_parts.specs.declared.program_section.ProgramSection.{ProgramSection}
 use Rattle.ebpf_parts.specs.declared.program_section.ProgramSection.TheVariants.{CgroupSock, CgroupSockAddr, Other}
 use Rattle.ebpf_parts.specs.declared.programs.attach_type.CgroupSockAttachType.{CgroupSockAttachType}
@@ -81,7 +81,7 @@ pub no_name_says_other : NoNameIsOther
 unfolding is_other
 no_name_says_other name is = let no : true ≡ false = sym (ap is_other is) ∙ none_other name in cc
 
--- ---- the broad reading
+-- ---- lenient parsing
 
 -- a name that does not begin with `?`
 pub unmarked_plain : (name : List ℕ) → ((rest : List ℕ) → name ≢ 63 ∷ rest) → name ≡ without_mark name
@@ -92,14 +92,14 @@ unmarked_plain (b ∷ name) other = by_test (b == 63) refl
     by_test true is = absurd (other name (ap (λ c. c ∷ name) (eqb-true b 63 is)))
     by_test false is = refl
 
-pub broad_keeps_kinds : BroadKeepsKinds
+pub lenient_keeps_kinds : LenientKeepsKinds
 unfolding section_as
-broad_keeps_kinds name kind is = elim (cases_Bool (is_marked name)) [
+lenient_keeps_kinds name kind is = elim (cases_Bool (is_marked name)) [
   | inl marked ↦ absurd (cc (marked_says_none name marked))
   | inr plain ↦
       ap (λ b. Some (unwrap_or (program_section (if b then drop 1 name else name)) Other)) plain ∙ ap (λ o. Some (unwrap_or o Other)) is
 ]
 
-pub broad_takes_names : BroadTakesNames
+pub lenient_takes_names : LenientTakesNames
 unfolding section_as
-broad_takes_names name = refl
+lenient_takes_names name = refl

@@ -31,8 +31,8 @@ use Rattle.ebpf_parts.specs.declared.programs.attach_type.SkSkbKind.{SkSkbKind}
 use Rattle.ebpf_parts.specs.declared.programs.attach_type.SkSkbKind.TheVariants.{StreamParser, StreamVerdict}
 use Rattle.ebpf_parts.specs.declared.programs.attach_type.XdpAttachType.{XdpAttachType}
 use Rattle.ebpf_parts.specs.declared.programs.attach_type.XdpAttachType.TheVariants.{Interface, CpuMap, DevMap}
-use Rattle.ebpf_parts.specs.declared.reading.Reading.{Reading}
-use Rattle.ebpf_parts.specs.declared.reading.Reading.TheVariants.{Stated, Broad}
+use Rattle.ebpf_parts.specs.declared.parse_mode.ParseMode.{ParseMode}
+use Rattle.ebpf_parts.specs.declared.parse_mode.ParseMode.TheVariants.{Strict, Lenient}
 
 -- the text before the first slash
 abbrev pub first_piece : List ℕ → List ℕ
@@ -454,14 +454,14 @@ TypesAgree =
 
 -- ---- what the name of a program's section says, by how its object is read
 
--- the kind that the table has for a name; in the broad reading that of the name behind a `?`, and for every other name `Other`
-unfoldable pub section_as : Reading → List ℕ → Option ProgramSection
-section_as Stated name = program_section name
-section_as Broad name = Some (unwrap_or (program_section (without_mark name)) Other)
+-- the kind that the table has for a name; in lenient parsing that of the name behind a `?`, and for every other name `Other`
+unfoldable pub section_as : ParseMode → List ℕ → Option ProgramSection
+section_as Strict name = program_section name
+section_as Lenient name = Some (unwrap_or (program_section (without_mark name)) Other)
 
 -- a name that says no kind
-abbrev pub section_fault_as : Reading → List ℕ → Option ParseError
-section_fault_as reading name = no_section name (section_as reading name)
+abbrev pub section_fault_as : ParseMode → List ℕ → Option ParseError
+section_fault_as mode name = no_section name (section_as mode name)
 
 -- ---- laws
 
@@ -469,10 +469,10 @@ section_fault_as reading name = no_section name (section_as reading name)
 abbrev pub NoNameIsOther : Type 0
 NoNameIsOther = (name : List ℕ) → program_section name ≢ Some Other
 
--- what has a kind in the stated reading has it in the broad one
-abbrev pub BroadKeepsKinds : Type 0
-BroadKeepsKinds = (name : List ℕ) (kind : ProgramSection) → section_as Stated name ≡ Some kind → section_as Broad name ≡ Some kind
+-- what has a kind in strict parsing has it in the broad one
+abbrev pub LenientKeepsKinds : Type 0
+LenientKeepsKinds = (name : List ℕ) (kind : ProgramSection) → section_as Strict name ≡ Some kind → section_as Lenient name ≡ Some kind
 
--- in the broad reading no name is refused
-abbrev pub BroadTakesNames : Type 0
-BroadTakesNames = (name : List ℕ) → section_fault_as Broad name ≡ None
+-- in lenient parsing no name is refused
+abbrev pub LenientTakesNames : Type 0
+LenientTakesNames = (name : List ℕ) → section_fault_as Lenient name ≡ None

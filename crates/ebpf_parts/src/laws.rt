@@ -1,6 +1,6 @@
 //! What holds of slots, and of the names of program sections.
 
-ghost use Rattle.ebpf_parts.specs.ProgramTypes.{TypesAgree, NoNameIsOther, BroadKeepsKinds, BroadTakesNames};
+ghost use Rattle.ebpf_parts.specs.ProgramTypes.{TypesAgree, NoNameIsOther, LenientKeepsKinds, LenientTakesNames};
 ghost use Rattle.ebpf_parts.specs.Slots.{SlotIsBytes, SlotsAreBytes};
 
 /// The bytes of a slot are the eight that it was read of, and the bytes of all slots, one after the other, are those that they were
@@ -19,6 +19,6 @@ pub fn kinds_of_names_agree()
 /// broad reading too, which refuses no name.
 pub fn names_are_read()
     ensures stated { NoNameIsOther }
-    ensures kept { BroadKeepsKinds }
-    ensures taken { BroadTakesNames }
+    ensures kept { LenientKeepsKinds }
+    ensures taken { LenientTakesNames }
 {}

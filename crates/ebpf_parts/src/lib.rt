@@ -8,11 +8,11 @@ pub mod laws;
 pub mod maps;
 mod program_section;
 pub mod programs;
-mod reading;
+mod parse_mode;
 mod section;
 mod section_name;
 
 pub use error::{ParseError, SymbolWords, Within};
 pub use program_section::ProgramSection;
-pub use reading::Reading;
+pub use parse_mode::ParseMode;
 pub use section::{EbpfSectionKind, Relocation, Section};

@@ -10,7 +10,7 @@ use crate::programs::{
     CgroupSkbAttachType, CgroupSockAddrAttachType, CgroupSockAttachType, CgroupSockoptAttachType,
     SkReuseportAttachType, SkSkbKind, XdpAttachType,
 };
-use crate::reading::Reading;
+use crate::parse_mode::ParseMode;
 use crate::section_name::program_section;
 use ebpf_base::Text;
 use std::alloc::Global;
@@ -77,7 +77,7 @@ pub enum ProgramSection {
     Iter {
         sleepable: bool,
     },
-    /// A name that is in no row of the table: only in the broad reading.
+    /// A name that is in no row of the table: only in lenient parsing.
     Other,
 }
 
@@ -110,20 +110,20 @@ impl ProgramSection {
         }
     }
 
-    /// The kind that the name of a program's section says, by how its object is read: `Stated` as `from_str`. `Broad`
+    /// The kind that the name of a program's section says, by the parse mode: `Strict` as `from_str`. `Lenient`
     /// has the same kinds, those of names with a `?` before them too, and for every other name `Other`.
     ///
     /// # Errors
     ///
-    /// `InvalidProgramSection` where the name says no kind, and the reading is `Stated`.
+    /// `InvalidProgramSection` where the name says no kind, and the reading is `Strict`.
     #[tactic(auto, unfolding(crate::specs::ProgramTypes::section_as))]
-    pub fn read(alloc: Global, name: &str, reading: Reading) -> Result<ProgramSection, ParseError>
-        ensures section { IfOk result (λ section. section_as reading name.now ≡ Some section) }
-        ensures fault { Refuses is_parse_memory result (section_fault_as reading name.now) }
+    pub fn read(alloc: Global, name: &str, mode: ParseMode) -> Result<ProgramSection, ParseError>
+        ensures section { IfOk result (λ section. section_as mode name.now ≡ Some section) }
+        ensures fault { Refuses is_parse_memory result (section_fault_as mode name.now) }
     {
-        match reading {
-            Reading::Stated => ProgramSection::from_str(alloc, name),
-            Reading::Broad => {
+        match mode {
+            ParseMode::Strict => ProgramSection::from_str(alloc, name),
+            ParseMode::Lenient => {
                 Ok(program_section(without_mark(name)).unwrap_or(ProgramSection::Other))
             }
         }

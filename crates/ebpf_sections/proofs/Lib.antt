@@ -2,7 +2,7 @@ pub mod Entries
 pub mod InOrder
 pub mod Records
 pub mod NamedSymbols
-pub mod TextSymbols
+pub mod FunctionSymbols
 pub mod Bytes
 pub mod RelocationTables
 pub mod Lasts

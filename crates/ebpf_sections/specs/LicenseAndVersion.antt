@@ -9,11 +9,11 @@ use Rattle.ebpf_elf.specs.Sections.{SectionOf}
 use Rattle.ebpf_parts.specs.Sections.{section_of, section_fault}
 use Rattle.ebpf_parts.specs.declared.error.ParseError.{ParseError}
 use Rattle.ebpf_parts.specs.declared.error.ParseError.TheVariants.{InvalidLicense, MissingLicenseNullTerminator, InvalidKernelVersion}
-use Rattle.ebpf_parts.specs.declared.reading.Reading.{Reading}
-use Rattle.ebpf_parts.specs.declared.reading.Reading.TheVariants.{Stated, Broad}
+use Rattle.ebpf_parts.specs.declared.parse_mode.ParseMode.{ParseMode}
+use Rattle.ebpf_parts.specs.declared.parse_mode.ParseMode.TheVariants.{Strict, Lenient}
 use Rattle.ebpf_sections.specs.Sections.{first_section_named}
 
--- ---- the license: a text that ends with its only zero byte; in the broad reading what stands before the first zero,
+-- ---- the license: a text that ends with its only zero byte; in lenient parsing what stands before the first zero,
 -- and nothing where the section has no bytes
 
 abbrev pub has_zero : List ℕ → Bool
@@ -23,30 +23,30 @@ has_zero bytes = list_any (λ b. b == 0) bytes
 abbrev pub front_of : List ℕ → List ℕ
 front_of bytes = take (length bytes - 1) bytes
 
-unfoldable pub stated_text_fault : List ℕ → Option ParseError
-stated_text_fault bytes = first_of (
+unfoldable pub strict_text_fault : List ℕ → Option ParseError
+strict_text_fault bytes = first_of (
     (nat_lt (length bytes) 2, InvalidLicense bytes)
     ∷ (not (has_zero bytes), MissingLicenseNullTerminator bytes)
     ∷ (has_zero (front_of bytes), InvalidLicense bytes)
     ∷ [])
 
-unfoldable pub license_text : Reading → List ℕ → List ℕ
-license_text Stated bytes = front_of bytes
-license_text Broad bytes = before_first (λ b. b == 0) bytes
+unfoldable pub license_text : ParseMode → List ℕ → List ℕ
+license_text Strict bytes = front_of bytes
+license_text Lenient bytes = before_first (λ b. b == 0) bytes
 
 -- bytes without a zero are refused as stated
-unfoldable pub license_text_fault : Reading → List ℕ → Option ParseError
-license_text_fault Stated bytes = stated_text_fault bytes
-license_text_fault Broad bytes = if length bytes == 0 || has_zero bytes then None else stated_text_fault bytes
+unfoldable pub license_text_fault : ParseMode → List ℕ → Option ParseError
+license_text_fault Strict bytes = strict_text_fault bytes
+license_text_fault Lenient bytes = if length bytes == 0 || has_zero bytes then None else strict_text_fault bytes
 
 -- the license in a section; a file without one has this
-abbrev pub license_in : Reading → Option SectionOf → List ℕ
-license_in reading None = codes "GPL"
-license_in reading (Some s) = license_text reading (section_of s).bytes
+abbrev pub license_in : ParseMode → Option SectionOf → List ℕ
+license_in mode None = codes "GPL"
+license_in mode (Some s) = license_text mode (section_of s).bytes
 
-abbrev pub license_fault_in : Reading → Option SectionOf → Option ParseError
-license_fault_in reading None = None
-license_fault_in reading (Some s) = or_else (section_fault s) (license_text_fault reading (section_of s).bytes)
+abbrev pub license_fault_in : ParseMode → Option SectionOf → Option ParseError
+license_fault_in mode None = None
+license_fault_in mode (Some s) = or_else (section_fault s) (license_text_fault mode (section_of s).bytes)
 
 -- ---- the kernel version: a number of four bytes in the file's order, of which one stands for all kernels
 
@@ -69,17 +69,17 @@ version_fault_in (Some s) = or_else (section_fault s) (version_number_fault (sec
 
 -- ---- of a file
 
-unfoldable pub license_as : Reading → List ℕ → List ℕ
-license_as reading bytes = license_in reading (first_section_named (codes "license") bytes)
+unfoldable pub license_as : ParseMode → List ℕ → List ℕ
+license_as mode bytes = license_in mode (first_section_named (codes "license") bytes)
 
-unfoldable pub license_fault_as : Reading → List ℕ → Option ParseError
-license_fault_as reading bytes = license_fault_in reading (first_section_named (codes "license") bytes)
+unfoldable pub license_fault_as : ParseMode → List ℕ → Option ParseError
+license_fault_as mode bytes = license_fault_in mode (first_section_named (codes "license") bytes)
 
 unfoldable pub kernel_version_of : List ℕ → Option ℕ
 kernel_version_of bytes = version_in (ei_data bytes) (first_section_named (codes "version") bytes)
 
 abbrev pub license_of : List ℕ → List ℕ
-license_of bytes = license_as Stated bytes
+license_of bytes = license_as Strict bytes
 
 unfoldable pub version_fault : List ℕ → Option ParseError
 version_fault bytes = version_fault_in (first_section_named (codes "version") bytes)

@@ -18,8 +18,8 @@ use Rattle.ebpf_elf.specs.declared.section.SectionIndex.{SectionIndex}
 use Rattle.ebpf_parts.specs.Sections.{kind_of_section, section_of, SectionValue, name_or_empty}
 use Rattle.ebpf_parts.specs.declared.error.ParseError.{ParseError}
 use Rattle.ebpf_parts.specs.declared.error.ParseError.TheVariants.{BigEndianCode}
-use Rattle.ebpf_parts.specs.declared.reading.Reading.{Reading}
-use Rattle.ebpf_parts.specs.declared.reading.Reading.TheVariants.{Stated, Broad}
+use Rattle.ebpf_parts.specs.declared.parse_mode.ParseMode.{ParseMode}
+use Rattle.ebpf_parts.specs.declared.parse_mode.ParseMode.TheVariants.{Strict, Lenient}
 use Rattle.ebpf_parts.specs.declared.section.EbpfSectionKind.{EbpfSectionKind}
 use Rattle.ebpf_parts.specs.declared.section.EbpfSectionKind.TheVariants.{Text, Program as Programs, Data, Rodata, Bss}
 
@@ -38,7 +38,7 @@ other_sections bytes = filter (λ s. not (is_type_information s)) (sections byte
 abbrev pub object_sections : List ℕ → List SectionValue
 object_sections bytes = map section_of (other_sections bytes)
 
--- ---- code in the big-endian order, which the broad reading refuses as libbpf does: its slots would come out wrong
+-- ---- code in the big-endian order, which lenient parsing refuses as libbpf does: its slots would come out wrong
 
 abbrev pub is_kind_of_code : EbpfSectionKind → Bool
 is_kind_of_code Text = true
@@ -56,9 +56,9 @@ is_big Little = false
 unfoldable pub has_big_endian_code : List ℕ → Bool
 has_big_endian_code bytes = is_big (ei_data bytes) && list_any has_code (sections bytes)
 
-abbrev pub order_fault_as : Reading → List ℕ → Option ParseError
-order_fault_as Stated bytes = None
-order_fault_as Broad bytes = if has_big_endian_code bytes then Some BigEndianCode else None
+abbrev pub order_fault_as : ParseMode → List ℕ → Option ParseError
+order_fault_as Strict bytes = None
+order_fault_as Lenient bytes = if has_big_endian_code bytes then Some BigEndianCode else None
 
 -- ---- values by the section that they belong to
 

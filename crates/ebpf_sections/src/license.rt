@@ -4,8 +4,8 @@ ghost use Rattle.std.specs.List.{before_first, position};
 ghost use Rattle.std.specs.Prelude.{◌≡◌, ◌==◌, ◌<◌, IfOk, IfSome, length};
 ghost use Rattle.ebpf_base.specs.Faults.{Refuses};
 ghost use Rattle.ebpf_parts.specs.Memory.{is_parse_memory};
-ghost use Rattle.ebpf_parts.specs.declared.reading.Reading.TheVariants.{Broad};
-ghost use Rattle.ebpf_sections.specs.LicenseAndVersion.{has_zero, front_of, stated_text_fault, license_text, license_text_fault, license_as, license_fault_as, version_number_fault, version_of, kernel_version_of, version_fault};
+ghost use Rattle.ebpf_parts.specs.declared.parse_mode.ParseMode.TheVariants.{Lenient};
+ghost use Rattle.ebpf_sections.specs.LicenseAndVersion.{has_zero, front_of, strict_text_fault, license_text, license_text_fault, license_as, license_fault_as, version_number_fault, version_of, kernel_version_of, version_fault};
 ghost use Rattle.ebpf_sections.specs.Sections.{AreTablesOf};
 
 use crate::relocations::RelocationTable;
@@ -14,7 +14,7 @@ use ebpf_base::Items;
 use ebpf_base::numbers::read_u32;
 use ebpf_btf::Endianness;
 use ebpf_elf::ElfFile;
-use ebpf_parts::{ParseError, Reading};
+use ebpf_parts::{ParseError, ParseMode};
 use std::alloc::Global;
 
 /// Whether bytes have a zero.
@@ -44,10 +44,10 @@ fn before_zero(bytes: &[u8]) -> &[u8]
 }
 
 /// The license in a section's bytes, without the zero byte at its end.
-#[tactic(auto, unfolding(crate::specs::LicenseAndVersion::stated_text_fault))]
-fn stated_license(alloc: Global, bytes: &[u8]) -> Result<Items<u8>, ParseError>
+#[tactic(auto, unfolding(crate::specs::LicenseAndVersion::strict_text_fault))]
+fn strict_license(alloc: Global, bytes: &[u8]) -> Result<Items<u8>, ParseError>
     ensures license { IfOk result (λ license. license ≡ front_of bytes.now) }
-    ensures fault { Refuses is_parse_memory result (stated_text_fault bytes.now) }
+    ensures fault { Refuses is_parse_memory result (strict_text_fault bytes.now) }
 {
     if bytes.len() < 2 {
         return Err(ParseError::InvalidLicense {
@@ -68,27 +68,27 @@ fn stated_license(alloc: Global, bytes: &[u8]) -> Result<Items<u8>, ParseError>
     Ok(Items::from_vec(Vec::from_slice(alloc, front)?))
 }
 
-/// The license in a section's bytes in the broad reading: the bytes before the first zero, which may be none.
-#[tactic(auto, unfolding(crate::specs::LicenseAndVersion::license_text, crate::specs::LicenseAndVersion::license_text_fault, crate::specs::LicenseAndVersion::stated_text_fault))]
-fn broad_license(alloc: Global, bytes: &[u8]) -> Result<Items<u8>, ParseError>
-    ensures license { IfOk result (λ license. license ≡ license_text Broad bytes.now) }
-    ensures fault { Refuses is_parse_memory result (license_text_fault Broad bytes.now) }
+/// The license in a section's bytes in lenient parsing: the bytes before the first zero, which may be none.
+#[tactic(auto, unfolding(crate::specs::LicenseAndVersion::license_text, crate::specs::LicenseAndVersion::license_text_fault, crate::specs::LicenseAndVersion::strict_text_fault))]
+fn lenient_license(alloc: Global, bytes: &[u8]) -> Result<Items<u8>, ParseError>
+    ensures license { IfOk result (λ license. license ≡ license_text Lenient bytes.now) }
+    ensures fault { Refuses is_parse_memory result (license_text_fault Lenient bytes.now) }
 {
     if !bytes.is_empty() && !has_zero(bytes) {
-        return stated_license(alloc, bytes);
+        return strict_license(alloc, bytes);
     }
     Ok(Items::from_vec(Vec::from_slice(alloc, before_zero(bytes))?))
 }
 
 /// The license in a section's bytes, by the reading.
 #[tactic(auto, unfolding(crate::specs::LicenseAndVersion::license_text, crate::specs::LicenseAndVersion::license_text_fault))]
-fn license_in(alloc: Global, bytes: &[u8], reading: Reading) -> Result<Items<u8>, ParseError>
-    ensures license { IfOk result (λ license. license ≡ license_text reading bytes.now) }
-    ensures fault { Refuses is_parse_memory result (license_text_fault reading bytes.now) }
+fn license_in(alloc: Global, bytes: &[u8], mode: ParseMode) -> Result<Items<u8>, ParseError>
+    ensures license { IfOk result (λ license. license ≡ license_text mode bytes.now) }
+    ensures fault { Refuses is_parse_memory result (license_text_fault mode bytes.now) }
 {
-    match reading {
-        Reading::Stated => stated_license(alloc, bytes),
-        Reading::Broad => broad_license(alloc, bytes),
+    match mode {
+        ParseMode::Strict => strict_license(alloc, bytes),
+        ParseMode::Lenient => lenient_license(alloc, bytes),
     }
 }
 
@@ -98,17 +98,17 @@ pub fn read_license(
     alloc: Global,
     file: &ElfFile<'_>,
     tables: &Groups<RelocationTable<'_>>,
-    reading: Reading,
+    mode: ParseMode,
 ) -> Result<Items<u8>, ParseError>
     requires tables { AreTablesOf file.now tables.now.groups }
-    ensures license { IfOk result (λ license. license ≡ license_as reading file.now) }
-    ensures fault { Refuses is_parse_memory result (license_fault_as reading file.now) }
+    ensures license { IfOk result (λ license. license ≡ license_as mode file.now) }
+    ensures fault { Refuses is_parse_memory result (license_fault_as mode file.now) }
 {
     let Some(section) = file.section_by_name("license") else {
         return Ok(Items::from_vec(Vec::from_slice(alloc, b"GPL")?));
     };
     let section = read_section_of(alloc, file, tables, &section)?;
-    license_in(alloc, section.bytes, reading)
+    license_in(alloc, section.bytes, mode)
 }
 
 /// The version that means all kernels.

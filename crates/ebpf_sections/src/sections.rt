@@ -17,7 +17,7 @@ use ebpf_base::ByName;
 use ebpf_btf::Endianness;
 use ebpf_elf::constants::SHT_NOBITS;
 use ebpf_elf::{ElfFile, ElfSection};
-use ebpf_parts::{EbpfSectionKind, ParseError, Reading, Section};
+use ebpf_parts::{EbpfSectionKind, ParseError, ParseMode, Section};
 use std::alloc::Global;
 use std::collections::BTreeMap;
 
@@ -173,12 +173,12 @@ fn has_big_endian_code(file: &ElfFile<'_>) -> bool
     matches!(file.endianness(), Endianness::Big) && has_any_code(file)
 }
 
-/// Refuses a big-endian file with code in the broad reading.
-pub fn check_order(file: &ElfFile<'_>, reading: Reading) -> Result<(), ParseError>
-    ensures { fault_of result ≡ order_fault_as reading file.now }
+/// Refuses a big-endian file with code in lenient parsing.
+pub fn check_order(file: &ElfFile<'_>, mode: ParseMode) -> Result<(), ParseError>
+    ensures { fault_of result ≡ order_fault_as mode file.now }
 {
-    match reading {
-        Reading::Broad if has_big_endian_code(file) => Err(ParseError::BigEndianCode),
+    match mode {
+        ParseMode::Lenient if has_big_endian_code(file) => Err(ParseError::BigEndianCode),
         _ => Ok(()),
     }
 }

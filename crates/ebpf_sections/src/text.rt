@@ -83,7 +83,7 @@ fn rises(rows: &[&NamedSymbol<'_>]) -> bool
 }
 
 /// Checks that no defined Text symbol has the address of one before it.
-#[tactic(auto, using(crate::proofs::TextSymbols::find_front, crate::proofs::TextSymbols::repeated_more, crate::proofs::TextSymbols::repeated_here, crate::proofs::TextSymbols::repeated_is), unfolding(crate::specs::Texts::conflict_fault))]
+#[tactic(auto, using(crate::proofs::FunctionSymbols::find_front, crate::proofs::FunctionSymbols::repeated_more, crate::proofs::FunctionSymbols::repeated_here, crate::proofs::FunctionSymbols::repeated_is), unfolding(crate::specs::Texts::conflict_fault))]
 fn check_conflicts(
     alloc: Global,
     section_index: usize,
@@ -164,7 +164,7 @@ fn row_at<'s, 'a>(
 
 /// The defined Text symbols of a section, no two of them at one address.
 #[derive(Drop)]
-pub struct TextSymbols<'s, 'a> {
+pub struct FunctionSymbols<'s, 'a> {
     pub symbols: &'s [NamedSymbol<'a>],
     /// The symbols in order of their addresses.
     rows: Vec<&'s NamedSymbol<'a>>,
@@ -174,20 +174,20 @@ pub struct TextSymbols<'s, 'a> {
     ghost by_address: { (q : ℕ) → find (is_at q) (map (λ y. y.now) rows.items) ≡ find (is_text_at q) symbols.now },
 }
 
-impl<'s, 'a> TextSymbols<'s, 'a> {
+impl<'s, 'a> FunctionSymbols<'s, 'a> {
     /// The symbols of functions among a section's symbols.
     pub fn new(
         alloc: Global,
         section_index: usize,
         symbols: &'s [NamedSymbol<'a>],
-    ) -> Result<TextSymbols<'s, 'a>, ParseError>
+    ) -> Result<FunctionSymbols<'s, 'a>, ParseError>
         ensures symbols { IfOk result (λ t. t.symbols.now ≡ symbols.now) }
         ensures fault { Refuses is_parse_memory result (conflict_fault section_index symbols.now) }
     {
         let rows = sort_by_address(defined_symbols(alloc, symbols)?)?;
         check_apart(alloc, section_index, symbols, rows.as_slice())?;
         let next = Cell::new(0);
-        Ok(TextSymbols {
+        Ok(FunctionSymbols {
             symbols,
             rows,
             next,
@@ -254,7 +254,7 @@ fn function_at(
     alloc: Global,
     records: &SectionRecords<'_>,
     section: &Section<'_>,
-    symbols: &TextSymbols<'_, '_>,
+    symbols: &FunctionSymbols<'_, '_>,
     offset: usize,
 ) -> Result<(Function, usize), ParseError>
     requires { offset < length section.now.bytes }
@@ -280,7 +280,7 @@ fn gather(
     alloc: Global,
     records: &SectionRecords<'_>,
     section: &Section<'_>,
-    symbols: &TextSymbols<'_, '_>,
+    symbols: &FunctionSymbols<'_, '_>,
 ) -> Result<Vec<((usize, u64), Function)>, ParseError>
     ensures all { IfOk result (λ entries. entries.items ≡ map with_key (text_functions records.now section.now symbols.now.symbols.now)) }
     ensures fault { Refuses is_parse_memory result (walk_fault section.now symbols.now.symbols.now) }
@@ -335,7 +335,7 @@ pub fn put_text_functions(
     ensures put { OnOk result (functions.new ≡ put_all functions.old (map with_key (text_functions records.now section.now symbols.now))) }
     ensures fault { Refuses is_parse_memory result (text_fault section.now symbols.now) }
 {
-    let symbols = TextSymbols::new(alloc, section.index.0, symbols)?;
+    let symbols = FunctionSymbols::new(alloc, section.index.0, symbols)?;
     let entries = gather(alloc, records, section, &symbols)?;
     put_entries(alloc, functions, entries)?;
     Ok(())

@@ -4,7 +4,7 @@ use crate::loader::on_loader;
 use crate::passes::pass;
 use crate::subject::{Calls, Making, Marked, Shown, Subject};
 use ebpf_object::Object;
-use ebpf_parts::Reading;
+use ebpf_parts::ParseMode;
 use ebpf_parts::insn::bpf_insn;
 use std::io;
 use test_bare_calls::{link_map, on_copy, on_file, on_parsed, text_sections};
@@ -114,10 +114,10 @@ impl Subject for Object {
     }
 }
 
-/// Makes the calls on the object that the bytes are in a reading.
+/// Makes the calls on the object that the bytes are by a parse mode.
 pub fn on_object<'a>(
     bytes: &[u8],
-    reading: Reading,
+    mode: ParseMode,
     front: &'a [String],
     last: &Call<'a>,
 ) -> io::Result<()> {
@@ -126,5 +126,5 @@ pub fn on_object<'a>(
         last: *last,
         refusal: "no object: ",
     };
-    on_parsed(last.rt.alloc(), bytes, reading, calls)
+    on_parsed(last.rt.alloc(), bytes, mode, calls)
 }

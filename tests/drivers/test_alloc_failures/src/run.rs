@@ -5,7 +5,7 @@ use crate::object::{on_object, parse};
 use crate::prepared::on_steps;
 use crate::types::on_parsed_types;
 use ebpf_btf::{Btf, Endianness};
-use ebpf_parts::Reading;
+use ebpf_parts::ParseMode;
 use std::fmt::Debug;
 use std::io;
 use test_bare_calls::{Asker, on_types};
@@ -37,8 +37,8 @@ fn on_bytes<'a>(
         "prepare" => on_steps(bytes, false, last),
         "inspect" => on_steps(bytes, true, last),
         "kernel_types" => types_for_kernel(bytes, last),
-        "object" => on_object(bytes, Reading::Stated, front, last),
-        "broad" => on_object(bytes, Reading::Broad, front, last),
+        "object" => on_object(bytes, ParseMode::Strict, front, last),
+        "broad" => on_object(bytes, ParseMode::Lenient, front, last),
         "code" => on_code(bytes, last),
         "file" => on_file(bytes, last),
         "small" => on_small(last),

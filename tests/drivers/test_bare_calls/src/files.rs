@@ -2,7 +2,7 @@
 
 use crate::asking::{Asker, ask};
 use ebpf_object::Object;
-use ebpf_object::obj::{ParseError, Reading};
+use ebpf_object::obj::{ParseError, ParseMode};
 use ebpf_object::prepare::{PrepareError, Steps, SymbolSource, prepare};
 use std::alloc::{AllocError, Global};
 use std::fmt::Debug;
@@ -39,10 +39,10 @@ pub fn on_file<A: Asker<Object>>(alloc: Global, bytes: &[u8], asker: A) -> A::An
 pub fn on_parsed<A: Asker<Object>>(
     alloc: Global,
     bytes: &[u8],
-    reading: Reading,
+    mode: ParseMode,
     asker: A,
 ) -> A::Answer {
-    ask(asker, Object::parse_as(alloc, bytes, reading))
+    ask(asker, Object::parse_as(alloc, bytes, mode))
 }
 
 /// Lends the object of a file after the chosen passes.

@@ -14,8 +14,8 @@ pub struct Action<'a> {
 impl<'a> Action<'a> {
     /// The action of a text; between words stands one space. `broadly` before it says how its file is read.
     pub fn read(alloc: Global, text: &'a str) -> Result<Action<'a>, AllocError> {
-        let broad = text.strip_prefix("broadly ");
-        let mut name = broad.unwrap_or(text);
+        let lenient = text.strip_prefix("broadly ");
+        let mut name = lenient.unwrap_or(text);
         let mut words = Vec::new(alloc);
         if let Some((first, rest)) = name.split_once(' ') {
             name = first;
@@ -24,7 +24,7 @@ impl<'a> Action<'a> {
             }
         }
         Ok(Action {
-            is_broad: broad.is_some(),
+            is_broad: lenient.is_some(),
             name,
             words,
         })

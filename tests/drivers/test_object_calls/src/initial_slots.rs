@@ -4,7 +4,7 @@ use super::hex::bytes_of;
 use ebpf_base::Items;
 use ebpf_initial_slots::{InitialSlot, InitialSlotError, InitialTarget, initial_slots};
 use ebpf_object::Object;
-use ebpf_parts::{ParseError, Reading};
+use ebpf_parts::{ParseError, ParseMode};
 use std::alloc::{AllocError, Global};
 use std::fmt::Debug;
 use std::test::Fail;
@@ -134,7 +134,7 @@ fn object_bytes(alloc: Global, changes: &[Field]) -> Result<Vec<u8>, AllocError>
 
 /// The object of a file.
 fn parsed(alloc: Global, bytes: &[u8]) -> Result<Object, ParseError> {
-    Object::parse_as(alloc, bytes, Reading::Broad)
+    Object::parse_as(alloc, bytes, ParseMode::Lenient)
 }
 
 /// The initial values of the maps of an object, whose file has these bytes.

@@ -4,7 +4,7 @@ mod objects;
 
 use super::hex::bytes_of;
 use ebpf_limits::{Limits, parse_within};
-use ebpf_parts::{ParseError, Reading};
+use ebpf_parts::{ParseError, ParseMode};
 use objects::{
     DISORDERED, DISORDERED_MADE, ENTRIES, ENTRIES_MADE, FUNCTIONS, FUNCTIONS_MADE, LICENSES,
     LICENSES_MADE, RECORDS, RECORDS_MADE, TAILS, TAILS_MADE, ZEROS, ZEROS_MADE,
@@ -43,7 +43,7 @@ fn said_of<T: Drop, E: Refusal>(parsed: Result<T, E>, most_bytes: u64) -> (&'sta
 fn answer(alloc: Global, bytes: &[u8], most_bytes: u64) -> (&'static str, u64) {
     let limits = Limits { most_bytes };
     said_of(
-        parse_within(alloc, bytes, Reading::Stated, limits),
+        parse_within(alloc, bytes, ParseMode::Strict, limits),
         most_bytes,
     )
 }

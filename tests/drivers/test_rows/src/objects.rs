@@ -5,7 +5,7 @@ use crate::patched::patched;
 use crate::resolved::resolved;
 use crate::tables::put_table;
 use ebpf_object::Object;
-use ebpf_object::obj::Reading;
+use ebpf_object::obj::ParseMode;
 use std::alloc::{AllocError, Global};
 use std::fmt::Debug;
 use test_bare_calls::{Asker, on_parsed};
@@ -65,11 +65,11 @@ impl<'a> Asker<Object> for OnObject<'a> {
 }
 
 /// How the file of an action is read.
-fn reading_of(action: &Action<'_>) -> Reading {
+fn parse_mode_of(action: &Action<'_>) -> ParseMode {
     if action.is_broad {
-        return Reading::Broad;
+        return ParseMode::Lenient;
     }
-    Reading::Stated
+    ParseMode::Strict
 }
 
 /// What an action gives of the object that the bytes are, or the error.
@@ -84,5 +84,5 @@ pub fn on_object(
         files,
         action,
     };
-    on_parsed(alloc, bytes, reading_of(action), asker)
+    on_parsed(alloc, bytes, parse_mode_of(action), asker)
 }

@@ -5,11 +5,11 @@ use Rattle.cli_common.proofs.DefaultPasses.{all_default_passes}
 use Rattle.ebpf_inspect.specs.Inspected.{IsInspected}
 use Rattle.ebpf_object.specs.Stages.{chosen, descriptor_of, numbered_descriptors}
 use Rattle.cli_plain.proofs.inspect.inspect_all.Goals as goal
-use Rattle.ebpf_parts.specs.declared.reading.Reading.TheVariants.{Stated}
+use Rattle.ebpf_parts.specs.declared.parse_mode.ParseMode.TheVariants.{Strict}
 
 pub returns-in-Ok-inspect_object-clause-inspected : goal.returns-in-Ok-inspect_object-clause-inspected
 returns-in-Ok-inspect_object-clause-inspected g c file parsed =
     let all = all_default_passes (option_copied c.args.types) c.args.object.maps (chosen c.all_with.result) (map descriptor_of c.deref.result.now) c.all_with.ensures
     (ap (map descriptor_of) c.deref.ensures.value ∙ c.in-Ok-numbered_descriptors.ensures ∙ ap (numbered_descriptors (pos 0)) (c.as_slice.ensures ∙ c.in-Ok.ensures))
     in
-    subst (λ steps. IsInspected steps (g.K.SymbolSource.source c.args.kallsyms) Stated file c.in-Ok-inspect_object.reports) all (c.in-Ok-inspect_object.ensures.inspected Stated file parsed)
+    subst (λ steps. IsInspected steps (g.K.SymbolSource.source c.args.kallsyms) Strict file c.in-Ok-inspect_object.reports) all (c.in-Ok-inspect_object.ensures.inspected Strict file parsed)

@@ -26,11 +26,11 @@ loop-entry-preserved c =
       known = c.in_ok-add_entry.ensures.known;
       numbered = c.in_ok-add_entry.ensures.numbered;
       symbols = all_more (HasSymbol (get c.args.symbols.now)) was.names.names now.names.names was.last now.last added.0 added.1 added.2 c.loop-entry.invariant.symbols added.4 added.5 added.6;
-      kept = item_kept (declared c.args.reading c.args.btf.now) c.args.entries.now c.loop-entry.entry-index _ was.names.names now.names.names was.last now.last added.0 added.1 added.2
+      kept = item_kept (declared c.args.mode c.args.btf.now) c.args.entries.now c.loop-entry.entry-index _ was.names.names now.names.names was.last now.last added.0 added.1 added.2
           c.loop-entry-test.true c.loop-entry.invariant.kept added.3 added.4 added.5;
-      fault = rest_clear (λ entry. fault_of (entry_map c.args.reading c.args.btf.now (get c.args.symbols.now) 0 entry)) c.args.entries.now c.loop-entry.entry-index _ c.loop-entry-test.true c.in_ok-add_entry.ensures.fault c.loop-entry.invariant.fault;
+      fault = rest_clear (λ entry. fault_of (entry_map c.args.mode c.args.btf.now (get c.args.symbols.now) 0 entry)) c.args.entries.now c.loop-entry.entry-index _ c.loop-entry-test.true c.in_ok-add_entry.ensures.fault c.loop-entry.invariant.fault;
     }
 
 pub returns-clause-kept : goal.returns-clause-kept
 returns-clause-kept c =
-    subst (λ l. AreKept c.loop-entry.distinct.names.names c.loop-entry.distinct.last (flat_map (λ entry. given (declared c.args.reading c.args.btf.now entry)) l)) (take_all c.loop-entry.entry-index c.args.entries.now c.loop-entry-test.false) c.loop-entry.invariant.kept
+    subst (λ l. AreKept c.loop-entry.distinct.names.names c.loop-entry.distinct.last (flat_map (λ entry. given (declared c.args.mode c.args.btf.now entry)) l)) (take_all c.loop-entry.entry-index c.args.entries.now c.loop-entry-test.false) c.loop-entry.invariant.kept

@@ -6,6 +6,6 @@ use Rattle.ebpf_btf_decls.proofs.known_structs.inner_definition.Goals as goal
 pub loop-index-preserved : goal.loop-index-preserved
 loop-index-preserved c =
     let below : c.loop-index.index < length c.args.members.now = omega (arith, c.loop-index-test.true, c.len-index-end.ensures) in
-    sym (more_given (inner_member_value c.args.reading c.args.btf.now c.args.name.now) c.loop-index.all c.with-all.result c.args.members.now c.loop-index.index c.at-member.result c.in_ok-inner_member_value.field-0
+    sym (more_given (inner_member_value c.args.mode c.args.btf.now c.args.name.now) c.loop-index.all c.with-all.result c.args.members.now c.loop-index.index c.at-member.result c.in_ok-inner_member_value.field-0
     below c.at-member.ensures.item c.in_ok-inner_member_value.ensures c.with-all.ensures)
     ∙ c.loop-index.invariant

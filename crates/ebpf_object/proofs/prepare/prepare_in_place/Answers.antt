@@ -4,12 +4,12 @@ use Rattle.ebpf_object.proofs.Staging.{file_refused, prepared_file}
 use Rattle.ebpf_object.proofs.prepare.prepare_in_place.Goals as goal
 
 pub returns-in-Ok-run_stages-clause-headline : goal.returns-in-Ok-run_stages-clause-headline
-returns-in-Ok-run_stages-clause-headline g c reading file parsed =
+returns-in-Ok-run_stages-clause-headline g c mode file parsed =
     let s = chosen c.args.steps.now in
     let lines = g.K.SymbolSource.source c.args.kallsyms in
     let after = c.run_stages.new.object in
-    headline s lines reading file after (prepared_file s lines reading file c.args.object.now parsed after c.in-Ok-run_stages.ensures.ok)
+    headline s lines mode file after (prepared_file s lines mode file c.args.object.now parsed after c.in-Ok-run_stages.ensures.ok)
 
 pub returns-in-Err-clause-first_fault : goal.returns-in-Err-clause-first_fault
-returns-in-Err-clause-first_fault g c reading file parsed =
-    file_refused (chosen c.args.steps.now) (g.K.SymbolSource.source c.args.kallsyms) reading file c.args.object.now parsed c.in-Err.error c.in-Err.ensures.fault
+returns-in-Err-clause-first_fault g c mode file parsed =
+    file_refused (chosen c.args.steps.now) (g.K.SymbolSource.source c.args.kallsyms) mode file c.args.object.now parsed c.in-Err.error c.in-Err.ensures.fault

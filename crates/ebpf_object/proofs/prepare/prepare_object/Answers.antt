@@ -4,11 +4,11 @@ use Rattle.ebpf_object.proofs.Staging.{of_error, of_prepared, file_refused, prep
 use Rattle.ebpf_object.proofs.prepare.prepare_object.Goals as goal
 
 pub returns-clause-headline : goal.returns-clause-headline
-returns-clause-headline g c reading file parsed =
+returns-clause-headline g c mode file parsed =
     let s = chosen c.args.steps.now in
     let lines = g.K.SymbolSource.source c.args.kallsyms in
-    of_prepared c.run_all.result (λ after stages. headline s lines reading file after (prepared_file s lines reading file c.args.object parsed after stages)) c.run_all.ensures.stages
+    of_prepared c.run_all.result (λ after stages. headline s lines mode file after (prepared_file s lines mode file c.args.object parsed after stages)) c.run_all.ensures.stages
 
 pub returns-clause-first_fault : goal.returns-clause-first_fault
-returns-clause-first_fault g c reading file parsed =
-    of_error c.run_all.result (file_refused (chosen c.args.steps.now) (g.K.SymbolSource.source c.args.kallsyms) reading file c.args.object parsed) c.run_all.ensures.fault
+returns-clause-first_fault g c mode file parsed =
+    of_error c.run_all.result (file_refused (chosen c.args.steps.now) (g.K.SymbolSource.source c.args.kallsyms) mode file c.args.object parsed) c.run_all.ensures.fault

@@ -34,7 +34,7 @@ loop-section-init c =
       lasts = all_lasts text_total data_row c.args.last.now (map section_of (others c.into_iter-section-iterator.result)) (c.requires.last ∙ ap (λ r. last_data (map section_of (others r))) (sym items));
       object_tables = ap (λ p. all_added metadata p ys (map section_of (others c.into_iter-section-iterator.result))) empty
           ∙ ap (λ r. all_added metadata (object_tables_from c.args.section_infos) ys (map section_of (others r))) items;
-      fault = ap (λ r. first_some (read_fault metadata.reading metadata.btf file) (others r)) items;
+      fault = ap (λ r. first_some (read_fault metadata.mode metadata.btf file) (others r)) items;
     }
 
 pub add_section-requires : goal.add_section-requires
@@ -58,8 +58,8 @@ loop-section-preserved c =
     let put : c.add_section.new.self ≡ added_last c.args.last.now metadata c.loop-section.object_tables (section_of s) c.of-in-loop-section.result.now = search rules in
     let lasts : DataLasts c.args.last.now (section_of s ∷ map section_of (others c.next.new.self)) =
     subst (λ r. DataLasts c.args.last.now (map section_of r)) (ap others front ∙ kept s c.next.new.self other) c.loop-section.invariant.lasts in
-    let clear_there : or_else (section_fault s) (fault_in metadata.reading metadata.btf (section_of s) c.of-in-loop-section.result.now) ≡ None = search rules in
-    let clear : read_fault metadata.reading metadata.btf file s ≡ None = ap (λ g. or_else (section_fault s) (fault_in metadata.reading metadata.btf (section_of s) g)) (sym of_section) ∙ clear_there in
+    let clear_there : or_else (section_fault s) (fault_in metadata.mode metadata.btf (section_of s) c.of-in-loop-section.result.now) ≡ None = search rules in
+    let clear : read_fault metadata.mode metadata.btf file s ≡ None = ap (λ g. or_else (section_fault s) (fault_in metadata.mode metadata.btf (section_of s) g)) (sym of_section) ∙ clear_there in
     record {
       from = (subst (AreOf file) front c.loop-section.invariant.from).1;
       inputs = c.add_section.ensures.inputs ∙ inputs;
@@ -69,8 +69,8 @@ loop-section-preserved c =
           ∙ ap (λ g. all_added metadata (added metadata c.loop-section.object_tables (section_of s) g) ys (map section_of (others c.next.new.self))) of_section
           ∙ sym (ap (λ r. all_added metadata c.loop-section.object_tables ys (map section_of (others r))) front ∙ one_more metadata c.loop-section.object_tables ys s c.next.new.self other)
           ∙ c.loop-section.invariant.object_tables;
-      fault = sym (ap (λ r. first_some (read_fault metadata.reading metadata.btf file) (others r)) front ∙ fault_more metadata.reading metadata.btf file s c.next.new.self other
-          ∙ ap (λ x. or_else x (first_some (read_fault metadata.reading metadata.btf file) (others c.next.new.self))) clear)
+      fault = sym (ap (λ r. first_some (read_fault metadata.mode metadata.btf file) (others r)) front ∙ fault_more metadata.mode metadata.btf file s c.next.new.self other
+          ∙ ap (λ x. or_else x (first_some (read_fault metadata.mode metadata.btf file) (others c.next.new.self))) clear)
           ∙ c.loop-section.invariant.fault;
     }
 
@@ -80,14 +80,14 @@ returns-in_err-add_section-clause-fault c =
     let ys = file_symbols file in
     let s = c.in-Some.section in
     let types = c.args.inputs.now.btf in
-    let reading = c.args.inputs.now.reading in
+    let mode = c.args.inputs.now.mode in
     let front : c.loop-section.section-iterator ≡ s ∷ c.next.new.self = search rules in
     let other : is_type_information s ≡ false = search rules in
     let of_section : c.of-in-loop-section.result.now ≡ section_symbols ys s.index = search rules in
-    let whole : sections_fault reading types file ≡ or_else (or_else (section_fault s) (fault_in reading types (section_of s) c.of-in-loop-section.result.now)) (first_some (read_fault reading types file) (others c.next.new.self))
-    = sym c.loop-section.invariant.fault ∙ ap (λ r. first_some (read_fault reading types file) (others r)) front ∙ fault_more reading types file s c.next.new.self other
-    ∙ ap (λ g. or_else (or_else (section_fault s) (fault_in reading types (section_of s) g)) (first_some (read_fault reading types file) (others c.next.new.self))) (sym of_section) in
+    let whole : sections_fault mode types file ≡ or_else (or_else (section_fault s) (fault_in mode types (section_of s) c.of-in-loop-section.result.now)) (first_some (read_fault mode types file) (others c.next.new.self))
+    = sym c.loop-section.invariant.fault ∙ ap (λ r. first_some (read_fault mode types file) (others r)) front ∙ fault_more mode types file s c.next.new.self other
+    ∙ ap (λ g. or_else (or_else (section_fault s) (fault_in mode types (section_of s) g)) (first_some (read_fault mode types file) (others c.next.new.self))) (sym of_section) in
     let e : ParseError = c.in_err-add_section.field-0.0 in
     let result : c.from_residual.result ≡ Err e = search rules in
-    let there = refused_first is_parse_memory e (or_else (section_fault s) (fault_in reading types (section_of s) c.of-in-loop-section.result.now)) (first_some (read_fault reading types file) (others c.next.new.self)) (rw c.loop-section.invariant.inputs at c.in_err-add_section.ensures.fault) in
-    subst (λ r. Refuses is_parse_memory r (sections_fault reading types file)) (sym result) (subst (λ x. MatchBool (is_parse_memory e) ⊤ (x ≡ Some e)) (sym whole) there)
+    let there = refused_first is_parse_memory e (or_else (section_fault s) (fault_in mode types (section_of s) c.of-in-loop-section.result.now)) (first_some (read_fault mode types file) (others c.next.new.self)) (rw c.loop-section.invariant.inputs at c.in_err-add_section.ensures.fault) in
+    subst (λ r. Refuses is_parse_memory r (sections_fault mode types file)) (sym result) (subst (λ x. MatchBool (is_parse_memory e) ⊤ (x ≡ Some e)) (sym whole) there)

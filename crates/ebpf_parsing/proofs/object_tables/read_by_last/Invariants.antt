@@ -16,5 +16,5 @@ invariant-loop-section l = record {
   lasts : DataLasts l.last (map section_of (others l.section-iterator));
   inputs : l.inputs ≡ l.fn.inputs;
   object_tables : all_added l.fn.inputs l.object_tables (file_symbols l.file) (map section_of (others l.section-iterator)) ≡ object_tables_of l.fn.inputs l.fn.section_infos l.file;
-  fault : first_some (read_fault l.fn.inputs.reading l.fn.inputs.btf l.file) (others l.section-iterator) ≡ sections_fault l.fn.inputs.reading l.fn.inputs.btf l.file;
+  fault : first_some (read_fault l.fn.inputs.mode l.fn.inputs.btf l.file) (others l.section-iterator) ≡ sections_fault l.fn.inputs.mode l.fn.inputs.btf l.file;
 }

@@ -5,7 +5,7 @@ pub returns-clause-stated : goal.returns-clause-stated
 returns-clause-stated c = read.no_name_says_other
 
 pub returns-clause-kept : goal.returns-clause-kept
-returns-clause-kept c = read.broad_keeps_kinds
+returns-clause-kept c = read.lenient_keeps_kinds
 
 pub returns-clause-taken : goal.returns-clause-taken
-returns-clause-taken c = read.broad_takes_names
+returns-clause-taken c = read.lenient_takes_names

@@ -1,4 +1,4 @@
-use Rattle.ebpf_sections.proofs.TextSymbols.{no_conflict}
+use Rattle.ebpf_sections.proofs.FunctionSymbols.{no_conflict}
 use Rattle.ebpf_sections.proofs.text.check_apart.Goals as goal
 
 pub returns-then-rises : goal.returns-then-rises

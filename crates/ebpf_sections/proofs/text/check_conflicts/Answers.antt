@@ -2,7 +2,7 @@ use Rattle.std.proofs.Common.{◌≡◌, ◌<◌, rules, arith, length}
 use Rattle.std.proofs.lemmas.Grind.{common_steps}
 use Rattle.std.specs.Prelude.{slice_index_or}
 use Rattle.ebpf_sections.specs.Texts.{is_text_at}
-use Rattle.ebpf_sections.proofs.TextSymbols.{find_front, repeated_more}
+use Rattle.ebpf_sections.proofs.FunctionSymbols.{find_front, repeated_more}
 use Rattle.ebpf_sections.proofs.text.check_conflicts.Goals.{then-is_defined_text+in_ok-insert+else-not-branch, else-is_defined_text}
 use Rattle.ebpf_sections.proofs.text.check_conflicts.Goals as goal
 

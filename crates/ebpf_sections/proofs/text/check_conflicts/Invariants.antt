@@ -4,7 +4,7 @@ use Rattle.std.specs.List.{find}
 use Rattle.std.specs.Ordering.{nat_cmp}
 use Rattle.std.specs.Prelude.{is_some}
 use Rattle.ebpf_sections.specs.Texts.{is_text_at, repeated}
-use Rattle.ebpf_sections.proofs.TextSymbols.{repeated_from}
+use Rattle.ebpf_sections.proofs.FunctionSymbols.{repeated_from}
 use Rattle.ebpf_sections.proofs.text.check_conflicts.Given as goal
 
 abbrev pub invariant-loop-symbol : goal.invariant-loop-symbol

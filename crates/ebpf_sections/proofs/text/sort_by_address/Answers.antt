@@ -1,7 +1,7 @@
 use Rattle.std.proofs.Common.{rules}
 use Rattle.std.proofs.lemmas.List.Sorted.{IsNonDecreasingBy-from_sort_by_key, answers_always}
 use Rattle.ebpf_sections.proofs.InOrder.{stable_at}
-use Rattle.ebpf_sections.proofs.TextSymbols.{at_one_address}
+use Rattle.ebpf_sections.proofs.FunctionSymbols.{at_one_address}
 use Rattle.ebpf_sections.proofs.text.sort_by_address.Goals as goal
 
 pub returns-clause-rising : goal.returns-clause-rising

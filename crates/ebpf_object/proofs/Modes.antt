@@ -16,7 +16,7 @@ use Rattle.ebpf_btf.specs.TypeInfo.{TypeInfo}
 use Rattle.ebpf_elf.specs.Names.{is_name}
 use Rattle.ebpf_elf.specs.Sections.{SectionOf, sections, section_name}
 use Rattle.ebpf_elf.specs.declared.section.SectionIndex.{SectionIndex}
-use Rattle.ebpf_object.specs.BothReadings.{ObjectsAgree}
+use Rattle.ebpf_object.specs.BothModes.{ObjectsAgree}
 use Rattle.ebpf_object.specs.Objects.{object_of}
 use Rattle.ebpf_parsing.proofs.Alike as tables
 use Rattle.ebpf_parsing.specs.FileContents.{section_infos, name_entries}
@@ -24,9 +24,9 @@ use Rattle.ebpf_parsing.specs.FileTypes.{type_info_names, type_names, ext_names,
 use Rattle.ebpf_parsing.specs.Sections.{is_type_information, section_info_entry, first_section_named}
 use Rattle.ebpf_parts.specs.Sections.{name_or_empty, section_of, section_with}
 
-pub readings_agree : ObjectsAgree
-readings_agree bytes is clear =
-    let alike = tables.readings_agree bytes is clear in
+pub modes_agree : ObjectsAgree
+modes_agree bytes is clear =
+    let alike = tables.modes_agree bytes is clear in
     ((λ i. record (object_of bytes) { license = alike.license i; maps = alike.maps i; programs = alike.programs i }), alike.sound)
 
 -- ---- an object has the number of a section `license` exactly where its file has one
@@ -130,9 +130,9 @@ none_named bytes =
 
 -- ---- the file
 
-pub stated_license : (bytes : List ℕ) → contains_key (section_infos bytes) (codes "license") ≡ is_some (first_section_named (codes "license") bytes)
+pub strict_license : (bytes : List ℕ) → contains_key (section_infos bytes) (codes "license") ≡ is_some (first_section_named (codes "license") bytes)
 unfolding section_infos name_entries
-stated_license bytes =
+strict_license bytes =
     put_there (type_info_names bytes) (name_entries bytes)
     ∙ ap (λ b. b || list_any names_license (name_entries bytes)) (none_named bytes)
     ∙ any_section (sections bytes)

@@ -1,4 +1,4 @@
--- What a struct says of a map rests neither on the map's name nor, without a fault in the stated reading, on the reading.
+-- What a struct says of a map rests neither on the map's name nor, without a fault in strict parsing, on the reading.
 use Rattle.std.proofs.Common.{◌≡◌, ℕ, Bool, true, false, cond, List, [], ◌∷◌, Option, Some, None, Result, Ok, Err, refl, sym, ap, ◌∙◌, arith, ◌++◌}
 use Rattle.std.proofs.lemmas.Bool.Decides.{nat_tests}
 use Rattle.std.specs.BTreeMap.{BTreeMap, get, is_at, Updates}
@@ -21,7 +21,7 @@ use Rattle.ebpf_btf.specs.declared.members.DataSecEntry.{DataSecEntry}
 use Rattle.ebpf_btf.specs.declared.types.BtfType.{BtfType}
 use Rattle.ebpf_btf.specs.declared.types.BtfType.TheVariants.{Ptr, Struct}
 use Rattle.ebpf_btf_decls.specs.DataSections.{all_given, given, DatasecMatch, Named, UnreadableName, datasec_match}
-use Rattle.ebpf_btf_decls.specs.Laws.{BroadDeclaresAsStated}
+use Rattle.ebpf_btf_decls.specs.Laws.{LenientDeclaresAsStrict}
 use Rattle.ebpf_btf_decls.specs.MapMembers.{unexpected_type, members_at, pointee_struct, inner_map_struct, map_member_at, no_definitions, with_all, pointee, struct_members, number, own_number, sole_value_in, sole_value, is_prototype, is_prototype_in, is_prototype_at}
 use Rattle.ebpf_btf_decls.specs.Maps.{with_members, plain_value, inner_member_value_of, inner_member_value, inner_definition, inner_struct_definition, are_programs, member_value_of, member_value, definitions, struct_definitions, number_value, variable, declared, map_with_symbol, entry_map, entries_maps, entries_fault, matched_maps, matched_maps_fault, type_maps, type_maps_fault}
 use Rattle.ebpf_btf_decls.specs.SectionMaps.{Remembers}
@@ -34,8 +34,8 @@ use Rattle.ebpf_btf_decls.specs.declared.members.MapNumber.TheVariants.{MapExtra
 use Rattle.ebpf_btf_decls.specs.declared.members.MemberValue.{MemberValue}
 use Rattle.ebpf_btf_decls.specs.declared.members.MemberValue.TheVariants as said
 use Rattle.ebpf_parts.specs.declared.maps.definition.BtfMapDef.{BtfMapDef}
-use Rattle.ebpf_parts.specs.declared.reading.Reading.{Reading}
-use Rattle.ebpf_parts.specs.declared.reading.Reading.TheVariants.{Stated, Broad}
+use Rattle.ebpf_parts.specs.declared.parse_mode.ParseMode.{ParseMode}
+use Rattle.ebpf_parts.specs.declared.parse_mode.ParseMode.TheVariants.{Strict, Lenient}
 
 -- ---- what a struct says of a map does not rest on the map's name
 
@@ -65,7 +65,7 @@ pub with_same : (says other : BtfMember → Result MemberValue BtfError) → ((m
 with_same says other same d e ms h = via (all_given says ms) (all_given other ms) (λ all. Ok (with_all d all)) (λ all. Ok (with_all d all)) e (all_same says other same ms) (λ all k. k) h
 
 -- from one reading and name of a map to another, where members that name no map say the same
-module _ (info : TypeInfo) (r t : Reading) (n o : List ℕ)
+module _ (info : TypeInfo) (r t : ParseMode) (n o : List ℕ)
     (plain : (m : MapMember) (id : ℕ) (s : MemberValue) → plain_value r info.types m id ≡ Ok s → plain_value t info.types m id ≡ Ok s)
     (programs : (held : ℕ) → are_programs r info.types held ≡ true → are_programs t info.types held ≡ true)
     (maps : (held : ℕ) (members : List BtfMember) → members_at info.types held ≡ Ok members → are_programs r info.types held ≡ false → are_programs t info.types held ≡ false) where
@@ -133,12 +133,12 @@ module _ (info : TypeInfo) (r t : Reading) (n o : List ℕ)
       (λ ms k. with_same (member_value r info n) (member_value t info o) member_value_kept no_definitions d ms k) h
 
 -- what is read of one name it is of another
-module _ (reading : Reading) (info : TypeInfo) (n o : List ℕ) where
-  pub inner_struct_same : (id : ℕ) (d : BtfMapDef) → inner_struct_definition reading info n id ≡ Ok d → inner_struct_definition reading info o id ≡ Ok d
-  inner_struct_same = inner_struct_kept info reading reading n o (λ m id s h. h) (λ held h. h) (λ held ms is h. h)
+module _ (mode : ParseMode) (info : TypeInfo) (n o : List ℕ) where
+  pub inner_struct_same : (id : ℕ) (d : BtfMapDef) → inner_struct_definition mode info n id ≡ Ok d → inner_struct_definition mode info o id ≡ Ok d
+  inner_struct_same = inner_struct_kept info mode mode n o (λ m id s h. h) (λ held h. h) (λ held ms is h. h)
 
-  pub definitions_same : (id : ℕ) (d : MapDefinitions) → struct_definitions reading info n id ≡ Ok d → struct_definitions reading info o id ≡ Ok d
-  definitions_same = definitions_kept info reading reading n o (λ m id s h. h) (λ held h. h) (λ held ms is h. h)
+  pub definitions_same : (id : ℕ) (d : MapDefinitions) → struct_definitions mode info n id ≡ Ok d → struct_definitions mode info o id ≡ Ok d
+  definitions_same = definitions_kept info mode mode n o (λ m id s h. h) (λ held h. h) (λ held ms is h. h)
 
 pub equal_numbers : (k q : ℕ) → is_at (nat_cmp k) q ≡ true → k ≡ q
 equal_numbers k q h = grind (arith, nat_tests)
@@ -198,17 +198,17 @@ spelled_alone types id n is = by_place (slice_get types id) refl is
     by_place None here h = absurd (cc)
     by_place (Some t) here h = by_type t here h
 
-number_kept : (types : List BtfType) (of : MapNumber) (id : ℕ) (s : MemberValue) → number_value Stated types of id ≡ Ok s → number_value Broad types of id ≡ Ok s
+number_kept : (types : List BtfType) (of : MapNumber) (id : ℕ) (s : MemberValue) → number_value Strict types of id ≡ Ok s → number_value Lenient types of id ≡ Ok s
 number_kept types MapExtra id s h = by_number (number types id) refl h
   where
-    by_number : (r : Result ℕ BtfError) → number types id ≡ r → if_ok r (λ n. Ok (said.Number MapExtra n)) ≡ Ok s → number_value Broad types MapExtra id ≡ Ok s
+    by_number : (r : Result ℕ BtfError) → number types id ≡ r → if_ok r (λ n. Ok (said.Number MapExtra n)) ≡ Ok s → number_value Lenient types MapExtra id ≡ Ok s
     by_number (Err e) is k = absurd (cc)
     by_number (Ok n) is k =
         ap (λ o. if_some o (λ n. Ok (said.Extra n)) (if_ok (number types id) (λ n. Ok (said.Number MapExtra n)))) (spelled_alone types id n is)
         ∙ ap (λ r. if_ok r (λ n. Ok (said.Number MapExtra n))) is ∙ k
 number_kept types of id s h = h
 
-plain_kept : (types : List BtfType) (m : MapMember) (id : ℕ) (s : MemberValue) → plain_value Stated types m id ≡ Ok s → plain_value Broad types m id ≡ Ok s
+plain_kept : (types : List BtfType) (m : MapMember) (id : ℕ) (s : MemberValue) → plain_value Strict types m id ≡ Ok s → plain_value Lenient types m id ≡ Ok s
 unfolding plain_value
 plain_kept types (about.Number of) id s h = number_kept types of id s h
 plain_kept types m id s h = h
@@ -229,73 +229,73 @@ no_programs types id members is = by_place (slice_get types id) is
     by_place (Some t) h = by_type t h
 
 module _ (info : TypeInfo) (name : List ℕ) where
-  says_kept : (id : ℕ) (d : MapDefinitions) → struct_definitions Stated info name id ≡ Ok d → struct_definitions Broad info name id ≡ Ok d
-  says_kept = definitions_kept info Stated Broad name name (plain_kept info.types) (λ held are. absurd (cc)) (λ held ms is none. no_programs info.types held ms is)
+  says_kept : (id : ℕ) (d : MapDefinitions) → struct_definitions Strict info name id ≡ Ok d → struct_definitions Lenient info name id ≡ Ok d
+  says_kept = definitions_kept info Strict Lenient name name (plain_kept info.types) (λ held are. absurd (cc)) (λ held ms is none. no_programs info.types held ms is)
 
 -- ---- maps
 
 -- what a VAR with a name declares, by the type that it holds
-abbrev named_by : Reading → TypeInfo → List ℕ → ℕ → Result (List ℕ × MapDefinitions) BtfError
-named_by reading info name id = if_ok (resolved info.types id) (λ held. if_ok (struct_definitions reading info name held) (λ d. Ok (name, d)))
+abbrev named_by : ParseMode → TypeInfo → List ℕ → ℕ → Result (List ℕ × MapDefinitions) BtfError
+named_by mode info name id = if_ok (resolved info.types id) (λ held. if_ok (struct_definitions mode info name held) (λ d. Ok (name, d)))
 
-abbrev from_type : Reading → TypeInfo → BtfType → Result (List ℕ × MapDefinitions) BtfError
-from_type reading info t = if_some (variable t) (λ id. if_ok (type_name info t) (λ name. named_by reading info name id)) (Err (unexpected_type t))
+abbrev from_type : ParseMode → TypeInfo → BtfType → Result (List ℕ × MapDefinitions) BtfError
+from_type mode info t = if_some (variable t) (λ id. if_ok (type_name info t) (λ name. named_by mode info name id)) (Err (unexpected_type t))
 
-by_type : (reading : Reading) (info : TypeInfo) (entry : DataSecEntry) → declared reading info entry ≡ if_ok (type_at info.types entry.btf_type) (from_type reading info)
+by_type : (mode : ParseMode) (info : TypeInfo) (entry : DataSecEntry) → declared mode info entry ≡ if_ok (type_at info.types entry.btf_type) (from_type mode info)
 unfolding declared
-by_type reading info entry = refl
+by_type mode info entry = refl
 
 by_some : {A X : Type 0} (o : Option A) (f g : A → Result X BtfError) (e : BtfError) (x : X) → ((a : A) → f a ≡ Ok x → g a ≡ Ok x) → if_some o f (Err e) ≡ Ok x → if_some o g (Err e) ≡ Ok x
 by_some None f g e x each h = h
 by_some (Some a) f g e x each h = each a h
 
 module _ (info : TypeInfo) (p : List ℕ × MapDefinitions) where
-  named_kept : (name : List ℕ) (id : ℕ) → named_by Stated info name id ≡ Ok p → named_by Broad info name id ≡ Ok p
+  named_kept : (name : List ℕ) (id : ℕ) → named_by Strict info name id ≡ Ok p → named_by Lenient info name id ≡ Ok p
   named_kept name id h =
-      via (resolved info.types id) (resolved info.types id) (λ held. if_ok (struct_definitions Stated info name held) (λ d. Ok (name, d))) (λ held. if_ok (struct_definitions Broad info name held) (λ d. Ok (name, d))) p (λ held k. k)
-      (λ held k. via (struct_definitions Stated info name held) (struct_definitions Broad info name held) (λ d. Ok (name, d)) (λ d. Ok (name, d)) p (says_kept info name held) (λ d g. g) k) h
+      via (resolved info.types id) (resolved info.types id) (λ held. if_ok (struct_definitions Strict info name held) (λ d. Ok (name, d))) (λ held. if_ok (struct_definitions Lenient info name held) (λ d. Ok (name, d))) p (λ held k. k)
+      (λ held k. via (struct_definitions Strict info name held) (struct_definitions Lenient info name held) (λ d. Ok (name, d)) (λ d. Ok (name, d)) p (says_kept info name held) (λ d g. g) k) h
 
-  type_kept : (t : BtfType) → from_type Stated info t ≡ Ok p → from_type Broad info t ≡ Ok p
+  type_kept : (t : BtfType) → from_type Strict info t ≡ Ok p → from_type Lenient info t ≡ Ok p
   type_kept t h =
-      by_some (variable t) (λ id. if_ok (type_name info t) (λ name. named_by Stated info name id)) (λ id. if_ok (type_name info t) (λ name. named_by Broad info name id)) (unexpected_type t) p
-      (λ id k. via (type_name info t) (type_name info t) (λ name. named_by Stated info name id) (λ name. named_by Broad info name id) p (λ name g. g) (λ name g. named_kept name id g) k) h
+      by_some (variable t) (λ id. if_ok (type_name info t) (λ name. named_by Strict info name id)) (λ id. if_ok (type_name info t) (λ name. named_by Lenient info name id)) (unexpected_type t) p
+      (λ id k. via (type_name info t) (type_name info t) (λ name. named_by Strict info name id) (λ name. named_by Lenient info name id) p (λ name g. g) (λ name g. named_kept name id g) k) h
 
-  declared_kept : (entry : DataSecEntry) → declared Stated info entry ≡ Ok p → declared Broad info entry ≡ Ok p
+  declared_kept : (entry : DataSecEntry) → declared Strict info entry ≡ Ok p → declared Lenient info entry ≡ Ok p
   declared_kept entry h =
-      by_type Broad info entry
-      ∙ via (type_at info.types entry.btf_type) (type_at info.types entry.btf_type) (from_type Stated info) (from_type Broad info) p (λ t k. k) (λ t k. type_kept t k) (sym (by_type Stated info entry) ∙ h)
+      by_type Lenient info entry
+      ∙ via (type_at info.types entry.btf_type) (type_at info.types entry.btf_type) (from_type Strict info) (from_type Lenient info) p (λ t k. k) (λ t k. type_kept t k) (sym (by_type Strict info entry) ∙ h)
 
 module _ (info : TypeInfo) (symbols : List ℕ → Option ℕ) (section : ℕ) where
-  entry_kept : (entry : DataSecEntry) → fault_of (entry_map Stated info symbols section entry) ≡ None
-      → (given (entry_map Broad info symbols section entry) ≡ given (entry_map Stated info symbols section entry)) × (fault_of (entry_map Broad info symbols section entry) ≡ None)
+  entry_kept : (entry : DataSecEntry) → fault_of (entry_map Strict info symbols section entry) ≡ None
+      → (given (entry_map Lenient info symbols section entry) ≡ given (entry_map Strict info symbols section entry)) × (fault_of (entry_map Lenient info symbols section entry) ≡ None)
   unfolding entry_map
-  entry_kept entry none = by_declared (declared Stated info entry) refl none
+  entry_kept entry none = by_declared (declared Strict info entry) refl none
     where
-      by_declared : (r : Result (List ℕ × MapDefinitions) BtfError) → declared Stated info entry ≡ r → fault_of (map_with_symbol symbols section r) ≡ None
-          → (given (map_with_symbol symbols section (declared Broad info entry)) ≡ given (map_with_symbol symbols section r)) × (fault_of (map_with_symbol symbols section (declared Broad info entry)) ≡ None)
+      by_declared : (r : Result (List ℕ × MapDefinitions) BtfError) → declared Strict info entry ≡ r → fault_of (map_with_symbol symbols section r) ≡ None
+          → (given (map_with_symbol symbols section (declared Lenient info entry)) ≡ given (map_with_symbol symbols section r)) × (fault_of (map_with_symbol symbols section (declared Lenient info entry)) ≡ None)
       by_declared (Err e) is k = absurd (cc)
       by_declared (Ok p) is k =
-          let same : declared Broad info entry ≡ Ok p = declared_kept info p entry is in
+          let same : declared Lenient info entry ≡ Ok p = declared_kept info p entry is in
           (ap (λ r. given (map_with_symbol symbols section r)) same, ap (λ r. fault_of (map_with_symbol symbols section r)) same ∙ k)
 
-  entries_kept : (entries : List DataSecEntry) → entries_fault Stated info symbols section entries ≡ None
-      → (entries_maps Broad info symbols section entries ≡ entries_maps Stated info symbols section entries) × (entries_fault Broad info symbols section entries ≡ None)
+  entries_kept : (entries : List DataSecEntry) → entries_fault Strict info symbols section entries ≡ None
+      → (entries_maps Lenient info symbols section entries ≡ entries_maps Strict info symbols section entries) × (entries_fault Lenient info symbols section entries ≡ None)
   entries_kept entries none =
-      all_kept (λ entry. given (entry_map Stated info symbols section entry)) (λ entry. given (entry_map Broad info symbols section entry))
-      (λ entry. fault_of (entry_map Stated info symbols section entry)) (λ entry. fault_of (entry_map Broad info symbols section entry)) entry_kept entries none
+      all_kept (λ entry. given (entry_map Strict info symbols section entry)) (λ entry. given (entry_map Lenient info symbols section entry))
+      (λ entry. fault_of (entry_map Strict info symbols section entry)) (λ entry. fault_of (entry_map Lenient info symbols section entry)) entry_kept entries none
 
-  met_kept : (met : Option DatasecMatch) → matched_maps_fault Stated info symbols section met ≡ None
-      → (matched_maps Broad info symbols section met ≡ matched_maps Stated info symbols section met) × (matched_maps_fault Broad info symbols section met ≡ None)
+  met_kept : (met : Option DatasecMatch) → matched_maps_fault Strict info symbols section met ≡ None
+      → (matched_maps Lenient info symbols section met ≡ matched_maps Strict info symbols section met) × (matched_maps_fault Lenient info symbols section met ≡ None)
   met_kept None none = (refl, refl)
   met_kept (Some (Named entries)) none = entries_kept entries none
   met_kept (Some (UnreadableName e)) none = absurd (cc)
 
-  type_met : (name : List ℕ) (t : BtfType) → type_maps_fault Stated info symbols section name t ≡ None
-      → (type_maps Broad info symbols section name t ≡ type_maps Stated info symbols section name t) × (type_maps_fault Broad info symbols section name t ≡ None)
+  type_met : (name : List ℕ) (t : BtfType) → type_maps_fault Strict info symbols section name t ≡ None
+      → (type_maps Lenient info symbols section name t ≡ type_maps Strict info symbols section name t) × (type_maps_fault Lenient info symbols section name t ≡ None)
   unfolding type_maps type_maps_fault
   type_met name t none = met_kept (datasec_match info name t) none
 
-pub broad_declares_as_stated : BroadDeclaresAsStated
-broad_declares_as_stated info symbols section name none =
-    all_kept (type_maps Stated info symbols section name) (type_maps Broad info symbols section name)
-    (type_maps_fault Stated info symbols section name) (type_maps_fault Broad info symbols section name) (type_met info symbols section name) info.types none
+pub lenient_declares_as_strict : LenientDeclaresAsStrict
+lenient_declares_as_strict info symbols section name none =
+    all_kept (type_maps Strict info symbols section name) (type_maps Lenient info symbols section name)
+    (type_maps_fault Strict info symbols section name) (type_maps_fault Lenient info symbols section name) (type_met info symbols section name) info.types none

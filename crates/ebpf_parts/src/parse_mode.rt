@@ -2,9 +2,9 @@
 
 /// How an object is read.
 #[derive(Clone, Copy, Debug, PartialEq, Eq)]
-pub enum Reading {
+pub enum ParseMode {
     /// Names of program sections from the table of kinds alone, maps and licenses in their first forms.
-    Stated,
+    Strict,
     /// Program sections of every name, arrays of programs, numbers as enumerations, and licenses up to their first zero.
-    Broad,
+    Lenient,
 }

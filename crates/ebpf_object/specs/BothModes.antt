@@ -3,10 +3,10 @@ use Rattle.std.specs.Prelude.{◌≡◌, ℕ, List, None}
 use Rattle.ebpf_base.specs.declared.endianness.Endianness.TheVariants.{Little}
 use Rattle.ebpf_elf.specs.Headers.{ei_data}
 use Rattle.ebpf_object.specs.Objects.{object_as, object_of, parse_fault, parse_fault_as}
-use Rattle.ebpf_parts.specs.declared.reading.Reading.TheVariants.{Broad}
+use Rattle.ebpf_parts.specs.declared.parse_mode.ParseMode.TheVariants.{Lenient}
 
--- of a little-endian file that the stated reading takes both readings give one object, and the broad one finds no fault
+-- of a little-endian file that strict parsing takes both readings give one object, and the broad one finds no fault
 abbrev pub ObjectsAgree : Type 0
 ObjectsAgree =
     (bytes : List ℕ) → ei_data bytes ≡ Little → parse_fault bytes ≡ None
-    → (object_as Broad bytes ≡ object_of bytes) × (parse_fault_as Broad bytes ≡ None)
+    → (object_as Lenient bytes ≡ object_of bytes) × (parse_fault_as Lenient bytes ≡ None)

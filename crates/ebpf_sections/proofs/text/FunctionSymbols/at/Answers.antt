@@ -2,7 +2,7 @@ use Rattle.std.proofs.Common.{rules, sym, ap, ◌∙◌}
 use Rattle.std.specs.Prelude.{option_map}
 use Rattle.ebpf_base.proofs.Lists.{find-map}
 use Rattle.ebpf_sections.specs.Texts.{is_at}
-use Rattle.ebpf_sections.proofs.text.TextSymbols.at.Goals as goal
+use Rattle.ebpf_sections.proofs.text.FunctionSymbols.at.Goals as goal
 
 pub returns : goal.returns
 returns c =

@@ -1,7 +1,7 @@
 use Rattle.std.proofs.Common.{map, filter, ap, ◌∙◌}
 use Rattle.ebpf_sections.specs.Texts.{is_at}
-use Rattle.ebpf_sections.proofs.TextSymbols.{first_at, texts_at}
-use Rattle.ebpf_sections.proofs.text.TextSymbols.new.Goals as goal
+use Rattle.ebpf_sections.proofs.FunctionSymbols.{first_at, texts_at}
+use Rattle.ebpf_sections.proofs.text.FunctionSymbols.new.Goals as goal
 
 pub check_apart-requires : goal.check_apart-requires
 check_apart-requires c = λ q.
