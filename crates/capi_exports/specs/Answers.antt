@@ -9,7 +9,12 @@ use Rattle.capi_rows.specs.declared.refusal.Refusal.{Refusal}
 use Rattle.ebpf_btf.specs.TypeInfo.{TypeInfo}
 use Rattle.ebpf_load_info.specs.AttachTargets.{attach_target}
 use Rattle.ebpf_load_info.specs.declared.attach.AttachTarget.{AttachTarget}
-use Rattle.ebpf_load_info.specs.declared.attach.AttachTarget.TheVariants.{NotWanted, Unnamed, Found, NotFound}
+use Rattle.ebpf_load_info.specs.declared.attach.AttachTarget.TheVariants.{
+  NotWanted,
+  Unnamed,
+  Found,
+  NotFound,
+}
 use Rattle.ebpf_model.specs.Memory.{is_memory_at}
 use Rattle.ebpf_model.specs.declared.error.EbpfRelocationError.{EbpfRelocationError}
 use Rattle.ebpf_model.specs.declared.function.Program.{Program}
@@ -44,7 +49,8 @@ pub record IsCopyList (name : List ℕ) (o : Object) (listed : Listed ebpf_code_
   pub is : listed ≡ copy_list linked.copies
 
 -- its references as rows
-pub record IsReferenceList (name : List ℕ) (o : Object) (rows : List ebpf_code_reference) : Type 0 where
+pub record IsReferenceList (name : List ℕ) (o : Object) (rows : List ebpf_code_reference)
+    : Type 0 where
   pub linked : LinkMap
   pub of : IsLinkMapOf name o linked
   pub is : rows ≡ reference_rows linked.references
@@ -58,7 +64,8 @@ pub record LacksProgram (name : List ℕ) (o : Object) (r : Refusal) : Type 0 wh
 
 -- a refusal of linking that stands, or any that tells of want of memory
 abbrev pub IsUnlinkable : List ℕ → Object → Program → EbpfRelocationError → Type 0
-IsUnlinkable name o program e = MatchBool (is_memory_at e) ⊤ (IsProgramRefusal (own_parts o) (program_value name program) e)
+IsUnlinkable name o program e =
+    MatchBool (is_memory_at e) ⊤ (IsProgramRefusal (own_parts o) (program_value name program) e)
 
 -- the program of the name can't be linked
 pub record HasUnlinkable (name : List ℕ) (o : Object) (r : Refusal) : Type 0 where
@@ -98,7 +105,8 @@ pub record HasNoTypes (name bytes : List ℕ) (r : Refusal) : Type 0 where
 
 -- a name that is no text is refused first
 abbrev pub CannotFindTarget : List ℕ → List ℕ → Refusal → Type 0
-CannotFindTarget name bytes r = ((text_of name ≡ None) × (r ≡ plain BAD_NAME)) ⊎ HasNoTypes name bytes r
+CannotFindTarget name bytes r =
+    ((text_of name ≡ None) × (r ≡ plain BAD_NAME)) ⊎ HasNoTypes name bytes r
 
 -- the number of the target and the id of its type
 pub record TellsTarget (name bytes : List ℕ) (answer id : ℕ) : Type 0 where

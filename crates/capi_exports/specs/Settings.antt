@@ -1,5 +1,20 @@
 -- What is set of an object before its relocation.
-use Rattle.std.specs.Prelude.{◌≡◌, ℕ, Bool, List, Option, Some, None, MatchOption, ◌==◌, false, not, length, MatchBool, if◌then◌else◌}
+use Rattle.std.specs.Prelude.{
+  ◌≡◌,
+  ℕ,
+  Bool,
+  List,
+  Option,
+  Some,
+  None,
+  MatchOption,
+  ◌==◌,
+  false,
+  not,
+  length,
+  MatchBool,
+  if◌then◌else◌,
+}
 use Rattle.std.specs.FinMap.{FinMap, empty, insert}
 use Rattle.capi_rows.specs.Listings.{value_by_bytes}
 use Rattle.capi_rows.specs.Refusals.{plain}
@@ -7,7 +22,11 @@ use Rattle.capi_rows.specs.declared.codes.TheConstants.{BAD_NAME, CLOSED, WRONG_
 use Rattle.capi_rows.specs.declared.refusal.Refusal.{Refusal}
 use Rattle.ebpf_base.specs.Maps.{text_cmp}
 use Rattle.capi_exports.specs.declared.map_settings.Setting.{Setting}
-use Rattle.capi_exports.specs.declared.map_settings.Setting.TheVariants.{MaxEntries, ValueSize, Data}
+use Rattle.capi_exports.specs.declared.map_settings.Setting.TheVariants.{
+  MaxEntries,
+  ValueSize,
+  Data,
+}
 use Rattle.ebpf_object.specs.OlderHelpers.{AreSanitized}
 use Rattle.ebpf_object.specs.Patches.{all_patched, patches_of, patches_fault}
 use Rattle.ebpf_object.specs.declared.object.Object.{Object}
@@ -34,11 +53,14 @@ LacksMap name (Some o) = value_by_bytes o.maps name ≡ None
 abbrev pub one_value : List ℕ → List ℕ → Bool → FinMap text_cmp (List ℕ × Bool)
 one_value name value must_exist = insert empty name (value, must_exist)
 
--- a variable's value, which fits there, written into the data of the map that holds it; all else is as before
+-- a variable's value, which fits there, written into the data of the map that holds it; all else is
+-- as before
 pub record HasPatched (name value : List ℕ) (must_exist : Bool) (old new : Object) : Type 0 where
   pub text : text_of name ≡ Some name
   pub sound : patches_fault old.symbol_table old.maps (one_value name value must_exist) ≡ None
-  pub maps : new.maps ≡ all_patched old.maps (patches_of old.symbol_table old.maps (one_value name value must_exist))
+  pub maps : new.maps
+      ≡ all_patched old.maps
+      (patches_of old.symbol_table old.maps (one_value name value must_exist))
   pub others_stay : new ≡ record old { maps = new.maps }
 
 -- it can't be written; a name that is no text is refused first
@@ -82,7 +104,9 @@ IsDataSet bytes name before number after =
 abbrev pub IsDataSetOf : List ℕ → List ℕ → Option Object → ℕ → Option Object → Type 0
 IsDataSetOf bytes name None number after = (number ≡ CLOSED) × (after ≡ None)
 IsDataSetOf bytes name (Some o) number after =
-    (maps : FinMap text_cmp Map) × IsDataSet bytes name o.maps number maps × (after ≡ Some (record o { maps = maps }))
+    (maps : FinMap text_cmp Map)
+    × IsDataSet bytes name o.maps number maps
+    × (after ≡ Some (record o { maps = maps }))
 
 -- a map with what is set of it
 abbrev pub with_setting : Setting → Map → Map

@@ -24,7 +24,8 @@ use std::alloc::Global;
 
 /// Lists the externs of an object.
 fn list_kconfig(alloc: Global, object: &Object) -> Result<Listing<ebpf_kconfig_extern>, Refusal>
-    ensures { MatchResult (told_listing result) (IsKconfigList object.now) (CannotListKconfig object.now) }
+    ensures { MatchResult (told_listing result) (IsKconfigList object.now)
+        (CannotListKconfig object.now) }
 {
     let externs = match kconfig(object) {
         Ok(externs) => externs,
@@ -51,7 +52,10 @@ pub extern "C" fn ebpf_kconfig(
     report: &mut ebpf_refusal,
 ) -> u32
     ensures stays { handle.new.object ≡ handle.old.object }
-    ensures listed { (found : Result (Listed ebpf_kconfig_extern) Refusal) × FindsHeld IsKconfigList CannotListKconfig handle.old.object found × LeavesListing found result rows.old rows.new text.old text.new counts.old counts.new about.old about.new report.old report.new }
+    ensures listed { (found : Result (Listed ebpf_kconfig_extern) Refusal)
+        × FindsHeld IsKconfigList CannotListKconfig handle.old.object found
+        × LeavesListing found result rows.old rows.new text.old text.new counts.old counts.new
+        about.old about.new report.old report.new }
 {
     let Some(object) = handle.take(alloc) else {
         let closed = Err(Refusal::plain(CLOSED));
@@ -101,7 +105,8 @@ fn configured_value(
     name: &[u8],
     config: &[u8],
 ) -> Result<Option<Items<u8>>, Refusal>
-    ensures { MatchResult result (IsConfigured name.now config.now object.now) (CannotConfigure name.now config.now object.now) }
+    ensures { MatchResult result (IsConfigured name.now config.now object.now)
+        (CannotConfigure name.now config.now object.now) }
 {
     let wanted = wanted_extern(object, name)?;
     match kconfig_value(alloc, config, &wanted, object.endianness) {
@@ -117,7 +122,8 @@ fn number_value(
     name: &[u8],
     number: u64,
 ) -> Result<Items<u8>, Refusal>
-    ensures { MatchResult result (IsNumbered name.now number object.now) (CannotNumber name.now number object.now) }
+    ensures { MatchResult result (IsNumbered name.now number object.now)
+        (CannotNumber name.now number object.now) }
 {
     let wanted = wanted_extern(object, name)?;
     match kconfig_number(alloc, number, &wanted, object.endianness) {
@@ -148,7 +154,11 @@ pub extern "C" fn ebpf_kconfig_value(
     report: &mut ebpf_refusal,
 ) -> u32
     ensures stays { handle.new.object ≡ handle.old.object }
-    ensures value { (found : Result (Option (List ℕ)) Refusal) × FindsHeld (IsConfigured name.now config.now) (CannotConfigure name.now config.now) handle.old.object found × LeavesValue found result value.old value.new len.old len.new is_found.old is_found.new about.old about.new report.old report.new }
+    ensures value { (found : Result (Option (List ℕ)) Refusal)
+        × FindsHeld (IsConfigured name.now config.now) (CannotConfigure name.now config.now)
+        handle.old.object found
+        × LeavesValue found result value.old value.new len.old len.new is_found.old is_found.new
+        about.old about.new report.old report.new }
 {
     let Some(object) = handle.take(alloc) else {
         let closed = Err(Refusal::plain(CLOSED));
@@ -179,7 +189,11 @@ pub extern "C" fn ebpf_kconfig_number(
     report: &mut ebpf_refusal,
 ) -> u32
     ensures stays { handle.new.object ≡ handle.old.object }
-    ensures value { (found : Result (List ℕ) Refusal) × FindsHeld (IsNumbered name.now number) (CannotNumber name.now number) handle.old.object found × LeavesList found result value.old value.new len.old len.new about.old about.new report.old report.new }
+    ensures value { (found : Result (List ℕ) Refusal)
+        × FindsHeld (IsNumbered name.now number) (CannotNumber name.now number) handle.old.object
+        found
+        × LeavesList found result value.old value.new len.old len.new about.old about.new report.old
+        report.new }
 {
     let Some(object) = handle.take(alloc) else {
         let closed = Err(Refusal::plain(CLOSED));
@@ -237,9 +251,12 @@ pub extern "C" fn ebpf_define_kconfig(
     about: &mut [u8],
     report: &mut ebpf_refusal,
 ) -> u32
-    ensures defined { result ≡ DONE → Changes (HasDefined rows.now text.now bytes.now) handle.old.object handle.new.object }
+    ensures defined { result ≡ DONE
+        → Changes (HasDefined rows.now text.now bytes.now) handle.old.object handle.new.object }
     ensures quiet { result ≡ DONE → (about.new ≡ about.old) × (report.new ≡ report.old) }
-    ensures refused { ¬ (result ≡ DONE) → IsRefused (WhyHeld handle.old.object (CannotDefine rows.now text.now bytes.now)) result handle.old.object handle.new.object about.old about.new report.new }
+    ensures refused { ¬ (result ≡ DONE)
+        → IsRefused (WhyHeld handle.old.object (CannotDefine rows.now text.now bytes.now)) result
+        handle.old.object handle.new.object about.old about.new report.new }
 {
     let Some(mut object) = handle.take(alloc) else {
         return tell(&Refusal::plain(CLOSED), about, report);

@@ -56,7 +56,9 @@ pub extern "C" fn ebpf_relocate_calls(
 ) -> u32
     ensures linked { result ≡ DONE → Changes HasLinked handle.old.object handle.new.object }
     ensures quiet { result ≡ DONE → (about.new ≡ about.old) × (report.new ≡ report.old) }
-    ensures refused { ¬ (result ≡ DONE) → IsRefused (WhyHeld handle.old.object CannotLink) result handle.old.object handle.new.object about.old about.new report.new }
+    ensures refused { ¬ (result ≡ DONE)
+        → IsRefused (WhyHeld handle.old.object CannotLink) result handle.old.object
+        handle.new.object about.old about.new report.new }
 {
     let Some(mut object) = handle.take(alloc) else {
         return tell(&Refusal::plain(CLOSED), about, report);
@@ -88,7 +90,8 @@ pub fn copies_of(
     object: &Object,
     name: &[u8],
 ) -> Result<Listing<ebpf_code_copy>, Refusal>
-    ensures { MatchResult (told_listing result) (IsCopyList name.now object.now) (CannotMap name.now object.now) }
+    ensures { MatchResult (told_listing result) (IsCopyList name.now object.now)
+        (CannotMap name.now object.now) }
 {
     let map = link_map_of(object, name)?;
     Ok(list_all(alloc, &(), map.copies.as_slice())?)
@@ -101,7 +104,8 @@ pub fn references_of(
     object: &Object,
     name: &[u8],
 ) -> Result<Items<ebpf_code_reference>, Refusal>
-    ensures { MatchResult result (IsReferenceList name.now object.now) (CannotMap name.now object.now) }
+    ensures { MatchResult result (IsReferenceList name.now object.now)
+        (CannotMap name.now object.now) }
 {
     let map = link_map_of(object, name)?;
     Ok(list_references(alloc, map.references.as_slice())?)
@@ -128,7 +132,10 @@ pub extern "C" fn ebpf_link_map(
     report: &mut ebpf_refusal,
 ) -> u32
     ensures stays { handle.new.object ≡ handle.old.object }
-    ensures listed { (found : Result (Listed ebpf_code_copy) Refusal) × FindsHeld (IsCopyList name.now) (CannotMap name.now) handle.old.object found × LeavesListing found result rows.old rows.new text.old text.new counts.old counts.new about.old about.new report.old report.new }
+    ensures listed { (found : Result (Listed ebpf_code_copy) Refusal)
+        × FindsHeld (IsCopyList name.now) (CannotMap name.now) handle.old.object found
+        × LeavesListing found result rows.old rows.new text.old text.new counts.old counts.new
+        about.old about.new report.old report.new }
 {
     let Some(object) = handle.take(alloc) else {
         let closed = Err(Refusal::plain(CLOSED));
@@ -158,7 +165,10 @@ pub extern "C" fn ebpf_link_references(
     report: &mut ebpf_refusal,
 ) -> u32
     ensures stays { handle.new.object ≡ handle.old.object }
-    ensures listed { (found : Result (List ebpf_code_reference) Refusal) × FindsHeld (IsReferenceList name.now) (CannotMap name.now) handle.old.object found × LeavesList found result rows.old rows.new count.old count.new about.old about.new report.old report.new }
+    ensures listed { (found : Result (List ebpf_code_reference) Refusal)
+        × FindsHeld (IsReferenceList name.now) (CannotMap name.now) handle.old.object found
+        × LeavesList found result rows.old rows.new count.old count.new about.old about.new
+        report.old report.new }
 {
     let Some(object) = handle.take(alloc) else {
         let closed = Err(Refusal::plain(CLOSED));

@@ -33,7 +33,8 @@ fn write_programs(
     text: &mut [u8],
     counts: &mut ebpf_counts,
 ) -> u32
-    ensures { FillsListing (or_memory result (Ok (program_list object.now))) result rows.old rows.new text.old text.new counts.old counts.new }
+    ensures { FillsListing (or_memory result (Ok (program_list object.now))) result rows.old
+        rows.new text.old text.new counts.old counts.new }
 {
     write_all(alloc, object, &object.programs, rows, text, counts)
 }
@@ -53,7 +54,9 @@ pub extern "C" fn ebpf_programs(
     counts: &mut ebpf_counts,
 ) -> u32
     ensures stays { handle.new.object ≡ handle.old.object }
-    ensures fills { FillsListing (or_memory result (of_open (λ o. Ok (program_list o)) handle.old.object)) result rows.old rows.new text.old text.new counts.old counts.new }
+    ensures fills { FillsListing
+        (or_memory result (of_open (λ o. Ok (program_list o)) handle.old.object)) result
+        rows.old rows.new text.old text.new counts.old counts.new }
 {
     let Some(object) = handle.take(alloc) else {
         return CLOSED;
@@ -79,7 +82,9 @@ pub extern "C" fn ebpf_maps(
     counts: &mut ebpf_counts,
 ) -> u32
     ensures stays { handle.new.object ≡ handle.old.object }
-    ensures fills { FillsListing (or_memory result (of_open (λ o. Ok (map_list o)) handle.old.object)) result rows.old rows.new text.old text.new counts.old counts.new }
+    ensures fills { FillsListing
+        (or_memory result (of_open (λ o. Ok (map_list o)) handle.old.object)) result rows.old
+        rows.new text.old text.new counts.old counts.new }
 {
     let Some(object) = handle.take(alloc) else {
         return CLOSED;
@@ -104,7 +109,9 @@ pub extern "C" fn ebpf_externs(
     counts: &mut ebpf_counts,
 ) -> u32
     ensures stays { handle.new.object ≡ handle.old.object }
-    ensures fills { FillsListing (or_memory result (of_open (λ o. Ok (extern_list o)) handle.old.object)) result rows.old rows.new text.old text.new counts.old counts.new }
+    ensures fills { FillsListing
+        (or_memory result (of_open (λ o. Ok (extern_list o)) handle.old.object)) result rows.old
+        rows.new text.old text.new counts.old counts.new }
 {
     let Some(object) = handle.take(alloc) else {
         return CLOSED;
@@ -129,7 +136,9 @@ pub extern "C" fn ebpf_sections(
     counts: &mut ebpf_counts,
 ) -> u32
     ensures stays { handle.new.object ≡ handle.old.object }
-    ensures fills { FillsListing (or_memory result (of_open (λ o. Ok (section_list o)) handle.old.object)) result rows.old rows.new text.old text.new counts.old counts.new }
+    ensures fills { FillsListing
+        (or_memory result (of_open (λ o. Ok (section_list o)) handle.old.object)) result
+        rows.old rows.new text.old text.new counts.old counts.new }
 {
     let Some(object) = handle.take(alloc) else {
         return CLOSED;
@@ -145,7 +154,8 @@ fn list_initial_slots(
     file: &[u8],
     object: &Object,
 ) -> Result<Listing<ebpf_initial_slot>, Refusal>
-    ensures { MatchResult (told_listing result) (IsSlotList file.now object.now) (CannotListSlots file.now object.now) }
+    ensures { MatchResult (told_listing result) (IsSlotList file.now object.now)
+        (CannotListSlots file.now object.now) }
 {
     let slots = match initial_slots(alloc, file, object) {
         Ok(slots) => slots,
@@ -175,7 +185,10 @@ pub extern "C" fn ebpf_initial_slots(
     report: &mut ebpf_refusal,
 ) -> u32
     ensures stays { handle.new.object ≡ handle.old.object }
-    ensures listed { (found : Result (Listed ebpf_initial_slot) Refusal) × FindsHeld (IsSlotList file.now) (CannotListSlots file.now) handle.old.object found × LeavesListing found result rows.old rows.new text.old text.new counts.old counts.new about.old about.new report.old report.new }
+    ensures listed { (found : Result (Listed ebpf_initial_slot) Refusal)
+        × FindsHeld (IsSlotList file.now) (CannotListSlots file.now) handle.old.object found
+        × LeavesListing found result rows.old rows.new text.old text.new counts.old counts.new
+        about.old about.new report.old report.new }
 {
     let Some(object) = handle.take(alloc) else {
         let closed = Err(Refusal::plain(CLOSED));
@@ -253,7 +266,8 @@ fn rows_over_bytes(
     types: &[u8],
     object: &Object,
 ) -> Result<Listing<ebpf_record_outcome>, Refusal>
-    ensures { MatchResult (told_listing result) (IsOutcomeList types.now object.now) (CannotListOutcomes types.now object.now) }
+    ensures { MatchResult (told_listing result) (IsOutcomeList types.now object.now)
+        (CannotListOutcomes types.now object.now) }
 {
     let target = read_types(alloc, types)?;
     Ok(rows_over(alloc, object, &target)?)
@@ -279,7 +293,10 @@ pub extern "C" fn ebpf_record_outcomes(
     report: &mut ebpf_refusal,
 ) -> u32
     ensures stays { handle.new.object ≡ handle.old.object }
-    ensures listed { (found : Result (Listed ebpf_record_outcome) Refusal) × FindsHeld (IsOutcomeList types.now) (CannotListOutcomes types.now) handle.old.object found × LeavesListing found result rows.old rows.new text.old text.new counts.old counts.new about.old about.new report.old report.new }
+    ensures listed { (found : Result (Listed ebpf_record_outcome) Refusal)
+        × FindsHeld (IsOutcomeList types.now) (CannotListOutcomes types.now) handle.old.object found
+        × LeavesListing found result rows.old rows.new text.old text.new counts.old counts.new
+        about.old about.new report.old report.new }
 {
     let Some(object) = handle.take(alloc) else {
         let closed = Err(Refusal::plain(CLOSED));

@@ -74,9 +74,12 @@ pub extern "C" fn ebpf_set_max_entries(
     name: &[u8],
     entries: u32,
 ) -> u32
-    ensures set { result ≡ DONE → Changes (HasSet (λ m. with_max_entries m entries) name.now) handle.old.object handle.new.object }
+    ensures set { result ≡ DONE
+        → Changes (HasSet (λ m. with_max_entries m entries) name.now) handle.old.object
+        handle.new.object }
     ensures refused { ¬ (result ≡ DONE) → handle.new.object ≡ handle.old.object }
-    ensures why { (result ≡ DONE) ⊎ ((result ≡ CLOSED) × (handle.old.object ≡ None)) ⊎ ((result ≡ NO_MAP) × LacksMap name.now handle.old.object) }
+    ensures why { (result ≡ DONE) ⊎ ((result ≡ CLOSED) × (handle.old.object ≡ None)) ⊎
+        ((result ≡ NO_MAP) × LacksMap name.now handle.old.object) }
 {
     let Some(mut object) = handle.take(alloc) else {
         return CLOSED;
@@ -98,9 +101,12 @@ pub extern "C" fn ebpf_set_value_size(
     name: &[u8],
     size: u32,
 ) -> u32
-    ensures set { result ≡ DONE → Changes (HasSet (λ m. with_value_size m size) name.now) handle.old.object handle.new.object }
+    ensures set { result ≡ DONE
+        → Changes (HasSet (λ m. with_value_size m size) name.now) handle.old.object
+        handle.new.object }
     ensures refused { ¬ (result ≡ DONE) → handle.new.object ≡ handle.old.object }
-    ensures why { (result ≡ DONE) ⊎ ((result ≡ CLOSED) × (handle.old.object ≡ None)) ⊎ ((result ≡ NO_MAP) × LacksMap name.now handle.old.object) }
+    ensures why { (result ≡ DONE) ⊎ ((result ≡ CLOSED) × (handle.old.object ≡ None)) ⊎
+        ((result ≡ NO_MAP) × LacksMap name.now handle.old.object) }
 {
     let Some(mut object) = handle.take(alloc) else {
         return CLOSED;
@@ -200,9 +206,12 @@ pub extern "C" fn ebpf_set_values(
     about: &mut [u8],
     report: &mut ebpf_refusal,
 ) -> u32
-    ensures patched { result ≡ DONE → Changes (HasPatchedAll rows.now text.now bytes.now) handle.old.object handle.new.object }
+    ensures patched { result ≡ DONE
+        → Changes (HasPatchedAll rows.now text.now bytes.now) handle.old.object handle.new.object }
     ensures quiet { result ≡ DONE → (about.new ≡ about.old) × (report.new ≡ report.old) }
-    ensures refused { ¬ (result ≡ DONE) → IsRefused (WhyHeld handle.old.object (CannotPatchAll rows.now text.now bytes.now)) result handle.old.object handle.new.object about.old about.new report.new }
+    ensures refused { ¬ (result ≡ DONE)
+        → IsRefused (WhyHeld handle.old.object (CannotPatchAll rows.now text.now bytes.now)) result
+        handle.old.object handle.new.object about.old about.new report.new }
 {
     let Some(mut object) = handle.take(alloc) else {
         return tell(&Refusal::plain(CLOSED), about, report);

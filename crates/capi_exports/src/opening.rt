@@ -38,9 +38,13 @@ fn open(
     about: &mut [u8],
     report: &mut ebpf_refusal,
 ) -> u32
-    ensures opened { result ≡ DONE → (handle.new.object ≡ Some (object_as mode file.now)) × (parse_fault_as mode file.now ≡ None) }
+    ensures opened { result ≡ DONE
+        → (handle.new.object ≡ Some (object_as mode file.now))
+        × (parse_fault_as mode file.now ≡ None) }
     ensures quiet { result ≡ DONE → (about.new ≡ about.old) × (report.new ≡ report.old) }
-    ensures refused { ¬ (result ≡ DONE) → IsRefused (CannotOpen mode file.now) result handle.old.object handle.new.object about.old about.new report.new }
+    ensures refused { ¬ (result ≡ DONE)
+        → IsRefused (CannotOpen mode file.now) result handle.old.object handle.new.object about.old
+        about.new report.new }
 {
     match open_object(alloc, file, mode) {
         Ok(object) => {
@@ -64,9 +68,12 @@ pub extern "C" fn ebpf_open(
     about: &mut [u8],
     report: &mut ebpf_refusal,
 ) -> u32
-    ensures opened { result ≡ DONE → (handle.new.object ≡ Some (object_of file.now)) × (parse_fault file.now ≡ None) }
+    ensures opened { result ≡ DONE
+        → (handle.new.object ≡ Some (object_of file.now)) × (parse_fault file.now ≡ None) }
     ensures quiet { result ≡ DONE → (about.new ≡ about.old) × (report.new ≡ report.old) }
-    ensures refused { ¬ (result ≡ DONE) → IsRefused (CannotOpen Strict file.now) result handle.old.object handle.new.object about.old about.new report.new }
+    ensures refused { ¬ (result ≡ DONE)
+        → IsRefused (CannotOpen Strict file.now) result handle.old.object handle.new.object
+        about.old about.new report.new }
 {
     open(alloc, file, ParseMode::Strict, handle, about, report)
 }
@@ -85,9 +92,13 @@ pub extern "C" fn ebpf_open_broad(
     about: &mut [u8],
     report: &mut ebpf_refusal,
 ) -> u32
-    ensures opened { result ≡ DONE → (handle.new.object ≡ Some (object_as Lenient file.now)) × (parse_fault_as Lenient file.now ≡ None) }
+    ensures opened { result ≡ DONE
+        → (handle.new.object ≡ Some (object_as Lenient file.now))
+        × (parse_fault_as Lenient file.now ≡ None) }
     ensures quiet { result ≡ DONE → (about.new ≡ about.old) × (report.new ≡ report.old) }
-    ensures refused { ¬ (result ≡ DONE) → IsRefused (CannotOpen Lenient file.now) result handle.old.object handle.new.object about.old about.new report.new }
+    ensures refused { ¬ (result ≡ DONE)
+        → IsRefused (CannotOpen Lenient file.now) result handle.old.object handle.new.object
+        about.old about.new report.new }
 {
     open(alloc, file, ParseMode::Lenient, handle, about, report)
 }
@@ -109,7 +120,8 @@ pub extern "C" fn ebpf_clone(alloc: Global, handle: &mut ebpf_handle, copy: &mut
     ensures stays { handle.new.object ≡ handle.old.object }
     ensures copied { result ≡ DONE → copy.new.object ≡ handle.old.object }
     ensures refused { ¬ (result ≡ DONE) → copy.new.object ≡ copy.old.object }
-    ensures why { MatchOption handle.old.object (result ≡ CLOSED) (λ _. (result ≡ DONE) ⊎ (result ≡ MEMORY)) }
+    ensures why { MatchOption handle.old.object (result ≡ CLOSED) (λ _.
+        (result ≡ DONE) ⊎ (result ≡ MEMORY)) }
 {
     let Some(object) = handle.take(alloc) else {
         return CLOSED;
@@ -178,9 +190,13 @@ pub extern "C" fn ebpf_open_within(
     about: &mut [u8],
     report: &mut ebpf_refusal,
 ) -> u32
-    ensures opened { result ≡ DONE → (handle.new.object ≡ Some (object_as (parse_mode_of lenient) file.now)) × (within_fault (parse_mode_of lenient) most_bytes file.now ≡ None) }
+    ensures opened { result ≡ DONE
+        → (handle.new.object ≡ Some (object_as (parse_mode_of lenient) file.now))
+        × (within_fault (parse_mode_of lenient) most_bytes file.now ≡ None) }
     ensures quiet { result ≡ DONE → (about.new ≡ about.old) × (report.new ≡ report.old) }
-    ensures refused { ¬ (result ≡ DONE) → IsRefused (CannotOpenWithin (parse_mode_of lenient) most_bytes file.now) result handle.old.object handle.new.object about.old about.new report.new }
+    ensures refused { ¬ (result ≡ DONE)
+        → IsRefused (CannotOpenWithin (parse_mode_of lenient) most_bytes file.now) result
+        handle.old.object handle.new.object about.old about.new report.new }
 {
     match open_object_within(alloc, file, parse_mode_of(lenient), most_bytes) {
         Ok(object) => {

@@ -46,9 +46,12 @@ pub extern "C" fn ebpf_relocate_types(
     about: &mut [u8],
     report: &mut ebpf_refusal,
 ) -> u32
-    ensures relocated { result ≡ DONE → Changes (HasRelocatedTypes types.now) handle.old.object handle.new.object }
+    ensures relocated { result ≡ DONE
+        → Changes (HasRelocatedTypes types.now) handle.old.object handle.new.object }
     ensures quiet { result ≡ DONE → (about.new ≡ about.old) × (report.new ≡ report.old) }
-    ensures refused { ¬ (result ≡ DONE) → IsRefused (WhyHeld handle.old.object (CannotRelocateTypes types.now)) result handle.old.object handle.new.object about.old about.new report.new }
+    ensures refused { ¬ (result ≡ DONE)
+        → IsRefused (WhyHeld handle.old.object (CannotRelocateTypes types.now)) result
+        handle.old.object handle.new.object about.old about.new report.new }
 {
     let Some(mut object) = handle.take(alloc) else {
         return tell(&Refusal::plain(CLOSED), about, report);
@@ -97,9 +100,12 @@ pub extern "C" fn ebpf_relocate_maps(
     about: &mut [u8],
     report: &mut ebpf_refusal,
 ) -> u32
-    ensures fds_written { result ≡ DONE → Changes (HasWrittenMapFds rows.now text.now) handle.old.object handle.new.object }
+    ensures fds_written { result ≡ DONE
+        → Changes (HasWrittenMapFds rows.now text.now) handle.old.object handle.new.object }
     ensures quiet { result ≡ DONE → (about.new ≡ about.old) × (report.new ≡ report.old) }
-    ensures refused { ¬ (result ≡ DONE) → IsRefused (WhyHeld handle.old.object (CannotWriteMapFds rows.now text.now)) result handle.old.object handle.new.object about.old about.new report.new }
+    ensures refused { ¬ (result ≡ DONE)
+        → IsRefused (WhyHeld handle.old.object (CannotWriteMapFds rows.now text.now)) result
+        handle.old.object handle.new.object about.old about.new report.new }
 {
     let Some(mut object) = handle.take(alloc) else {
         return tell(&Refusal::plain(CLOSED), about, report);
@@ -149,9 +155,12 @@ pub extern "C" fn ebpf_resolve_externs(
     about: &mut [u8],
     report: &mut ebpf_refusal,
 ) -> u32
-    ensures resolved { result ≡ DONE → Changes (HasResolved types.now symbols.now) handle.old.object handle.new.object }
+    ensures resolved { result ≡ DONE
+        → Changes (HasResolved types.now symbols.now) handle.old.object handle.new.object }
     ensures quiet { result ≡ DONE → (about.new ≡ about.old) × (report.new ≡ report.old) }
-    ensures refused { ¬ (result ≡ DONE) → IsRefused (WhyHeld handle.old.object (CannotResolve types.now symbols.now)) result handle.old.object handle.new.object about.old about.new report.new }
+    ensures refused { ¬ (result ≡ DONE)
+        → IsRefused (WhyHeld handle.old.object (CannotResolve types.now symbols.now)) result
+        handle.old.object handle.new.object about.old about.new report.new }
 {
     let Some(mut object) = handle.take(alloc) else {
         return tell(&Refusal::plain(CLOSED), about, report);
@@ -187,9 +196,12 @@ pub extern "C" fn ebpf_relocate_externs(
     about: &mut [u8],
     report: &mut ebpf_refusal,
 ) -> u32
-    ensures written { result ≡ DONE → Changes HasWrittenExterns handle.old.object handle.new.object }
+    ensures written { result ≡ DONE
+        → Changes HasWrittenExterns handle.old.object handle.new.object }
     ensures quiet { result ≡ DONE → (about.new ≡ about.old) × (report.new ≡ report.old) }
-    ensures refused { ¬ (result ≡ DONE) → IsRefused (WhyHeld handle.old.object CannotWriteExterns) result handle.old.object handle.new.object about.old about.new report.new }
+    ensures refused { ¬ (result ≡ DONE)
+        → IsRefused (WhyHeld handle.old.object CannotWriteExterns) result handle.old.object
+        handle.new.object about.old about.new report.new }
 {
     let Some(mut object) = handle.take(alloc) else {
         return tell(&Refusal::plain(CLOSED), about, report);
@@ -217,8 +229,10 @@ fn sanitize(object: &mut Object, has_newer: bool)
 /// 0; 3 where the handle is closed. It is then as it was.
 #[unsafe(no_mangle)]
 pub extern "C" fn ebpf_sanitize(alloc: Global, handle: &mut ebpf_handle, has_newer: u32) -> u32
-    ensures sanitized { result ≡ DONE → Changes (HasSanitized (not (has_newer == 0))) handle.old.object handle.new.object }
-    ensures refused { ¬ (result ≡ DONE) → (handle.new.object ≡ handle.old.object) × (handle.old.object ≡ None) }
+    ensures sanitized { result ≡ DONE
+        → Changes (HasSanitized (not (has_newer == 0))) handle.old.object handle.new.object }
+    ensures refused { ¬ (result ≡ DONE)
+        → (handle.new.object ≡ handle.old.object) × (handle.old.object ≡ None) }
     ensures why { (result ≡ DONE) ⊎ (result ≡ CLOSED) }
 {
     let Some(mut object) = handle.take(alloc) else {

@@ -23,8 +23,10 @@ fn prepare_box(
     text: &[u8],
     symbols: &[u8],
 ) -> Result<Box<Object>, Refusal>
-    ensures prepared { IfOk result (λ b. HasPrepared file.now (inputs_of types.now rows.now text.now symbols.now) b.value) }
-    ensures why { IfErr result (CannotPrepare file.now (inputs_of types.now rows.now text.now symbols.now)) }
+    ensures prepared { IfOk result (λ b.
+        HasPrepared file.now (inputs_of types.now rows.now text.now symbols.now) b.value) }
+    ensures why { IfErr result
+        (CannotPrepare file.now (inputs_of types.now rows.now text.now symbols.now)) }
     ensures refuses { IfErr result (λ r. 0 < r.number) }
 {
     if !have_names(rows, text) {
@@ -60,9 +62,13 @@ pub extern "C" fn ebpf_prepare(
     about: &mut [u8],
     report: &mut ebpf_refusal,
 ) -> u32
-    ensures prepared { result ≡ DONE → IsPreparedIn file.now (inputs_of types.now rows.now text.now symbols.now) handle.new.object }
+    ensures prepared { result ≡ DONE
+        → IsPreparedIn file.now (inputs_of types.now rows.now text.now symbols.now)
+        handle.new.object }
     ensures quiet { result ≡ DONE → (about.new ≡ about.old) × (report.new ≡ report.old) }
-    ensures refused { ¬ (result ≡ DONE) → IsRefused (CannotPrepare file.now (inputs_of types.now rows.now text.now symbols.now)) result handle.old.object handle.new.object about.old about.new report.new }
+    ensures refused { ¬ (result ≡ DONE)
+        → IsRefused (CannotPrepare file.now (inputs_of types.now rows.now text.now symbols.now))
+        result handle.old.object handle.new.object about.old about.new report.new }
 {
     match prepare_box(alloc, file, types, rows, text, symbols) {
         Ok(object) => {
@@ -82,9 +88,12 @@ fn prepare_held(
     text: &[u8],
     symbols: &[u8],
 ) -> Result<(), Refusal>
-    ensures ok { OnOk result (HasPreparedHeld (inputs_of types.now rows.now text.now symbols.now) object.old object.new) }
+    ensures ok { OnOk result
+        (HasPreparedHeld (inputs_of types.now rows.now text.now symbols.now) object.old
+        object.new) }
     ensures unchanged { OnErr result (object.new ≡ object.old) }
-    ensures why { IfErr result (CannotPrepareHeld (inputs_of types.now rows.now text.now symbols.now) object.old) }
+    ensures why { IfErr result
+        (CannotPrepareHeld (inputs_of types.now rows.now text.now symbols.now) object.old) }
     ensures refuses { IfErr result (λ r. 0 < r.number) }
 {
     if !have_names(rows, text) {
@@ -118,9 +127,15 @@ pub extern "C" fn ebpf_prepare_handle(
     about: &mut [u8],
     report: &mut ebpf_refusal,
 ) -> u32
-    ensures prepared { result ≡ DONE → Changes (HasPreparedHeld (inputs_of types.now rows.now text.now symbols.now)) handle.old.object handle.new.object }
+    ensures prepared { result ≡ DONE
+        → Changes (HasPreparedHeld (inputs_of types.now rows.now text.now symbols.now))
+        handle.old.object handle.new.object }
     ensures quiet { result ≡ DONE → (about.new ≡ about.old) × (report.new ≡ report.old) }
-    ensures refused { ¬ (result ≡ DONE) → IsRefused (WhyHeld handle.old.object (CannotPrepareHeld (inputs_of types.now rows.now text.now symbols.now))) result handle.old.object handle.new.object about.old about.new report.new }
+    ensures refused { ¬ (result ≡ DONE)
+        → IsRefused
+        (WhyHeld handle.old.object
+        (CannotPrepareHeld (inputs_of types.now rows.now text.now symbols.now))) result
+        handle.old.object handle.new.object about.old about.new report.new }
 {
     let Some(mut object) = handle.take(alloc) else {
         return tell(&Refusal::plain(CLOSED), about, report);

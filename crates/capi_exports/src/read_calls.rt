@@ -30,7 +30,8 @@ pub extern "C" fn ebpf_info(
     info: &mut ebpf_object_info,
 ) -> u32
     ensures stays { handle.new.object ≡ handle.old.object }
-    ensures info { MatchOption handle.old.object ((result ≡ CLOSED) × (info.new ≡ info.old)) (λ o. (result ≡ DONE) × (info.new ≡ info_of o)) }
+    ensures info { MatchOption handle.old.object ((result ≡ CLOSED) × (info.new ≡ info.old)) (λ o.
+        (result ≡ DONE) × (info.new ≡ info_of o)) }
 {
     let Some(object) = handle.take(alloc) else {
         return CLOSED;
@@ -53,7 +54,8 @@ pub extern "C" fn ebpf_license(
     len: &mut usize,
 ) -> u32
     ensures stays { handle.new.object ≡ handle.old.object }
-    ensures fills { FillsList (of_open (read_license) handle.old.object) result text.old text.new len.old len.new }
+    ensures fills { FillsList (of_open (read_license) handle.old.object) result text.old text.new
+        len.old len.new }
 {
     let Some(object) = handle.take(alloc) else {
         return CLOSED;
@@ -75,7 +77,8 @@ pub extern "C" fn ebpf_states_license(
     states: &mut u32,
 ) -> u32
     ensures stays { handle.new.object ≡ handle.old.object }
-    ensures states { MatchOption handle.old.object ((result ≡ CLOSED) × (states.new ≡ states.old)) (λ o. (result ≡ DONE) × (states.new ≡ flag (states_license o))) }
+    ensures states { MatchOption handle.old.object ((result ≡ CLOSED) × (states.new ≡ states.old))
+        (λ o. (result ≡ DONE) × (states.new ≡ flag (states_license o))) }
 {
     let Some(object) = handle.take(alloc) else {
         return CLOSED;
@@ -88,7 +91,8 @@ pub extern "C" fn ebpf_states_license(
 /// Writes the name of a program's section, as `ebpf_program_section` does.
 #[tactic(auto, using(capi_rows::proofs::Fills::unless_memory))]
 fn write_section(object: &Object, name: &[u8], text: &mut [u8], len: &mut usize) -> u32
-    ensures { FillsList (or_memory result (read_section_name name.now object.now)) result text.old text.new len.old len.new }
+    ensures { FillsList (or_memory result (read_section_name name.now object.now)) result text.old
+        text.new len.old len.new }
 {
     write_list(read_section_name(object, name), text, len)
 }
@@ -108,7 +112,9 @@ pub extern "C" fn ebpf_program_section(
     len: &mut usize,
 ) -> u32
     ensures stays { handle.new.object ≡ handle.old.object }
-    ensures fills { FillsList (or_memory result (of_open (read_section_name name.now) handle.old.object)) result text.old text.new len.old len.new }
+    ensures fills { FillsList
+        (or_memory result (of_open (read_section_name name.now) handle.old.object)) result
+        text.old text.new len.old len.new }
 {
     let Some(object) = handle.take(alloc) else {
         return CLOSED;
@@ -132,7 +138,8 @@ pub extern "C" fn ebpf_slots(
     count: &mut usize,
 ) -> u32
     ensures stays { handle.new.object ≡ handle.old.object }
-    ensures fills { FillsList (of_open (read_slots name.now) handle.old.object) result slots.old slots.new count.old count.new }
+    ensures fills { FillsList (of_open (read_slots name.now) handle.old.object) result slots.old
+        slots.new count.old count.new }
 {
     let Some(object) = handle.take(alloc) else {
         return CLOSED;
@@ -156,7 +163,8 @@ pub extern "C" fn ebpf_func_infos(
     count: &mut usize,
 ) -> u32
     ensures stays { handle.new.object ≡ handle.old.object }
-    ensures fills { FillsList (of_open (read_func_infos name.now) handle.old.object) result rows.old rows.new count.old count.new }
+    ensures fills { FillsList (of_open (read_func_infos name.now) handle.old.object) result rows.old
+        rows.new count.old count.new }
 {
     let Some(object) = handle.take(alloc) else {
         return CLOSED;
@@ -180,7 +188,8 @@ pub extern "C" fn ebpf_line_infos(
     count: &mut usize,
 ) -> u32
     ensures stays { handle.new.object ≡ handle.old.object }
-    ensures fills { FillsList (of_open (read_line_infos name.now) handle.old.object) result rows.old rows.new count.old count.new }
+    ensures fills { FillsList (of_open (read_line_infos name.now) handle.old.object) result rows.old
+        rows.new count.old count.new }
 {
     let Some(object) = handle.take(alloc) else {
         return CLOSED;
@@ -204,7 +213,8 @@ pub extern "C" fn ebpf_map_data(
     len: &mut usize,
 ) -> u32
     ensures stays { handle.new.object ≡ handle.old.object }
-    ensures fills { FillsList (of_open (read_map_data name.now) handle.old.object) result bytes.old bytes.new len.old len.new }
+    ensures fills { FillsList (of_open (read_map_data name.now) handle.old.object) result bytes.old
+        bytes.new len.old len.new }
 {
     let Some(object) = handle.take(alloc) else {
         return CLOSED;

@@ -70,7 +70,9 @@ pub extern "C" fn ebpf_attach_target(
     type_id: &mut u32,
 ) -> u32
     ensures found { result ≡ DONE → TellsTarget section_name.now types.now answer.new type_id.new }
-    ensures refused { ¬ (result ≡ DONE) → TellsNone section_name.now types.now result answer.old answer.new type_id.old type_id.new }
+    ensures refused { ¬ (result ≡ DONE)
+        → TellsNone section_name.now types.now result answer.old answer.new type_id.old
+        type_id.new }
 {
     match find_target(alloc, section_name, types) {
         Ok(target) => {
@@ -111,7 +113,10 @@ pub extern "C" fn ebpf_kernel_types(
     about: &mut [u8],
     report: &mut ebpf_refusal,
 ) -> u32
-    ensures { (found : Result (List ℕ) Refusal) × AreTypesForKernel file.now found × LeavesList found result types.old types.new len.old len.new about.old about.new report.old report.new }
+    ensures { (found : Result (List ℕ) Refusal)
+        × AreTypesForKernel file.now found
+        × LeavesList found result types.old types.new len.old len.new about.old about.new report.old
+        report.new }
 {
     let found = types_for_kernel(alloc, file);
     tell_items(found, types, len, about, report)

@@ -26,7 +26,8 @@ fn one_value<'a>(
     value: &'a [u8],
     must_exist: bool,
 ) -> Result<HashMap<&'a str, (&'a [u8], bool)>, AllocError>
-    ensures { IfOk result (λ globals. globals_of globals.entries ≡ one_value name.now value.now must_exist) }
+    ensures { IfOk result (λ globals.
+        globals_of globals.entries ≡ one_value name.now value.now must_exist) }
 {
     let mut globals = HashMap::new(alloc);
     put_over(&mut globals, name, (value, must_exist))?;
@@ -75,9 +76,14 @@ pub extern "C" fn ebpf_set_value(
     about: &mut [u8],
     report: &mut ebpf_refusal,
 ) -> u32
-    ensures patched { result ≡ DONE → Changes (HasPatched name.now value.now (not (must_exist == 0))) handle.old.object handle.new.object }
+    ensures patched { result ≡ DONE
+        → Changes (HasPatched name.now value.now (not (must_exist == 0))) handle.old.object
+        handle.new.object }
     ensures quiet { result ≡ DONE → (about.new ≡ about.old) × (report.new ≡ report.old) }
-    ensures refused { ¬ (result ≡ DONE) → IsRefused (WhyHeld handle.old.object (CannotPatch name.now value.now (not (must_exist == 0)))) result handle.old.object handle.new.object about.old about.new report.new }
+    ensures refused { ¬ (result ≡ DONE)
+        → IsRefused
+        (WhyHeld handle.old.object (CannotPatch name.now value.now (not (must_exist == 0))))
+        result handle.old.object handle.new.object about.old about.new report.new }
 {
     let Some(mut object) = handle.take(alloc) else {
         return tell(&Refusal::plain(CLOSED), about, report);
@@ -95,7 +101,8 @@ fn write_variables(
     text: &mut [u8],
     counts: &mut ebpf_counts,
 ) -> u32
-    ensures { FillsListing (or_memory result (Ok (variable_list object.now))) result rows.old rows.new text.old text.new counts.old counts.new }
+    ensures { FillsListing (or_memory result (Ok (variable_list object.now))) result rows.old
+        rows.new text.old text.new counts.old counts.new }
 {
     let Ok(names) = symbol_indices(alloc, &object.symbol_table) else {
         return MEMORY;
@@ -119,7 +126,9 @@ pub extern "C" fn ebpf_variables(
     counts: &mut ebpf_counts,
 ) -> u32
     ensures stays { handle.new.object ≡ handle.old.object }
-    ensures fills { FillsListing (or_memory result (of_open (λ o. Ok (variable_list o)) handle.old.object)) result rows.old rows.new text.old text.new counts.old counts.new }
+    ensures fills { FillsListing
+        (or_memory result (of_open (λ o. Ok (variable_list o)) handle.old.object)) result
+        rows.old rows.new text.old text.new counts.old counts.new }
 {
     let Some(object) = handle.take(alloc) else {
         return CLOSED;
@@ -145,7 +154,8 @@ pub extern "C" fn ebpf_value(
     len: &mut usize,
 ) -> u32
     ensures stays { handle.new.object ≡ handle.old.object }
-    ensures fills { FillsList (or_memory result (of_open (read_value name.now) handle.old.object)) result value.old value.new len.old len.new }
+    ensures fills { FillsList (or_memory result (of_open (read_value name.now) handle.old.object))
+        result value.old value.new len.old len.new }
 {
     let Some(object) = handle.take(alloc) else {
         return CLOSED;

@@ -1,5 +1,27 @@
--- What a call leaves in the buffers of its caller. Where it found what it has to write, it does so where all of it fits, and else says how much there is.
-use Rattle.std.specs.Prelude.{◌≡◌, ℕ, Bool, ◌&&◌, ◌==◌, List, ◌++◌, length, drop, Result, Ok, Err, nat_le, if◌then◌else◌, [], take, min, Option, is_some, unwrap_or}
+-- What a call leaves in the buffers of its caller. Where it found what it has to write, it does so
+-- where all of it fits, and else says how much there is.
+use Rattle.std.specs.Prelude.{
+  ◌≡◌,
+  ℕ,
+  Bool,
+  ◌&&◌,
+  ◌==◌,
+  List,
+  ◌++◌,
+  length,
+  drop,
+  Result,
+  Ok,
+  Err,
+  nat_le,
+  if◌then◌else◌,
+  [],
+  take,
+  min,
+  Option,
+  is_some,
+  unwrap_or,
+}
 use denote.Ref.{Bor}
 use Rattle.capi_rows.specs.declared.codes.TheConstants.{DONE, ROOM, MEMORY}
 use Rattle.capi_rows.specs.declared.buffers.ebpf_counts.{ebpf_counts}
@@ -8,8 +30,9 @@ use Rattle.capi_rows.specs.declared.refusal.Refusal.{Refusal}
 use Rattle.capi_rows.specs.Refusals.{no_details, flag, name_of, refusal_row}
 use Rattle.capi_rows.specs.declared.refusal.ebpf_refusal.{ebpf_refusal}
 
--- ---- what a call leaves in the buffers of its caller. `Err` is a number that the call answers without writing; `Ok` is what
--- it has to write: it does so where all of it fits, and else says how much there is.
+-- ---- what a call leaves in the buffers of its caller. `Err` is a number that the call answers
+-- without writing; `Ok` is what it has to write: it does so where all of it fits, and else says how
+-- much there is.
 
 -- a list at the front of a buffer, where it may be written
 abbrev pub front : {X : Type 0} → Bool → List X → List X → List X
@@ -38,7 +61,9 @@ count_after (Err number) count = count
 count_after (Ok xs) count = length xs
 
 -- what a call leaves of a buffer and a count
-pub record FillsList {X : Type 0} (found : Result (List X) ℕ) (number : ℕ) (out out_left : List X) (count count_left : ℕ) : Type 0 where
+pub record FillsList {X : Type 0} (found : Result (List X) ℕ) (number : ℕ) (out out_left : List X)
+    (count count_left : ℕ)
+    : Type 0 where
   pub answered : number ≡ answer found out
   pub listed : out_left ≡ filled found out
   pub counted : count_left ≡ count_after found count
@@ -49,7 +74,8 @@ abbrev pub Listed : Type 0 → Type 0
 Listed R = List R × List ℕ
 
 abbrev pub both_fit : {R : Type 0} → Listed R → List R → List ℕ → Bool
-both_fit listed rows text = nat_le (length listed.0) (length rows) && nat_le (length listed.1) (length text)
+both_fit listed rows text =
+    nat_le (length listed.0) (length rows) && nat_le (length listed.1) (length text)
 
 abbrev pub answer_listed : {R : Type 0} → Result (Listed R) ℕ → List R → List ℕ → ℕ
 answer_listed (Err number) rows text = number
@@ -67,7 +93,9 @@ abbrev pub counts_of : {R : Type 0} → Result (Listed R) ℕ → ebpf_counts �
 counts_of (Err number) counts = counts
 counts_of (Ok listed) counts = record { rows = length listed.0; text = length listed.1 }
 
-pub record FillsListing {R : Type 0} (found : Result (Listed R) ℕ) (number : ℕ) (rows rows_left : List R) (text text_left : List ℕ) (counts counts_left : ebpf_counts) : Type 0 where
+pub record FillsListing {R : Type 0} (found : Result (Listed R) ℕ) (number : ℕ)
+    (rows rows_left : List R) (text text_left : List ℕ) (counts counts_left : ebpf_counts)
+    : Type 0 where
   pub answered : number ≡ answer_listed found rows text
   pub rows_are : rows_left ≡ filled_rows found rows text
   pub text_is : text_left ≡ filled_text found rows text
@@ -85,8 +113,9 @@ abbrev pub told_listing : {R : Type 0} → Result (Listing R) Refusal → Result
 told_listing (Err r) = Err r
 told_listing (Ok listing) = Ok (listing.rows.items, listing.text.items)
 
--- ---- what a call leaves that fills buffers and can refuse by a name. Where it found what it has to write, that stands at the
--- front of the buffers, or the counts say how much there is; else C is told of the refusal.
+-- ---- what a call leaves that fills buffers and can refuse by a name. Where it found what it has
+-- to write, that stands at the front of the buffers, or the counts say how much there is; else C is
+-- told of the refusal.
 
 -- a refusal by its number alone
 abbrev pub numbered : {X : Type 0} → Result X Refusal → Result X ℕ
@@ -105,11 +134,15 @@ plain_row number = refusal_row number no_details 0
 -- the row that tells of it; want of room is told by its number alone
 abbrev pub report_after : {X : Type 0} → Result X Refusal → ℕ → List ℕ → ebpf_refusal → ebpf_refusal
 report_after (Ok x) number about report = if number == ROOM then plain_row ROOM else report
-report_after (Err r) number about report = refusal_row r.number r.details (min (length (name_of r)) (length about))
+report_after (Err r) number about report =
+    refusal_row r.number r.details (min (length (name_of r)) (length about))
 
 -- ---- one list, whose length is the count
 
-pub record LeavesList {X : Type 0} (found : Result (List X) Refusal) (number : ℕ) (out out_left : List X) (count count_left : ℕ) (about about_left : List ℕ) (report report_left : ebpf_refusal) : Type 0 where
+pub record LeavesList {X : Type 0} (found : Result (List X) Refusal) (number : ℕ)
+    (out out_left : List X) (count count_left : ℕ) (about about_left : List ℕ)
+    (report report_left : ebpf_refusal)
+    : Type 0 where
   pub fills : FillsList (numbered found) number out out_left count count_left
   pub told : about_left ≡ about_after found about
   pub reported : report_left ≡ report_after found number about report
@@ -124,13 +157,20 @@ abbrev pub found_after : Result (Option (List ℕ)) Refusal → ℕ → ℕ
 found_after (Ok value) is_found = flag (is_some value)
 found_after (Err r) is_found = is_found
 
-pub record LeavesValue (found : Result (Option (List ℕ)) Refusal) (number : ℕ) (out out_left : List ℕ) (count count_left is_found is_found_left : ℕ) (about about_left : List ℕ) (report report_left : ebpf_refusal) : Type 0 where
-  pub bytes : LeavesList (bytes_found found) number out out_left count count_left about about_left report report_left
+pub record LeavesValue (found : Result (Option (List ℕ)) Refusal) (number : ℕ)
+    (out out_left : List ℕ) (count count_left is_found is_found_left : ℕ)
+    (about about_left : List ℕ) (report report_left : ebpf_refusal)
+    : Type 0 where
+  pub bytes : LeavesList (bytes_found found) number out out_left count count_left about about_left
+      report report_left
   pub says : is_found_left ≡ found_after found is_found
 
 -- ---- rows and the text that they point into
 
-pub record LeavesListing {R : Type 0} (found : Result (Listed R) Refusal) (number : ℕ) (rows rows_left : List R) (text text_left : List ℕ) (counts counts_left : ebpf_counts) (about about_left : List ℕ) (report report_left : ebpf_refusal) : Type 0 where
+pub record LeavesListing {R : Type 0} (found : Result (Listed R) Refusal) (number : ℕ)
+    (rows rows_left : List R) (text text_left : List ℕ) (counts counts_left : ebpf_counts)
+    (about about_left : List ℕ) (report report_left : ebpf_refusal)
+    : Type 0 where
   pub fills : FillsListing (numbered found) number rows rows_left text text_left counts counts_left
   pub told : about_left ≡ about_after found about
   pub reported : report_left ≡ report_after found number about report

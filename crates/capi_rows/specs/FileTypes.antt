@@ -1,5 +1,26 @@
 -- The names of the types of a file.
-use Rattle.std.specs.Prelude.{ℕ, List, Option, Some, None, slice_get, Bool, is_some, codes, unwrap_or, ◌≡◌, ⊤, [], ◌∷◌, Result, Ok, Err, MatchBool, ◌==◌, if◌then◌else◌}
+use Rattle.std.specs.Prelude.{
+  ℕ,
+  List,
+  Option,
+  Some,
+  None,
+  slice_get,
+  Bool,
+  is_some,
+  codes,
+  unwrap_or,
+  ◌≡◌,
+  ⊤,
+  [],
+  ◌∷◌,
+  Result,
+  Ok,
+  Err,
+  MatchBool,
+  ◌==◌,
+  if◌then◌else◌,
+}
 use Rattle.std.specs.Option.{option_and_then}
 use Rattle.std.specs.Result.{result_ok}
 use Rattle.std.specs.FinMap.{contains_key}
@@ -32,15 +53,18 @@ if_sound (Some e) value = None
 
 -- the types of a section of a file, where they can be read
 abbrev pub types_of_section : List ℕ → SectionOf → Option TypeInfo
-types_of_section file s = if_sound (first_of (data_faults s)) (result_ok (type_info_of (ei_data file) (data_of s)))
+types_of_section file s =
+    if_sound (first_of (data_faults s)) (result_ok (type_info_of (ei_data file) (data_of s)))
 
 -- those of the first section .BTF of a file
 unfoldable pub file_types : List ℕ → Option TypeInfo
-file_types file = if_sound (first_in (faults file)) (option_and_then (types_of_section file) (btf_section file))
+file_types file =
+    if_sound (first_in (faults file)) (option_and_then (types_of_section file) (btf_section file))
 
 -- the name of the type with an id, where it can be read
 abbrev pub name_of_id : TypeInfo → ℕ → Option (List ℕ)
-name_of_id types id = option_and_then (λ t. result_ok (type_name types t)) (slice_get types.types id)
+name_of_id types id =
+    option_and_then (λ t. result_ok (type_name types t)) (slice_get types.types id)
 
 abbrev pub file_type_name : List ℕ → ℕ → Option (List ℕ)
 file_type_name file id = option_and_then (λ types. name_of_id types id) (file_types file)
@@ -74,7 +98,8 @@ types_in bytes = type_info_of (order_by_magic bytes) bytes
 
 -- the types can't be read, or memory was refused
 abbrev pub CannotRead : List ℕ → Refusal → Type 0
-CannotRead bytes = IsRefusal (λ e. MatchBool (is_btf_memory e) ⊤ (types_in bytes ≡ Err e)) (type_refusal 200)
+CannotRead bytes =
+    IsRefusal (λ e. MatchBool (is_btf_memory e) ⊤ (types_in bytes ≡ Err e)) (type_refusal 200)
 
 abbrev pub some_types : Result TypeInfo BtfError → Result (Option TypeInfo) BtfError
 some_types (Ok types) = Ok (Some types)
@@ -87,4 +112,5 @@ types_if (first ∷ rest) = some_types (types_in (first ∷ rest))
 
 -- a kernel's types, where there are any, can't be read, or memory was refused
 abbrev pub CannotReadIf : List ℕ → Refusal → Type 0
-CannotReadIf bytes = IsRefusal (λ e. MatchBool (is_btf_memory e) ⊤ (types_if bytes ≡ Err e)) (type_refusal 200)
+CannotReadIf bytes =
+    IsRefusal (λ e. MatchBool (is_btf_memory e) ⊤ (types_if bytes ≡ Err e)) (type_refusal 200)

@@ -3,7 +3,21 @@ use Rattle.capi_rows.specs.Listings.{value_by_bytes}
 use Rattle.ebpf_parts.specs.declared.maps.either.Map.{Map}
 use Rattle.ebpf_base.specs.Maps.{text_cmp}
 use Rattle.std.specs.FinMap.{FinMap, insert}
-use Rattle.std.specs.Prelude.{◌≡◌, ◌⊎◌, ⊤, ℕ, List, Option, Some, None, Result, Err, MatchBool, MatchResult, MatchOption}
+use Rattle.std.specs.Prelude.{
+  ◌≡◌,
+  ◌⊎◌,
+  ⊤,
+  ℕ,
+  List,
+  Option,
+  Some,
+  None,
+  Result,
+  Err,
+  MatchBool,
+  MatchResult,
+  MatchOption,
+}
 use Rattle.capi_rows.specs.FaultNumbers.{parse_refusal}
 use Rattle.capi_rows.specs.Refusals.{plain, IsReported}
 use Rattle.capi_rows.specs.declared.codes.TheConstants.{CLOSED, MEMORY, DONE, NO_MAP}
@@ -27,7 +41,8 @@ WhyHeld None Why r = r ≡ plain CLOSED
 WhyHeld (Some o) Why r = Why o r
 
 -- what is found of what a handle holds, or why not; a closed one is refused as such
-abbrev pub FindsHeld : {X : Type 0} → (Object → X → Type 0) → (Object → Refusal → Type 0) → Option Object → Result X Refusal → Type 0
+abbrev pub FindsHeld : {X : Type 0} → (Object → X → Type 0) → (Object → Refusal → Type 0)
+    → Option Object → Result X Refusal → Type 0
 FindsHeld Finds Why None found = found ≡ Err (plain CLOSED)
 FindsHeld Finds Why (Some o) found = MatchResult found (Finds o) (Why o)
 
@@ -38,7 +53,9 @@ Changes Change (Some old) None = ⊥
 Changes Change (Some old) (Some new) = Change old new
 
 -- a call refuses for a reason: the handle is as it was, and C is told
-pub record IsRefused (Why : Refusal → Type 0) (answer : ℕ) (before after : Option Object) (about_before about_after : List ℕ) (report : ebpf_refusal) : Type 0 where
+pub record IsRefused (Why : Refusal → Type 0) (answer : ℕ) (before after : Option Object)
+    (about_before about_after : List ℕ) (report : ebpf_refusal)
+    : Type 0 where
   pub stays : after ≡ before
   pub refusal : Refusal
   pub why : Why refusal
@@ -47,4 +64,5 @@ pub record IsRefused (Why : Refusal → Type 0) (answer : ℕ) (before after : O
 -- the map of a name is another one, or no map has the name
 abbrev pub IsSet : (Map → Map) → List ℕ → FinMap text_cmp Map → ℕ → FinMap text_cmp Map → Type 0
 IsSet set name before number after =
-    MatchOption (value_by_bytes before name) ((number ≡ NO_MAP) × (after ≡ before)) (λ m. (number ≡ DONE) × (after ≡ insert before name (set m)))
+    MatchOption (value_by_bytes before name) ((number ≡ NO_MAP) × (after ≡ before)) (λ m.
+    (number ≡ DONE) × (after ≡ insert before name (set m)))

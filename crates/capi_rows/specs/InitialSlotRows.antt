@@ -1,6 +1,26 @@
 -- What C reads of the initial values of maps.
-use Rattle.std.specs.Prelude.{◌≡◌, ⊤, ℕ, ◌+◌, Bool, true, false, List, [], ◌∷◌, ◌++◌, length, Some, None, MatchBool}
-use Rattle.ebpf_initial_slots.specs.InitialSlots.{is_initial_slot_memory, initial_slots, initial_slots_fault}
+use Rattle.std.specs.Prelude.{
+  ◌≡◌,
+  ⊤,
+  ℕ,
+  ◌+◌,
+  Bool,
+  true,
+  false,
+  List,
+  [],
+  ◌∷◌,
+  ◌++◌,
+  length,
+  Some,
+  None,
+  MatchBool,
+}
+use Rattle.ebpf_initial_slots.specs.InitialSlots.{
+  is_initial_slot_memory,
+  initial_slots,
+  initial_slots_fault,
+}
 use Rattle.ebpf_initial_slots.specs.declared.slots.InitialSlot.{InitialSlot}
 use Rattle.ebpf_initial_slots.specs.declared.target.InitialTarget.{InitialTarget}
 use Rattle.ebpf_initial_slots.specs.declared.target.InitialTarget.TheVariants.{Map, Program}
@@ -39,12 +59,16 @@ slot_row s name_at target_at = record {
 
 -- slots in their order
 abbrev pub slot_list : List InitialSlot → Listed ebpf_initial_slot
-slot_list slots = listed_by (λ s at. slot_row s at (at + length (zero_terminated s.map)) ∷ []) slot_text slots
+slot_list slots =
+    listed_by (λ s at. slot_row s at (at + length (zero_terminated s.map)) ∷ []) slot_text slots
 
 -- those of an object, by the bytes of its file
-pub record IsSlotList (file : List ℕ) (o : Object) (listed : Listed ebpf_initial_slot) : Type 0 where
+pub record IsSlotList (file : List ℕ) (o : Object) (listed : Listed ebpf_initial_slot)
+    : Type 0 where
   pub sound : initial_slots_fault file o ≡ None
   pub is : listed ≡ slot_list (initial_slots file o)
 
 abbrev pub CannotListSlots : List ℕ → Object → Refusal → Type 0
-CannotListSlots file o = IsRefusal (λ e. MatchBool (is_initial_slot_memory e) ⊤ (initial_slots_fault file o ≡ Some e)) initial_slots_refusal
+CannotListSlots file o =
+    IsRefusal (λ e. MatchBool (is_initial_slot_memory e) ⊤ (initial_slots_fault file o ≡ Some e))
+    initial_slots_refusal

@@ -1,8 +1,64 @@
--- How programs are loaded, as numbers: by the names of their sections, and where those are no names that loaders know, by the kinds that files say.
-use Rattle.std.specs.Prelude.{ℕ, ◌+◌, ◌*◌, Some, None, if◌then◌else◌, Bool, false, Option, unwrap_or, option_map}
-use Rattle.ebpf_parts.specs.ProgramTypes.{attach_type_number, cgroup_skb_attach_type, cgroup_sock_attach_type, cgroup_sock_addr_attach_type, cgroup_sockopt_attach_type, sk_reuseport_attach_type, sk_skb_attach_type, xdp_attach_type, program_type_number, section_type}
+-- How programs are loaded, as numbers: by the names of their sections, and where those are no names
+-- that loaders know, by the kinds that files say.
+use Rattle.std.specs.Prelude.{
+  ℕ,
+  ◌+◌,
+  ◌*◌,
+  Some,
+  None,
+  if◌then◌else◌,
+  Bool,
+  false,
+  Option,
+  unwrap_or,
+  option_map,
+}
+use Rattle.ebpf_parts.specs.ProgramTypes.{
+  attach_type_number,
+  cgroup_skb_attach_type,
+  cgroup_sock_attach_type,
+  cgroup_sock_addr_attach_type,
+  cgroup_sockopt_attach_type,
+  sk_reuseport_attach_type,
+  sk_skb_attach_type,
+  xdp_attach_type,
+  program_type_number,
+  section_type,
+}
 use Rattle.ebpf_parts.specs.declared.program_section.ProgramSection.{ProgramSection}
-use Rattle.ebpf_parts.specs.declared.program_section.ProgramSection.TheVariants.{KRetProbe, KProbe, UProbe, URetProbe, TracePoint, SocketFilter, Xdp, SkMsg, SkSkbStream, SockOps, SchedClassifier, CgroupSkb, CgroupSockAddr, CgroupSysctl, CgroupSockopt, LircMode2, PerfEvent, RawTracePoint, Lsm, LsmCgroup, BtfTracePoint, FEntry, FExit, FlowDissector, Extension, SkLookup, SkReuseport, CgroupSock, CgroupDevice, Iter, Other}
+use Rattle.ebpf_parts.specs.declared.program_section.ProgramSection.TheVariants.{
+  KRetProbe,
+  KProbe,
+  UProbe,
+  URetProbe,
+  TracePoint,
+  SocketFilter,
+  Xdp,
+  SkMsg,
+  SkSkbStream,
+  SockOps,
+  SchedClassifier,
+  CgroupSkb,
+  CgroupSockAddr,
+  CgroupSysctl,
+  CgroupSockopt,
+  LircMode2,
+  PerfEvent,
+  RawTracePoint,
+  Lsm,
+  LsmCgroup,
+  BtfTracePoint,
+  FEntry,
+  FExit,
+  FlowDissector,
+  Extension,
+  SkLookup,
+  SkReuseport,
+  CgroupSock,
+  CgroupDevice,
+  Iter,
+  Other,
+}
 use Rattle.ebpf_parts.specs.declared.programs.kind.ProgramKind.{ProgramKind}
 use Rattle.capi_rows.specs.Refusals.{flag}
 use Rattle.capi_rows.specs.declared.loading.TheConstants.{NO_ATTACH_TYPE}
@@ -42,8 +98,8 @@ program_kind_number CgroupDevice = 28
 program_kind_number (Iter _) = 29
 program_kind_number Other = 30
 
--- the type that the kernel loads such a program as (its include/uapi/linux/bpf.h, enum bpf_prog_type, by libbpf's table
--- of section names)
+-- the type that the kernel loads such a program as (its include/uapi/linux/bpf.h, enum
+-- bpf_prog_type, by libbpf's table of section names)
 abbrev pub program_type : ProgramSection → ℕ
 program_type section = unwrap_or (option_map program_type_number (section_type section)) 0
 
@@ -95,7 +151,11 @@ is_multi _ = false
 -- sleepable 1, multi 2, frags 4, target 8, optional 16, added up
 abbrev pub loaded_flags : ProgramKind → ProgramSection → ℕ
 loaded_flags kind section =
-    flag kind.is_sleepable + 2 * flag (is_multi section) + 4 * flag kind.has_frags + 8 * flag kind.wants_target_type + 16 * flag kind.is_optional
+    flag kind.is_sleepable
+    + 2 * flag (is_multi section)
+    + 4 * flag kind.has_frags
+    + 8 * flag kind.wants_target_type
+    + 16 * flag kind.is_optional
 
 -- of a name that loaders know, else as the file's kind says
 abbrev pub loaded_as : Option ProgramKind → ProgramSection → Loading

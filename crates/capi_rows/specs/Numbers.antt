@@ -1,7 +1,30 @@
 -- The numbers and names of the refusals of what a loader asks for beside relocation.
 use Rattle.std.specs.Prelude.{ℕ, ◌+◌, List}
-use Rattle.capi_rows.specs.Refusals.{at_offset, no_details, of_kind, of_size, of_symbol, of_type, two_sizes, at_slot, of_count, of_index, of_relocation, two_addresses, refusal_with_details, detailed_with_name, plain, refusal_with_name}
-use Rattle.capi_rows.specs.FaultNumbers.{file_fault, type_refusal, parse_refusal, slot_refusal, type_fault}
+use Rattle.capi_rows.specs.Refusals.{
+  at_offset,
+  no_details,
+  of_kind,
+  of_size,
+  of_symbol,
+  of_type,
+  two_sizes,
+  at_slot,
+  of_count,
+  of_index,
+  of_relocation,
+  two_addresses,
+  refusal_with_details,
+  detailed_with_name,
+  plain,
+  refusal_with_name,
+}
+use Rattle.capi_rows.specs.FaultNumbers.{
+  file_fault,
+  type_refusal,
+  parse_refusal,
+  slot_refusal,
+  type_fault,
+}
 use Rattle.capi_rows.specs.declared.codes.TheConstants.{MEMORY}
 use Rattle.capi_rows.specs.declared.refusal.Details.{Details}
 use Rattle.capi_rows.specs.declared.refusal.Refusal.{Refusal}
@@ -24,7 +47,8 @@ use Rattle.capi_rows.specs.FileTypes.{file_type_name}
 
 -- about the type of the file with an id, where it has a name
 abbrev pub type_refusal_in : List ℕ → ℕ → ℕ → Refusal
-type_refusal_in file number id = record { number = number; name = file_type_name file id; details = of_type id no_details }
+type_refusal_in file number id =
+    record { number = number; name = file_type_name file id; details = of_type id no_details }
 
 abbrev pub kernel_types_refusal : List ℕ → KernelTypesError → Refusal
 kernel_types_refusal file (kernel.ElfError e) = plain (700 + file_fault e)
@@ -40,28 +64,36 @@ kernel_types_refusal file kernel.OutOfMemory = plain MEMORY
 
 abbrev pub initial_slots_refusal : InitialSlotError → Refusal
 initial_slots_refusal (initial.ElfError e) = plain (800 + file_fault e)
-initial_slots_refusal (initial.UnknownSymbol place symbol) = refusal_with_details 820 (of_symbol symbol (at_offset place no_details))
-initial_slots_refusal (initial.OutsideMaps place) = refusal_with_details 821 (at_offset place no_details)
-initial_slots_refusal (initial.UnsupportedMapType map kind) = detailed_with_name 822 map (of_kind kind no_details)
+initial_slots_refusal (initial.UnknownSymbol place symbol) =
+    refusal_with_details 820 (of_symbol symbol (at_offset place no_details))
+initial_slots_refusal (initial.OutsideMaps place) =
+    refusal_with_details 821 (at_offset place no_details)
+initial_slots_refusal (initial.UnsupportedMapType map kind) =
+    detailed_with_name 822 map (of_kind kind no_details)
 initial_slots_refusal (initial.NotInMaps map _) = refusal_with_name 823 map
-initial_slots_refusal (initial.UnsupportedKeySize map size) = detailed_with_name 824 map (of_size size no_details)
+initial_slots_refusal (initial.UnsupportedKeySize map size) =
+    detailed_with_name 824 map (of_size size no_details)
 initial_slots_refusal (initial.UnknownMap map _) = refusal_with_name 825 map
 initial_slots_refusal (initial.UnknownProgram map _) = refusal_with_name 826 map
 initial_slots_refusal (initial.NotAnEntryPoint map _) = refusal_with_name 827 map
 initial_slots_refusal (initial.NoValues map) = refusal_with_name 828 map
-initial_slots_refusal (initial.OutsideValues map place) = detailed_with_name 829 map (at_offset place no_details)
-initial_slots_refusal (initial.Misaligned map place) = detailed_with_name 830 map (at_offset place no_details)
+initial_slots_refusal (initial.OutsideValues map place) =
+    detailed_with_name 829 map (at_offset place no_details)
+initial_slots_refusal (initial.Misaligned map place) =
+    detailed_with_name 830 map (at_offset place no_details)
 initial_slots_refusal initial.OutOfMemory = plain MEMORY
 
 -- ---- 900 to 999: externs of the kernel's configuration, about the extern
 
 abbrev pub kconfig_refusal : KconfigError → Refusal
 kconfig_refusal (kconfig.NotAVariable id) = refusal_with_details 900 (of_type id no_details)
-kconfig_refusal (kconfig.UnreadableName offset) = refusal_with_details 901 (at_offset offset no_details)
+kconfig_refusal (kconfig.UnreadableName offset) =
+    refusal_with_details 901 (at_offset offset no_details)
 kconfig_refusal (kconfig.UnknownName name) = refusal_with_name 902 name
 kconfig_refusal (kconfig.UnsupportedType name) = refusal_with_name 903 name
 kconfig_refusal (kconfig.NoValue name) = refusal_with_name 904 name
-kconfig_refusal (kconfig.WrongSize name size length) = detailed_with_name 905 name (two_sizes size length no_details)
+kconfig_refusal (kconfig.WrongSize name size length) =
+    detailed_with_name 905 name (two_sizes size length no_details)
 kconfig_refusal kconfig.TooLarge = plain 906
 kconfig_refusal (kconfig.UnsuitedValue name) = refusal_with_name 907 name
 kconfig_refusal (kconfig.ValueOutOfRange name) = refusal_with_name 908 name
@@ -77,12 +109,16 @@ record_fault (core.BtfError e) = type_fault 220 e
 record_fault core.SectionNotFound = (240, no_details)
 record_fault core.FunctionNotFound = (241, no_details)
 record_fault (core.InvalidAccessString _) = (242, no_details)
-record_fault (core.InvalidInstructionIndex slot count relocation) = (243, of_relocation relocation (of_count count (at_slot slot no_details)))
+record_fault (core.InvalidInstructionIndex slot count relocation) =
+    (243, of_relocation relocation (of_count count (at_slot slot no_details)))
 record_fault (core.ConflictingCandidates _ _) = (244, no_details)
 record_fault (core.MaximumNestingLevelReached _) = (245, no_details)
-record_fault (core.InvalidAccessIndex _ _ index count _) = (246, of_count count (of_index index no_details))
-record_fault (core.InvalidRelocationKindForType relocation _ _ _) = (247, of_relocation relocation no_details)
-record_fault (core.InvalidInstruction relocation slot _) = (248, of_relocation relocation (at_slot slot no_details))
+record_fault (core.InvalidAccessIndex _ _ index count _) =
+    (246, of_count count (of_index index no_details))
+record_fault (core.InvalidRelocationKindForType relocation _ _ _) =
+    (247, of_relocation relocation no_details)
+record_fault (core.InvalidInstruction relocation slot _) =
+    (248, of_relocation relocation (at_slot slot no_details))
 record_fault (core.MissingTargetDefinition _ id slot) = (249, of_type id (at_slot slot no_details))
 record_fault core.OutOfMemory = (MEMORY, no_details)
 
@@ -97,7 +133,8 @@ ksyms_refusal (ksyms.VariableNotFound name) = refusal_with_name 401 name
 ksyms_refusal (ksyms.IncompatibleFunctionSignature name) = refusal_with_name 402 name
 ksyms_refusal (ksyms.IncompatibleVariableType name) = refusal_with_name 403 name
 ksyms_refusal (ksyms.InvalidExternType name) = refusal_with_name 404 name
-ksyms_refusal (ksyms.AmbiguousResolution name first second) = detailed_with_name 405 name (two_addresses first second no_details)
+ksyms_refusal (ksyms.AmbiguousResolution name first second) =
+    detailed_with_name 405 name (two_addresses first second no_details)
 ksyms_refusal (ksyms.KallsymsAccessError _) = plain 406
 ksyms_refusal (ksyms.KallsymsParseError text) = refusal_with_name 407 text
 ksyms_refusal (ksyms.FunctionNotFound name) = refusal_with_name 408 name

@@ -28,8 +28,10 @@ name_of_section_number sections number = name_if (find (λ section. section.1.0 
 abbrev pub loading_of : List ℕ → Program → Loading
 loading_of section_name p = loaded_as (program_kind section_name) p.section
 
--- the row of a program among functions and named sections, of a name that begins at an offset of the text
-abbrev pub program_row : FinMap key_cmp Function → List (List ℕ × SectionIndex) → List ℕ → Program → ℕ → ebpf_program
+-- the row of a program among functions and named sections, of a name that begins at an offset of
+-- the text
+abbrev pub program_row : FinMap key_cmp Function → List (List ℕ × SectionIndex) → List ℕ → Program
+    → ℕ → ebpf_program
 program_row functions sections name p name_at =
     let loading = loading_of (name_of_section_number sections p.section_index) p in
     record {

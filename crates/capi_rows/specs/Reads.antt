@@ -1,4 +1,5 @@
--- What C reads of an object: its lists, what stands under a name, and the rows of maps and programs by their names.
+-- What C reads of an object: its lists, what stands under a name, and the rows of maps and programs
+-- by their names.
 use Rattle.std.specs.Prelude.{ℕ, List, Option, Some, None, Result, Ok, Err}
 use Rattle.std.specs.FinMap.{FinMap, entries, get}
 use Rattle.ebpf_base.specs.Maps.{key_cmp, text_cmp}
@@ -61,17 +62,21 @@ abbrev pub read_slots : List ℕ → Object → Result (List bpf_insn) ℕ
 read_slots name o = or_number NO_PROGRAM (λ f. f.instructions) (function_by_bytes o name)
 
 abbrev pub read_func_infos : List ℕ → Object → Result (List bpf_func_info) ℕ
-read_func_infos name o = or_number NO_PROGRAM (λ f. f.func_info.func_info) (function_by_bytes o name)
+read_func_infos name o =
+    or_number NO_PROGRAM (λ f. f.func_info.func_info) (function_by_bytes o name)
 
 abbrev pub read_line_infos : List ℕ → Object → Result (List bpf_line_info) ℕ
-read_line_infos name o = or_number NO_PROGRAM (λ f. f.line_info.line_info) (function_by_bytes o name)
+read_line_infos name o =
+    or_number NO_PROGRAM (λ f. f.line_info.line_info) (function_by_bytes o name)
 
 -- ---- bytes
 
--- the name of the section of the program that some bytes name, empty where no named section has its index
+-- the name of the section of the program that some bytes name, empty where no named section has its
+-- index
 abbrev pub read_section_name : List ℕ → Object → Result (List ℕ) ℕ
 read_section_name name o =
-    or_number NO_PROGRAM (λ p. name_of_section_number (entries o.section_infos) p.section_index) (value_by_bytes o.programs name)
+    or_number NO_PROGRAM (λ p. name_of_section_number (entries o.section_infos) p.section_index)
+    (value_by_bytes o.programs name)
 
 -- the data that the map that some bytes name begins with
 abbrev pub read_map_data : List ℕ → Object → Result (List ℕ) ℕ
@@ -82,15 +87,19 @@ read_license o = Ok o.license
 
 -- ---- the row of one thing by its name, as the lists of such things have it
 
--- the row of the thing that some bytes name, which are the text that the row points into; a number where there is none
-abbrev pub row_named : {V R : Type 0} → ℕ → (List ℕ → V → ℕ → R) → FinMap text_cmp V → List ℕ → Result R ℕ
-row_named missing row values name = or_number missing (λ v. row name v 0) (value_by_bytes values name)
+-- the row of the thing that some bytes name, which are the text that the row points into; a number
+-- where there is none
+abbrev pub row_named : {V R : Type 0} → ℕ → (List ℕ → V → ℕ → R) → FinMap text_cmp V → List ℕ
+    → Result R ℕ
+row_named missing row values name =
+    or_number missing (λ v. row name v 0) (value_by_bytes values name)
 
 abbrev pub map_named : List ℕ → Object → Result ebpf_map ℕ
 map_named name o = row_named NO_MAP (map_row o.btf) o.maps name
 
 abbrev pub program_named : List ℕ → Object → Result ebpf_program ℕ
-program_named name o = row_named NO_PROGRAM (program_row o.functions (entries o.section_infos)) o.programs name
+program_named name o =
+    row_named NO_PROGRAM (program_row o.functions (entries o.section_infos)) o.programs name
 
 -- ---- what a call leaves of one row: `Err` is a number that it answers without writing
 

@@ -1,5 +1,21 @@
 -- What C reads of the CO-RE records of an object: what each comes to over a kernel's types.
-use Rattle.std.specs.Prelude.{◌≡◌, ℕ, List, [], ◌∷◌, length, is_some, Option, Some, None, Result, Ok, Err, unwrap_or, map}
+use Rattle.std.specs.Prelude.{
+  ◌≡◌,
+  ℕ,
+  List,
+  [],
+  ◌∷◌,
+  length,
+  is_some,
+  Option,
+  Some,
+  None,
+  Result,
+  Ok,
+  Err,
+  unwrap_or,
+  map,
+}
 use Rattle.capi_rows.specs.Answers.{Listed}
 use Rattle.capi_rows.specs.Refusals.{flag}
 use Rattle.capi_rows.specs.Listings.{listed_by, zero_terminated}
@@ -8,7 +24,14 @@ use Rattle.ebpf_btf.specs.Strings.{text_at}
 use Rattle.ebpf_btf.specs.TypeInfo.{TypeInfo}
 use Rattle.ebpf_btf.specs.declared.error.BtfError.{BtfError}
 use Rattle.ebpf_core_relo.specs.declared.absence.Absence.{Absence}
-use Rattle.ebpf_core_relo.specs.declared.absence.Absence.TheVariants.{NoType, TypeOfAnotherKind, NoMember, MemberOfAnotherKind, NoEnumerator, NoValue}
+use Rattle.ebpf_core_relo.specs.declared.absence.Absence.TheVariants.{
+  NoType,
+  TypeOfAnotherKind,
+  NoMember,
+  MemberOfAnotherKind,
+  NoEnumerator,
+  NoValue,
+}
 use Rattle.ebpf_core_relo.specs.declared.outcomes.RecordOutcome.{RecordOutcome}
 use Rattle.ebpf_core_relo.specs.declared.outcomes.RecordResult.{RecordResult}
 use Rattle.ebpf_core_relo.specs.declared.outcomes.RecordResult.TheVariants.{Value, Absent, Refused}
@@ -89,14 +112,16 @@ section_name_in (Some types) offset = text_or_empty (text_at types.strings offse
 -- records in their order
 abbrev pub listed_outcomes : Option TypeInfo → List RecordOutcome → Listed ebpf_record_outcome
 listed_outcomes types records =
-    listed_by (λ r name_at. outcome_row (section_name_in types r.section_name) r name_at ∷ []) (λ r. zero_terminated (section_name_in types r.section_name)) records
+    listed_by (λ r name_at. outcome_row (section_name_in types r.section_name) r name_at ∷ [])
+    (λ r. zero_terminated (section_name_in types r.section_name)) records
 
 -- those of an object over a kernel's types
 abbrev pub outcome_list : Object → TypeInfo → Listed ebpf_record_outcome
 outcome_list o target = listed_outcomes o.btf (outcomes_by o target o.btf o.btf_ext)
 
 -- over the types that the bytes spell
-pub record IsOutcomeList (bytes : List ℕ) (o : Object) (listed : Listed ebpf_record_outcome) : Type 0 where
+pub record IsOutcomeList (bytes : List ℕ) (o : Object) (listed : Listed ebpf_record_outcome)
+    : Type 0 where
   pub target : TypeInfo
   pub spelled : types_in bytes ≡ Ok target
   pub is : listed ≡ outcome_list o target
@@ -105,7 +130,8 @@ pub record IsOutcomeList (bytes : List ℕ) (o : Object) (listed : Listed ebpf_r
 abbrev pub CannotListOutcomes : List ℕ → Object → Refusal → Type 0
 CannotListOutcomes bytes o = CannotRead bytes
 
--- ---- what C reads of a linked program: the copies of functions that it is made of, and the references between them
+-- ---- what C reads of a linked program: the copies of functions that it is made of, and the
+-- references between them
 
 -- the row of a copy whose function's name begins at an offset of the text
 abbrev pub copy_row : CodeCopy → ℕ → ebpf_code_copy
@@ -120,7 +146,8 @@ copy_row c name_at = record {
 
 -- copies in their order
 abbrev pub copy_list : List CodeCopy → Listed ebpf_code_copy
-copy_list copies = listed_by (λ c name_at. copy_row c name_at ∷ []) (λ c. zero_terminated c.name) copies
+copy_list copies =
+    listed_by (λ c name_at. copy_row c name_at ∷ []) (λ c. zero_terminated c.name) copies
 
 abbrev pub reference_row : PlacedReference → ebpf_code_reference
 reference_row r = record { slot = r.place; base = r.base; is_call = flag r.is_call }

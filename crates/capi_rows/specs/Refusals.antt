@@ -1,5 +1,25 @@
--- What C reads of a refusal, and of the numbers that its error states: a number that it doesn't state is 0.
-use Rattle.std.specs.Prelude.{ℕ, Bool, if◌then◌else◌, ◌+◌, ◌*◌, Some, None, is_some, unwrap_or, ◌≡◌, List, [], ◌++◌, length, take, drop, min, Option}
+-- What C reads of a refusal, and of the numbers that its error states: a number that it doesn't
+-- state is 0.
+use Rattle.std.specs.Prelude.{
+  ℕ,
+  Bool,
+  if◌then◌else◌,
+  ◌+◌,
+  ◌*◌,
+  Some,
+  None,
+  is_some,
+  unwrap_or,
+  ◌≡◌,
+  List,
+  [],
+  ◌++◌,
+  length,
+  take,
+  drop,
+  min,
+  Option,
+}
 use Rattle.capi_rows.specs.declared.refusal.Details.{Details}
 use Rattle.capi_rows.specs.declared.refusal.Refusal.{Refusal}
 use Rattle.capi_rows.specs.declared.refusal.ebpf_refusal.{ebpf_refusal}
@@ -73,11 +93,22 @@ of_kind kind d = record d { kind = Some kind }
 
 abbrev pub bits_of_places : Details → ℕ
 bits_of_places d =
-    flag (is_some d.slot) + 2 * flag (is_some d.offset) + 4 * flag (is_some d.symbol) + 8 * flag (is_some d.address) + 16 * flag (is_some d.other_address) + 32 * flag (is_some d.section)
+    flag (is_some d.slot)
+    + 2 * flag (is_some d.offset)
+    + 4 * flag (is_some d.symbol)
+    + 8 * flag (is_some d.address)
+    + 16 * flag (is_some d.other_address)
+    + 32 * flag (is_some d.section)
 
 abbrev pub bits_of_counts : Details → ℕ
 bits_of_counts d =
-    64 * flag (is_some d.size) + 128 * flag (is_some d.other_size) + 256 * flag (is_some d.type_id) + 512 * flag (is_some d.relocation) + 1024 * flag (is_some d.index) + 2048 * flag (is_some d.count) + 4096 * flag (is_some d.kind)
+    64 * flag (is_some d.size)
+    + 128 * flag (is_some d.other_size)
+    + 256 * flag (is_some d.type_id)
+    + 512 * flag (is_some d.relocation)
+    + 1024 * flag (is_some d.index)
+    + 2048 * flag (is_some d.count)
+    + 4096 * flag (is_some d.kind)
 
 abbrev pub has_of : Details → ℕ
 has_of d = bits_of_places d + bits_of_counts d
@@ -113,7 +144,8 @@ refusal_with_details number details = record { number = number; name = None; det
 
 -- a refusal that is about what has a name, and whose error states numbers
 abbrev pub detailed_with_name : ℕ → List ℕ → Details → Refusal
-detailed_with_name number name details = record { number = number; name = Some name; details = details }
+detailed_with_name number name details =
+    record { number = number; name = Some name; details = details }
 
 -- a refusal that is about nothing with a name
 abbrev pub plain : ℕ → Refusal
@@ -131,8 +163,10 @@ text_if (Some text) = text
 abbrev pub name_of : Refusal → List ℕ
 name_of r = text_if r.name
 
--- a call answers the number of a refusal, the name, cut to the buffer, stands at the front of it, and the row tells all
-pub record IsReported (r : Refusal) (answer : ℕ) (before after : List ℕ) (row : ebpf_refusal) : Type 0 where
+-- a call answers the number of a refusal, the name, cut to the buffer, stands at the front of it,
+-- and the row tells all
+pub record IsReported (r : Refusal) (answer : ℕ) (before after : List ℕ) (row : ebpf_refusal)
+    : Type 0 where
   pub number_is : answer ≡ r.number
   pub name_is : after ≡ take (length before) (name_of r) ++ drop (length (name_of r)) before
   pub row_is : row ≡ refusal_row r.number r.details (min (length (name_of r)) (length before))

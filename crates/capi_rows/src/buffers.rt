@@ -21,8 +21,13 @@ pub trait RowFrom<V, C>: Copy {
 
     /// Adds the rows and the names of a thing.
     fn add(listing: &mut Listing<Self>, context: &C, value: &V) -> Result<(), AllocError>
-        ensures rows { OnOk result (listing.new.rows.items ≡ listing.old.rows.items ++ rows_of context.now value.now (length listing.old.text.items)) }
-        ensures text { OnOk result (listing.new.text.items ≡ listing.old.text.items ++ text_of context.now value.now) };
+        ensures rows { OnOk result
+            (listing.new.rows.items
+            ≡ listing.old.rows.items
+            ++ rows_of context.now value.now (length listing.old.text.items)) }
+        ensures text { OnOk result
+            (listing.new.text.items
+            ≡ listing.old.text.items ++ text_of context.now value.now) };
 }
 
 /// Rows, and the text with their names.
@@ -44,7 +49,8 @@ pub fn add_name(text: &mut Vec<u8>, name: &str) -> Result<(), AllocError>
 /// Adds a row, and the name that it points to.
 pub fn add_row<R: Copy>(listing: &mut Listing<R>, row: R, name: &str) -> Result<(), AllocError>
     ensures rows { OnOk result (listing.new.rows.items ≡ listing.old.rows.items ++ row ∷ []) }
-    ensures text { OnOk result (listing.new.text.items ≡ listing.old.text.items ++ zero_terminated name.now) }
+    ensures text { OnOk result
+        (listing.new.text.items ≡ listing.old.text.items ++ zero_terminated name.now) }
 {
     listing.rows.push(row)?;
     add_name(&mut listing.text, name)?;
@@ -58,7 +64,9 @@ pub fn list_all<V, C, R: RowFrom<V, C>>(
     context: &C,
     values: &[V],
 ) -> Result<Listing<R>, AllocError>
-    ensures { IfOk result (λ l. (l.rows.items, l.text.items) ≡ listed_by (R.rows_of context.now) (R.text_of context.now) values.now) }
+    ensures { IfOk result (λ l.
+        (l.rows.items, l.text.items)
+        ≡ listed_by (R.rows_of context.now) (R.text_of context.now) values.now) }
 {
     let mut listing = Listing {
         rows: Vec::new(alloc),
@@ -110,7 +118,8 @@ pub fn write_listing<R: Copy>(
     text: &mut [u8],
     counts: &mut ebpf_counts,
 ) -> u32
-    ensures { FillsListing (Ok (listing.rows.items, listing.text.items)) result rows.old rows.new text.old text.new counts.old counts.new }
+    ensures { FillsListing (Ok (listing.rows.items, listing.text.items)) result rows.old rows.new
+        text.old text.new counts.old counts.new }
 {
     *counts = ebpf_counts {
         rows: listing.rows.len(),
@@ -130,7 +139,9 @@ fn list_named<'a, V, C, R: RowFrom<Entry<'a, V>, C>>(
     context: &C,
     values: &'a ByName<V>,
 ) -> Result<Listing<R>, AllocError>
-    ensures { IfOk result (λ l. (l.rows.items, l.text.items) ≡ listed_by (R.rows_of context.now) (R.text_of context.now) (entries values.now)) }
+    ensures { IfOk result (λ l.
+        (l.rows.items, l.text.items)
+        ≡ listed_by (R.rows_of context.now) (R.text_of context.now) (entries values.now)) }
 {
     let entries = entries_of(alloc, values)?;
     let listing = list_all(alloc, context, &entries)?;
@@ -148,7 +159,12 @@ pub fn write_all<'a, V, C, R: RowFrom<Entry<'a, V>, C>>(
     text: &mut [u8],
     counts: &mut ebpf_counts,
 ) -> u32
-    ensures { FillsListing (or_memory result (Ok (listed_by (R.rows_of context.now) (R.text_of context.now) (entries values.now)))) result rows.old rows.new text.old text.new counts.old counts.new }
+    ensures { FillsListing
+        (or_memory result
+        (Ok
+        (listed_by (R.rows_of context.now) (R.text_of context.now)
+        (entries values.now)))) result rows.old rows.new text.old text.new
+        counts.old counts.new }
 {
     match list_named(alloc, context, values) {
         Ok(listing) => write_listing(listing, rows, text, counts),
@@ -175,7 +191,8 @@ pub fn tell_items<T: Copy>(
     about: &mut [u8],
     report: &mut ebpf_refusal,
 ) -> u32
-    ensures { LeavesList found result out.old out.new count.old count.new about.old about.new report.old report.new }
+    ensures { LeavesList found result out.old out.new count.old count.new about.old about.new
+        report.old report.new }
 {
     match found {
         Ok(items) => {
@@ -196,7 +213,8 @@ pub fn tell_listing<R: Copy>(
     about: &mut [u8],
     report: &mut ebpf_refusal,
 ) -> u32
-    ensures { LeavesListing (told_listing found) result rows.old rows.new text.old text.new counts.old counts.new about.old about.new report.old report.new }
+    ensures { LeavesListing (told_listing found) result rows.old rows.new text.old text.new
+        counts.old counts.new about.old about.new report.old report.new }
 {
     match found {
         Ok(listing) => {
@@ -227,7 +245,8 @@ pub fn tell_value(
     about: &mut [u8],
     report: &mut ebpf_refusal,
 ) -> u32
-    ensures { LeavesValue found result out.old out.new count.old count.new is_found.old is_found.new about.old about.new report.old report.new }
+    ensures { LeavesValue found result out.old out.new count.old count.new is_found.old is_found.new
+        about.old about.new report.old report.new }
 {
     match found {
         Ok(value) => {

@@ -73,7 +73,9 @@ fn loading_of(section_name: &str, program: &Program) -> Loading
 
 /// The row of a program of an object, whose name begins at an offset of the text.
 pub fn program_row(object: &Object, name: &str, program: &Program, name_at: usize) -> ebpf_program
-    ensures { result ≡ program_row object.now.functions (entries object.now.section_infos) name.now program.now name_at }
+    ensures { result
+        ≡ program_row object.now.functions (entries object.now.section_infos) name.now program.now
+        name_at }
 {
     let section_name = name_of_section(&object.section_infos, program.section_index);
     let loading = loading_of(section_name, program);
@@ -91,7 +93,8 @@ pub fn program_row(object: &Object, name: &str, program: &Program, name_at: usiz
 }
 
 impl<'a> RowFrom<Entry<'a, Program>, Object> for ebpf_program {
-    ghost rows_of = { λ o e name_at. program_row o.functions (entries o.section_infos) e.0 e.1 name_at ∷ [] };
+    ghost rows_of = { λ o e name_at.
+        program_row o.functions (entries o.section_infos) e.0 e.1 name_at ∷ [] };
 
     ghost text_of = { λ _ e. zero_terminated e.0 };
 

@@ -132,7 +132,8 @@ pub fn descriptors_in<'a>(
     rows: &[ebpf_descriptor],
     text: &'a [u8],
 ) -> Result<Vec<(&'a str, i32)>, AllocError>
-    ensures { IfOk result (λ named. map descriptor_of named.items ≡ descriptors_in text.now rows.now) }
+    ensures { IfOk result (λ named.
+        map descriptor_of named.items ≡ descriptors_in text.now rows.now) }
 {
     let mut named = Vec::with_capacity(alloc, rows.len())?;
     for row in rows {

@@ -145,7 +145,8 @@ fn outcome_row(name: &str, outcome: &RecordOutcome, name_at: usize) -> ebpf_reco
 }
 
 impl RowFrom<RecordOutcome, Option<Btf>> for ebpf_record_outcome {
-    ghost rows_of = { λ types r name_at. outcome_row (section_name_in types r.section_name) r name_at ∷ [] };
+    ghost rows_of = { λ types r name_at.
+        outcome_row (section_name_in types r.section_name) r name_at ∷ [] };
 
     ghost text_of = { λ types r. zero_terminated (section_name_in types r.section_name) };
 

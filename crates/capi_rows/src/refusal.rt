@@ -277,7 +277,8 @@ impl<T: Drop> From<AllocFailed<T>> for Refusal {
 
 /// Writes as much of a name as fits to the front of a buffer, and gives how much that is.
 fn write_name(name: &[u8], about: &mut [u8]) -> usize
-    ensures about { about.new ≡ take (length about.old) name.now ++ drop (length name.now) about.old }
+    ensures about { about.new
+        ≡ take (length about.old) name.now ++ drop (length name.now) about.old }
     ensures length { result ≡ min (length name.now) (length about.old) }
 {
     let count = name.len().min(about.len());
@@ -295,11 +296,16 @@ pub fn tell(refusal: &Refusal, about: &mut [u8], report: &mut ebpf_refusal) -> u
 }
 
 /// The number of an answer. Where it is a refusal, C is told of it.
-pub fn reported_number(answer: Result<(), Refusal>, about: &mut [u8], report: &mut ebpf_refusal) -> u32
+pub fn reported_number(
+    answer: Result<(), Refusal>,
+    about: &mut [u8],
+    report: &mut ebpf_refusal,
+) -> u32
     ensures about { OnOk answer (about.new ≡ about.old) }
     ensures report { OnOk answer (report.new ≡ report.old) }
     ensures number { OnOk answer (result ≡ DONE) }
-    ensures told { IfErr answer (λ refusal. IsReported refusal result about.old about.new report.new) }
+    ensures told { IfErr answer (λ refusal.
+        IsReported refusal result about.old about.new report.new) }
 {
     match answer {
         Ok(()) => DONE,

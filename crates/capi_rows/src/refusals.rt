@@ -7,11 +7,11 @@ use crate::codes::MEMORY;
 use crate::faults::{file_fault, parse_refusal, slot_refusal, type_fault, type_refusal};
 use crate::info::type_refusal_in;
 use crate::refusal::{Details, Refusal};
+use ebpf_btf_load::KernelTypesError;
 use ebpf_core::RelocationError;
 use ebpf_core_relo::BtfRelocationError;
 use ebpf_initial_slots::InitialSlotError;
 use ebpf_kconfig::KconfigError;
-use ebpf_btf_load::KernelTypesError;
 use ebpf_ksyms::KsymsError;
 use ebpf_object::prepare::PrepareError;
 use std::alloc::{AllocError, Global};
@@ -54,7 +54,10 @@ pub fn initial_slots_refusal(error: InitialSlotError) -> Refusal
             place,
             symbol_index,
         } => Refusal::with_details(820, none.at_offset(place).of_symbol(symbol_index)),
-        InitialSlotError::OutsideMaps { place } => Refusal::with_details(821, none.at_offset(place)),
+        InitialSlotError::OutsideMaps { place } => Refusal::with_details(
+            821,
+            none.at_offset(place),
+        ),
         InitialSlotError::UnsupportedMapType { map, map_type } => Refusal::named_detailed(
             822,
             map,

@@ -91,7 +91,9 @@ pub fn put_over<'a>(
     name: &'a str,
     value: (&'a [u8], bool),
 ) -> Result<(), AllocError>
-    ensures { OnOk result (globals_of globals.new.entries ≡ insert (globals_of globals.old.entries) name.now (global_of value.entry)) }
+    ensures { OnOk result
+        (globals_of globals.new.entries
+        ≡ insert (globals_of globals.old.entries) name.now (global_of value.entry)) }
 {
     globals.insert(name, value)?;
     Ok(())
@@ -105,7 +107,8 @@ pub fn values_in<'a>(
     text: &'a [u8],
     bytes: &'a [u8],
 ) -> Result<HashMap<&'a str, (&'a [u8], bool)>, AllocError>
-    ensures { IfOk result (λ globals. globals_of globals.entries ≡ values_in text.now bytes.now rows.now) }
+    ensures { IfOk result (λ globals.
+        globals_of globals.entries ≡ values_in text.now bytes.now rows.now) }
 {
     let mut globals = HashMap::new(alloc);
     for row in rows {
@@ -259,7 +262,8 @@ fn symbol_by_bytes<'a>(
     object: &'a Object,
     name: &[u8],
 ) -> Result<Option<&'a Symbol>, AllocError>
-    ensures { IfOk result (λ symbol. option_copied symbol ≡ symbol_by_bytes object.now.symbol_table name.now) }
+    ensures { IfOk result (λ symbol.
+        option_copied symbol ≡ symbol_by_bytes object.now.symbol_table name.now) }
 {
     let Some(name) = text_of(name) else {
         return Ok(None);
@@ -273,7 +277,9 @@ fn symbol_by_bytes<'a>(
 
 /// The bytes of a symbol, where there is one.
 fn value_of<'b>(maps: &'b ByName<Map>, symbol: Option<&Symbol>) -> Result<&'b [u8], u32>
-    ensures { found_list result ≡ or_number NO_VARIABLE (λ bytes. bytes) (option_and_then (symbol_bytes (entries maps.now)) (option_copied symbol.entry)) }
+    ensures { found_list result
+        ≡ or_number NO_VARIABLE (λ bytes. bytes)
+        (option_and_then (symbol_bytes (entries maps.now)) (option_copied symbol.entry)) }
 {
     let Some(symbol) = symbol else {
         return Err(NO_VARIABLE);
@@ -292,7 +298,8 @@ pub fn write_value(
     value: &mut [u8],
     len: &mut usize,
 ) -> u32
-    ensures { FillsList (or_memory result (read_value name.now object.now)) result value.old value.new len.old len.new }
+    ensures { FillsList (or_memory result (read_value name.now object.now)) result value.old
+        value.new len.old len.new }
 {
     let Ok(symbol) = symbol_by_bytes(alloc, object, name) else {
         return MEMORY;
@@ -325,8 +332,15 @@ fn push_variable(
     map: &str,
     symbol: &Symbol,
 ) -> Result<(), AllocError>
-    ensures rows { OnOk result (listing.new.rows.items ≡ listing.old.rows.items ++ variable_row name.now (map.now, symbol.now) (length listing.old.text.items) (length listing.old.text.items + length (zero_terminated name.now)) ∷ []) }
-    ensures text { OnOk result (listing.new.text.items ≡ listing.old.text.items ++ variable_text name.now (map.now, symbol.now)) }
+    ensures rows { OnOk result
+        (listing.new.rows.items
+        ≡ listing.old.rows.items
+        ++ variable_row name.now (map.now, symbol.now) (length listing.old.text.items)
+        (length listing.old.text.items + length (zero_terminated name.now))
+        ∷ []) }
+    ensures text { OnOk result
+        (listing.new.text.items
+        ≡ listing.old.text.items ++ variable_text name.now (map.now, symbol.now)) }
 {
     let name_at = listing.text.len();
     add_name(&mut listing.text, name)?;

@@ -8,7 +8,7 @@ use crate::verdict::loaded::{Loaded, Needs};
 use cli_common::kernel_types::read_kernel;
 use cli_common::object_file::{parsed_object, read_object};
 use cli_common::programs::ObjectProgram;
-use cli_common::refusal::{READING, FileRefusal};
+use cli_common::refusal::{FileRefusal, READING};
 use cli_common::refuse::{Stop, chosen_programs, tell};
 use ebpf_base::{Items, Text};
 use ebpf_object::Object;

@@ -7,7 +7,8 @@ use Rattle.ebpf_btf.specs.TypeInfo.{TypeInfo}
 use Rattle.ebpf_object.specs.Stages.{Chosen, numbered_descriptors}
 use Rattle.ebpf_parts.specs.declared.maps.either.Map.{Map}
 
--- All passes, types where the kernel's are known; the maps of these names have the descriptors 1, 2, .. in order.
+-- All passes, types where the kernel's are known; the maps of these names have the descriptors 1,
+-- 2, .. in order.
 abbrev pub default_passes_of : Option TypeInfo → List (List ℕ) → Chosen
 default_passes_of types names = record {
   target = types;

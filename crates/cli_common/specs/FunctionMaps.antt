@@ -1,5 +1,23 @@
 -- The maps that functions use: those that the relocations of their slots refer to.
-use Rattle.std.specs.Prelude.{ℕ, ◌+◌, ◌-◌, ◌*◌, ◌/◌, nat_le, nat_lt, ◌&&◌, List, [], ◌∷◌, length, map, Option, Some, None, option_map}
+use Rattle.std.specs.Prelude.{
+  ℕ,
+  ◌+◌,
+  ◌-◌,
+  ◌*◌,
+  ◌/◌,
+  nat_le,
+  nat_lt,
+  ◌&&◌,
+  List,
+  [],
+  ◌∷◌,
+  length,
+  map,
+  Option,
+  Some,
+  None,
+  option_map,
+}
 use Rattle.std.specs.FinMap.{FinMap, get, entries, empty}
 use Rattle.std.specs.List.{filter, flat_map}
 use Rattle.std.specs.Option.{option_map_or, option_to_list}
@@ -18,7 +36,8 @@ use Rattle.cli_common.specs.declared.map_uses.MapUse.{MapUse}
 
 -- ---- the map that a relocation refers to
 
--- the names of maps by the index of their symbol, and by that of their section; the later by name stands
+-- the names of maps by the index of their symbol, and by that of their section; the later by name
+-- stands
 pub record NamedMaps : Type 0 where
   pub by_symbol : FinMap nat_cmp (List ℕ)
   pub by_section : FinMap nat_cmp (List ℕ)
@@ -28,7 +47,8 @@ at_symbol None name = []
 at_symbol (Some symbol) name = (symbol, name) ∷ []
 
 abbrev pub names_by_symbol : FinMap text_cmp Map → FinMap nat_cmp (List ℕ)
-names_by_symbol maps = put_all empty (flat_map (λ e. at_symbol (symbol_index_of e.1) e.0) (entries maps))
+names_by_symbol maps =
+    put_all empty (flat_map (λ e. at_symbol (symbol_index_of e.1) e.0) (entries maps))
 
 abbrev pub names_by_section : FinMap text_cmp Map → FinMap nat_cmp (List ℕ)
 names_by_section maps = put_all empty (map (λ e. (section_index_of e.1, e.0)) (entries maps))
@@ -39,7 +59,8 @@ named_maps maps = record { by_symbol = names_by_symbol maps; by_section = names_
 -- the map of a symbol, else the one of its section; a symbol without a section has none
 abbrev pub map_in : NamedMaps → ℕ → Option ℕ → Option (List ℕ)
 map_in names symbol None = None
-map_in names symbol (Some section) = or_else (get names.by_symbol symbol) (get names.by_section section)
+map_in names symbol (Some section) =
+    or_else (get names.by_symbol symbol) (get names.by_section section)
 
 abbrev pub map_of_symbol : NamedMaps → ℕ → Option Symbol → Option (List ℕ)
 map_of_symbol names index None = None
@@ -61,7 +82,9 @@ within start end es = filter (λ e. nat_le start e.0 && nat_lt e.0 end) es
 
 -- those of a function's section within its range
 abbrev pub function_relocations : Object → Function → List (ℕ × ElfRelocation)
-function_relocations o f = option_map_or (λ rs. within f.section_offset (end_of f) (entries rs)) (get o.relocations f.section_index.0) []
+function_relocations o f =
+    option_map_or (λ rs. within f.section_offset (end_of f) (entries rs))
+    (get o.relocations f.section_index.0) []
 
 -- ---- the maps of a function
 
@@ -83,7 +106,9 @@ first_slots o names f = put_firsts empty (referred o names f (function_relocatio
 
 -- the use of the map of a name, first at a slot
 abbrev pub map_use : Object → List ℕ → ℕ → Option MapUse
-map_use o name slot = option_map (λ m. record { name = name; map_type = map_type_of m; slot = slot }) (get o.maps name)
+map_use o name slot =
+    option_map (λ m. record { name = name; map_type = map_type_of m; slot = slot })
+    (get o.maps name)
 
 abbrev pub uses_at : Object → FinMap text_cmp ℕ → List MapUse
 uses_at o slots = flat_map (λ e. option_to_list (map_use o e.0 e.1)) (entries slots)
@@ -98,7 +123,8 @@ if_used key (u ∷ us) = (key, u ∷ us) ∷ []
 
 -- those of each function that uses some, by the functions' keys
 unfoldable pub maps_by_function : Object → NamedMaps → FinMap key_cmp (List MapUse)
-maps_by_function o names = put_all empty (flat_map (λ e. if_used e.0 (maps_used o names e.1)) (entries o.functions))
+maps_by_function o names =
+    put_all empty (flat_map (λ e. if_used e.0 (maps_used o names e.1)) (entries o.functions))
 
 abbrev pub function_maps : Object → FinMap key_cmp (List MapUse)
 function_maps o = maps_by_function o (named_maps o.maps)

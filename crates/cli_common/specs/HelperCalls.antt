@@ -1,5 +1,18 @@
 -- Maps from lists of entries, of which the first with a key stands.
-use Rattle.std.specs.Prelude.{List, fold, if◌then◌else◌, ℕ, Bool, false, ◌&&◌, ◌==◌, [], Option, Some, None}
+use Rattle.std.specs.Prelude.{
+  List,
+  fold,
+  if◌then◌else◌,
+  ℕ,
+  Bool,
+  false,
+  ◌&&◌,
+  ◌==◌,
+  [],
+  Option,
+  Some,
+  None,
+}
 use Rattle.std.specs.FinMap.{FinMap, insert, contains_key}
 use Rattle.std.specs.declared.cmp.Ordering.{Ordering}
 use Rattle.std.specs.BTreeSet.{BTreeSet, insert_key}
@@ -15,14 +28,18 @@ abbrev pub put_first : {K X : Type 0} {R : K → K → Ordering} → FinMap R X 
 put_first m k v = if contains_key m k then m else insert m k v
 
 -- the entries put into a map, one after the other
-abbrev pub put_firsts : {K X : Type 0} {R : K → K → Ordering} → FinMap R X → List (K × X) → FinMap R X
+abbrev pub put_firsts : {K X : Type 0} {R : K → K → Ordering}
+    → FinMap R X
+    → List (K × X)
+    → FinMap R X
 put_firsts m entries = fold (λ so_far e. put_first so_far e.0 e.1) m entries
 
 -- ---- the helper functions that functions call (RFC 9669, section 4.3.1)
 
 -- the number of the helper function that a slot calls: the code of a call, with source register 0
 unfoldable pub helper_called : bpf_insn → Option ℕ
-helper_called slot = if slot.code == call && src_of slot == 0 then Some (cast_unsigned w32 slot.imm) else None
+helper_called slot =
+    if slot.code == call && src_of slot == 0 then Some (cast_unsigned w32 slot.imm) else None
 
 -- those that some slots call, one after the other
 abbrev pub helpers_called : List bpf_insn → List ℕ

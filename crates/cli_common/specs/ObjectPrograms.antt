@@ -23,8 +23,8 @@ program_row p = (p.name, p.key)
 abbrev pub program_rows : FinMap text_cmp Program → List (List ℕ × (ℕ × ℕ))
 program_rows programs = map (λ e. (e.0, (e.1.section_index, e.1.address))) (entries programs)
 
--- ---- the externs that the kernel's configuration gives: the variables of the first DATASEC `.kconfig` (libbpf 1.5, libbpf.c:
--- bpf_object__collect_externs)
+-- ---- the externs that the kernel's configuration gives: the variables of the first DATASEC
+-- `.kconfig` (libbpf 1.5, libbpf.c: bpf_object__collect_externs)
 
 abbrev pub settings_section : List ℕ
 settings_section = codes ".kconfig"
@@ -36,11 +36,15 @@ section_entries t = []
 
 -- those of the first DATASEC `.kconfig`
 abbrev pub settings_entries : TypeInfo → List DataSecEntry
-settings_entries types = option_map_or section_entries (option_and_then (slice_get types.types) (id_of_name types settings_section kinds.DataSec)) []
+settings_entries types =
+    option_map_or section_entries
+    (option_and_then (slice_get types.types) (id_of_name types settings_section kinds.DataSec))
+    []
 
 -- the name of the type of an entry, where it can be read
 unfoldable pub setting_name : TypeInfo → DataSecEntry → Option (List ℕ)
-setting_name types entry = option_and_then (λ t. result_ok (type_name types t)) (slice_get types.types entry.btf_type)
+setting_name types entry =
+    option_and_then (λ t. result_ok (type_name types t)) (slice_get types.types entry.btf_type)
 
 -- those of the entries, in their order
 abbrev pub setting_names : TypeInfo → List DataSecEntry → List (List ℕ)
@@ -59,7 +63,15 @@ unknown x = record x { kernel_btf_id = Some 1; is_resolved = true }
 
 -- one that the kernel's configuration gives
 abbrev pub setting : ExternDesc
-setting = record { btf_id = 0; is_typed = false; is_weak = false; kernel_btf_id = Some 1; ksym_addr = None; is_resolved = true }
+setting =
+    record {
+      btf_id = 0;
+      is_typed = false;
+      is_weak = false;
+      kernel_btf_id = Some 1;
+      ksym_addr = None;
+      is_resolved = true;
+    }
 
 -- such ones of some names
 abbrev pub settings_named : List (List ℕ) → List (List ℕ × ExternDesc)

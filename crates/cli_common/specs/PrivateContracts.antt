@@ -12,7 +12,8 @@ unfoldable pub lent_names : FinMap nat_cmp (Bor (List ℕ)) → FinMap nat_cmp (
 lent_names names = map_values (λ (n : Bor (List ℕ)). n.now) names
 
 abbrev pub names_in : MapNames → NamedMaps
-names_in names = record { by_symbol = lent_names names.by_symbol; by_section = lent_names names.by_section }
+names_in names =
+    record { by_symbol = lent_names names.by_symbol; by_section = lent_names names.by_section }
 
 -- the entries before the first that stands at an end or behind it
 abbrev pub up_to : {X : Type 0} → ℕ → List (ℕ × X) → List (ℕ × X)

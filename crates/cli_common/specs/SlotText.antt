@@ -1,5 +1,18 @@
 -- The lines of a program's slots, and of a program.
-use Rattle.std.specs.Prelude.{ℕ, ◌+◌, ◌/◌, ◌%◌, nat_lt, if◌then◌else◌, List, [], ◌∷◌, ◌++◌, length, codes}
+use Rattle.std.specs.Prelude.{
+  ℕ,
+  ◌+◌,
+  ◌/◌,
+  ◌%◌,
+  nat_lt,
+  if◌then◌else◌,
+  List,
+  [],
+  ◌∷◌,
+  ◌++◌,
+  length,
+  codes,
+}
 use Rattle.std.specs.Fmt.{decimal}
 use Rattle.std.specs.List.{flat_map}
 use Rattle.ebpf_parts.specs.Slots.{slot_bytes}
@@ -20,7 +33,8 @@ slot_line slot = hex_line (slot_bytes slot)
 
 -- `program NAME slots N`
 abbrev pub head_line : List ℕ → List bpf_insn → List ℕ
-head_line name slots = codes "program " ++ name ++ codes " slots " ++ decimal (length slots) ++ 10 ∷ []
+head_line name slots =
+    codes "program " ++ name ++ codes " slots " ++ decimal (length slots) ++ 10 ∷ []
 
 -- .. and a line for each slot
 abbrev pub program_text : List ℕ → List bpf_insn → List ℕ

@@ -105,7 +105,8 @@ pub struct ObjectRange {
 
 /// The first object that begins at a place of a file or behind it.
 fn next_object(file: &[u8], from: usize) -> Option<ObjectRange>
-    ensures found { MatchOption result (HasNone file.now from) (λ range. IsNext file.now from range) }
+    ensures found { MatchOption result (HasNone file.now from) (λ range.
+        IsNext file.now from range) }
     ensures further { IfSome result (λ range. from < range.end) }
     ensures inside { IfSome result (λ range. range.end ≤ length file.now) }
 {

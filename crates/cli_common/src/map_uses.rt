@@ -84,7 +84,9 @@ fn name_at<'a>(names: &ByIndex<&'a str>, index: usize) -> Option<&'a str>
 
 /// The name of the map of a symbol, else that of the last one of a section.
 fn map_at<'a>(names: &MapNames<'a>, symbol: usize, section: usize) -> Option<&'a str>
-    ensures { option_copied result ≡ or_else (finite.get (names_in names.now).by_symbol symbol) (finite.get (names_in names.now).by_section section) }
+    ensures { option_copied result
+        ≡ or_else (finite.get (names_in names.now).by_symbol symbol)
+        (finite.get (names_in names.now).by_section section) }
 {
     match name_at(&names.by_symbol, symbol) {
         Some(name) => Some(name),
@@ -130,7 +132,13 @@ fn slots_among(
     function: &Function,
     relocations: &ByOffset<Relocation>,
 ) -> Result<ByName<usize>, AllocError>
-    ensures { IfOk result (λ slots. slots ≡ put_firsts finite.empty (referred object.now (names_in names.now) function.now (up_to (end_of function.now) (entries_from function.now.section_offset (finite.entries relocations.now))))) }
+    ensures { IfOk result (λ slots.
+        slots
+        ≡ put_firsts finite.empty
+        (referred object.now (names_in names.now) function.now
+        (up_to (end_of function.now)
+        (entries_from function.now.section_offset
+        (finite.entries relocations.now))))) }
 {
     let mut slots = ByName::new(alloc);
     let start = function.section_offset as u64;
@@ -156,7 +164,8 @@ fn first_slots(
     names: &MapNames<'_>,
     function: &Function,
 ) -> Result<ByName<usize>, AllocError>
-    ensures { IfOk result (λ slots. slots ≡ first_slots object.now (names_in names.now) function.now) }
+    ensures { IfOk result (λ slots.
+        slots ≡ first_slots object.now (names_in names.now) function.now) }
 {
     match object.relocations.get(function.section_index.0 as u64) {
         Some(relocations) => slots_among(alloc, object, names, function, relocations),

@@ -71,7 +71,8 @@ fn with_section(
     name: &str,
     program: &Program,
 ) -> Result<ObjectProgram, AllocError>
-    ensures { IfOk result (λ p. program_row p ≡ (name.now, (program.now.section_index, program.now.address))) }
+    ensures { IfOk result (λ p.
+        program_row p ≡ (name.now, (program.now.section_index, program.now.address))) }
 {
     let section = section_name(names, program.section_index);
     let section = Text::from_str(alloc, section)?;
@@ -86,7 +87,8 @@ pub fn object_programs(
     file: &[u8],
     object: &Object,
 ) -> Result<Vec<ObjectProgram>, AllocError>
-    ensures { IfOk result (λ programs. map program_row programs.items ≡ program_rows object.now.programs) }
+    ensures { IfOk result (λ programs.
+        map program_row programs.items ≡ program_rows object.now.programs) }
 {
     let names = section_names(alloc, file)?;
     let mut programs = Vec::with_capacity(alloc, object.programs.len())?;

@@ -2,10 +2,9 @@
 
 use crate::types::add_type;
 use ebpf_btf::{Btf, BtfKind};
-use ebpf_core::{LocalPath, NamedPath, RelocationError, local_path, outcome_among};
-use ebpf_core::Step;
-use ebpf_core_relo::Absence;
 use ebpf_btf_ext::{Relocation, RelocationKind};
+use ebpf_core::{LocalPath, NamedPath, RelocationError, Step, local_path, outcome_among};
+use ebpf_core_relo::Absence;
 use std::alloc::{AllocError, Global};
 
 /// Adds the steps to a field. The first of them, which counts in the root type itself, is told where it isn't 0.

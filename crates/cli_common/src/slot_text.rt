@@ -55,7 +55,8 @@ fn slot_line(slot: &bpf_insn) -> [u8; 24]
 
 /// Writes the lines of slots.
 pub fn write_slots<W: Write>(out: &mut W, slots: &[bpf_insn]) -> io::Result<()>
-    ensures { OnOk result (Appends (W.contents out.old) (W.contents out.new) (flat_map slot_line slots.now)) }
+    ensures { OnOk result
+        (Appends (W.contents out.old) (W.contents out.new) (flat_map slot_line slots.now)) }
 {
     for slot in slots {
         out.write_all(&slot_line(slot))?;

@@ -26,7 +26,9 @@ pub fn add_unknown(
     all: &ByName<ExternDesc>,
     written: &mut ByName<ExternDesc>,
 ) -> Result<(), AllocError>
-    ensures { OnOk result (written.new ≡ put_firsts written.old (mapped_entries unknown (finite.entries all.now))) }
+    ensures { OnOk result
+        (written.new
+        ≡ put_firsts written.old (mapped_entries unknown (finite.entries all.now))) }
 {
     for (name, known) in all.iter() {
         if written.contains_key(name.as_str()) {

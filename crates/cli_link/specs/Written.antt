@@ -33,13 +33,18 @@ abbrev pub shown_programs : Object → List (List ℕ) → List ℕ
 shown_programs o names = flat_map (shown_lines o) names
 
 -- the writer has got the lines of these programs of what all stages leave of an object
-pub record WritesFinished (steps : Chosen) (lines : Source) (parsed : Object) (names : List (List ℕ)) (before now : Option (List ℕ)) : Type 0 where
+pub record WritesFinished (steps : Chosen) (lines : Source) (parsed : Object)
+    (names : List (List ℕ)) (before now : Option (List ℕ))
+    : Type 0 where
   pub object : Object
   pub stages : Stages steps lines parsed object
   pub text : Appends before now (shown_programs object names)
 
 -- the file, read broadly, is linked, and the writer has got the lines of these of its programs
-pub record HasWritten (file : List ℕ) (types : Option TypeInfo) (lines : Source) (names : List (List ℕ)) (before now : Option (List ℕ)) : Type 0 where
+pub record HasWritten (file : List ℕ) (types : Option TypeInfo) (lines : Source)
+    (names : List (List ℕ)) (before now : Option (List ℕ))
+    : Type 0 where
   pub object : Object
-  pub headline : Headline (default_passes types (object_as Lenient file).maps) lines Lenient file object
+  pub headline : Headline (default_passes types (object_as Lenient file).maps) lines Lenient file
+      object
   pub text : Appends before now (shown_programs object names)

@@ -32,7 +32,9 @@ pub enum BytesFailure {
 
 /// Writes the line of a program: its name as it is shown, and the number of its slots.
 fn write_head<W: Write>(out: &mut W, name: &str, slots: &[bpf_insn]) -> io::Result<()>
-    ensures { OnOk result (Appends (W.contents out.old) (W.contents out.new) (head_line (shown name.now) slots.now)) }
+    ensures { OnOk result
+        (Appends (W.contents out.old) (W.contents out.new)
+        (head_line (shown name.now) slots.now)) }
 {
     let name = EscapedName(name);
     let count = slots.len();
@@ -41,7 +43,9 @@ fn write_head<W: Write>(out: &mut W, name: &str, slots: &[bpf_insn]) -> io::Resu
 
 /// Writes a program: its name as it is shown and the number of its slots, then each slot.
 fn write_program<W: Write>(out: &mut W, name: &str, slots: &[bpf_insn]) -> io::Result<()>
-    ensures { OnOk result (Appends (W.contents out.old) (W.contents out.new) (program_text (shown name.now) slots.now)) }
+    ensures { OnOk result
+        (Appends (W.contents out.old) (W.contents out.new)
+        (program_text (shown name.now) slots.now)) }
 {
     write_head(out, name, slots)?;
     write_slots(out, slots)
@@ -49,7 +53,8 @@ fn write_program<W: Write>(out: &mut W, name: &str, slots: &[bpf_insn]) -> io::R
 
 /// Writes the program of a name: its name as it is shown and the number of its slots, then each slot.
 fn write_named<W: Write>(object: &Object, name: &str, out: &mut W) -> io::Result<()>
-    ensures { OnOk result (Appends (W.contents out.old) (W.contents out.new) (shown_lines object.now name.now)) }
+    ensures { OnOk result
+        (Appends (W.contents out.old) (W.contents out.new) (shown_lines object.now name.now)) }
 {
     match object.program_function(name) {
         Some(function) => write_program(out, name, function.instructions.as_slice()),
@@ -64,7 +69,9 @@ fn write_named_programs<W: Write>(
     programs: &[ObjectProgram],
     out: &mut W,
 ) -> io::Result<()>
-    ensures { OnOk result (Appends (W.contents out.old) (W.contents out.new) (flat_map (shown_lines object.now) (map program_name programs.now))) }
+    ensures { OnOk result
+        (Appends (W.contents out.old) (W.contents out.new)
+        (flat_map (shown_lines object.now) (map program_name programs.now))) }
 {
     for program in programs {
         write_named(object, program.name.as_str(), out)?;
@@ -85,8 +92,15 @@ pub fn write_finished<W: Write>(
     programs: &[ObjectProgram],
     out: &mut W,
 ) -> Result<(), BytesFailure>
-    ensures lines { OnOk result (WritesFinished (default_passes kernel.now.types parsed.now.maps) (Text kernel.now.symbols.items) parsed.now (map program_name programs.now) (W.contents out.old) (W.contents out.new)) }
-    ensures done { (file : List ℕ) → IsParsed Lenient file parsed.now → OnOk result (HasWritten file kernel.now.types (Text kernel.now.symbols.items) (map program_name programs.now) (W.contents out.old) (W.contents out.new)) }
+    ensures lines { OnOk result
+        (WritesFinished (default_passes kernel.now.types parsed.now.maps)
+        (Text kernel.now.symbols.items) parsed.now (map program_name programs.now)
+        (W.contents out.old) (W.contents out.new)) }
+    ensures done { (file : List ℕ)
+        → IsParsed Lenient file parsed.now
+        → OnOk result
+        (HasWritten file kernel.now.types (Text kernel.now.symbols.items)
+        (map program_name programs.now) (W.contents out.old) (W.contents out.new)) }
 {
     let object = match finished_object(alloc, parsed, kernel) {
         Ok(object) => object,

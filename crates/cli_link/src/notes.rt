@@ -1,8 +1,8 @@
 //! Notes on the values that CO-RE relocations wrote into slots.
 
 use ebpf_btf::Btf;
-use ebpf_core_relo::{Absence, RecordOutcome, RecordResult, RecordSlot};
 use ebpf_btf_ext::Relocation;
+use ebpf_core_relo::{Absence, RecordOutcome, RecordResult, RecordSlot};
 use ebpf_object::Object;
 use std::alloc::{AllocError, Global};
 

@@ -1,5 +1,26 @@
--- What `ebpf list` writes from: the object's tables, row by row, in their order. The maps are read of the object itself.
-use Rattle.std.specs.Prelude.{ℕ, Bool, true, false, List, map, Option, Some, None, slice_get, ◌≡◌, MatchBool, ◌⊎◌, ◌-◌, ◌^◌, min, [], ◌∷◌, not}
+-- What `ebpf list` writes from: the object's tables, row by row, in their order. The maps are read
+-- of the object itself.
+use Rattle.std.specs.Prelude.{
+  ℕ,
+  Bool,
+  true,
+  false,
+  List,
+  map,
+  Option,
+  Some,
+  None,
+  slice_get,
+  ◌≡◌,
+  MatchBool,
+  ◌⊎◌,
+  ◌-◌,
+  ◌^◌,
+  min,
+  [],
+  ◌∷◌,
+  not,
+}
 use Rattle.std.specs.FinMap.{entries, get, FinMap}
 use Rattle.std.specs.List.{AllZip, filter, list_any, enumerate_from}
 use Rattle.std.specs.Map.{keys_of}
@@ -12,7 +33,12 @@ use Rattle.ebpf_model.specs.declared.error.EbpfRelocationError.{EbpfRelocationEr
 use Rattle.ebpf_model.specs.declared.symbol.ExternDesc.{ExternDesc}
 use Rattle.ebpf_object.specs.WrittenSlots.{with_externs, externs_fault}
 use Rattle.ebpf_object.specs.declared.object.Object.{Object}
-use Rattle.cli_common.specs.ObjectPrograms.{known_externs, program_row, program_rows, object_settings}
+use Rattle.cli_common.specs.ObjectPrograms.{
+  known_externs,
+  program_row,
+  program_rows,
+  object_settings,
+}
 use Rattle.ebpf_linker.specs.LinkMap.{copied_slot_count}
 use Rattle.ebpf_model.specs.declared.function.Program.{Program}
 use Rattle.ebpf_object.specs.Headline.{linkable}
@@ -48,13 +74,20 @@ is_function (Some types) id = is_func types id
 
 -- an extern by its name
 abbrev pub extern_row : Option TypeInfo → List ℕ → ExternDesc → Extern
-extern_row types name x = record { name = name; is_function = is_function types x.btf_id; is_typed = x.is_typed; is_weak = x.is_weak }
+extern_row types name x =
+    record {
+      name = name;
+      is_function = is_function types x.btf_id;
+      is_typed = x.is_typed;
+      is_weak = x.is_weak;
+    }
 
 -- those of an object, in byte order of their names
 abbrev pub extern_rows : Object → List Extern
 extern_rows o = map (λ e. extern_row o.btf e.0 e.1) (entries o.externs)
 
--- ---- an object whose externs are written as if a kernel had them all, so that what calls them is no reference to a function
+-- ---- an object whose externs are written as if a kernel had them all, so that what calls them is
+-- no reference to a function
 
 -- the object with all its externs known, and those that the kernel's configuration gives
 abbrev pub with_known : Object → List (List ℕ) → Object
@@ -65,11 +98,13 @@ abbrev pub WritesExterns : Object → List (List ℕ) → Object → Bool → Ty
 WritesExterns before settings after is_written =
     MatchBool is_written
     (after ≡ with_externs (with_known before settings))
-    ((after ≡ with_known before settings) × ((e : EbpfRelocationError) × (externs_fault (with_known before settings) ≡ Some e)))
+    ((after ≡ with_known before settings)
+    × ((e : EbpfRelocationError) × (externs_fault (with_known before settings) ≡ Some e)))
 
 -- ---- what the programs of an object are made of.
 
--- the slots of these copies, which are those of the linked program (`MatchesLinked`), and their functions
+-- the slots of these copies, which are those of the linked program (`MatchesLinked`), and their
+-- functions
 pub record IsOfCopies (copies : List CodeCopy) (l : ListedLayout) : Type 0 where
   pub slots : l.slots ≡ Some (min (copied_slot_count (map copy_of copies)) (2 ^ 64 - 1))
   pub functions : l.functions.items ≡ map (λ c. c.key) copies
@@ -119,7 +154,8 @@ is_reached layouts key = list_any (λ layout. reaches layout key) layouts
 
 -- the keys of the functions that none reaches, in their order
 abbrev pub unreached_keys : Object → List ListedLayout → List FunctionKey
-unreached_keys o layouts = filter (λ key. not (is_reached layouts key)) (keys_of (entries o.functions))
+unreached_keys o layouts =
+    filter (λ key. not (is_reached layouts key)) (keys_of (entries o.functions))
 
 -- ---- which programs use what: those of which some function that they reach does.
 
@@ -132,12 +168,15 @@ if_any [] = None
 if_any (n ∷ ns) = Some (n ∷ ns)
 
 -- at each thing the numbers of the programs that use it, where some does
-abbrev pub AreUsers : {K : Type 0} {R : K → K → Ordering} → (K → ListedLayout → Bool) → List ListedLayout → FinMap R (List ℕ) → Type 0
-AreUsers {K} uses layouts users = (used : K) → get users used ≡ if_any (numbers_of (uses used) layouts)
+abbrev pub AreUsers : {K : Type 0} {R : K → K → Ordering} → (K → ListedLayout → Bool)
+    → List ListedLayout → FinMap R (List ℕ) → Type 0
+AreUsers {K} uses layouts users =
+    (used : K) → get users used ≡ if_any (numbers_of (uses used) layouts)
 
 -- whether some function that a program reaches calls a helper function
 abbrev pub calls : Object → ℕ → ListedLayout → Bool
-calls o helper layout = list_any (λ key. calls_helper (get o.functions key) helper) layout.functions.items
+calls o helper layout =
+    list_any (λ key. calls_helper (get o.functions key) helper) layout.functions.items
 
 -- whether the map of a name is among those that a function uses
 abbrev pub has_use : Option (List MapUse) → List ℕ → Bool
@@ -148,26 +187,32 @@ has_use (Some uses) name = list_any (λ u. eq_by_cmp text_cmp name u.name) uses
 abbrev pub uses_map : FinMap key_cmp (List MapUse) → List ℕ → ListedLayout → Bool
 uses_map uses name layout = list_any (λ key. has_use (get uses key) name) layout.functions.items
 
--- ---- what `ebpf list` writes from: the object's tables, row by row, in their order. The maps are read of the object itself.
+-- ---- what `ebpf list` writes from: the object's tables, row by row, in their order. The maps are
+-- read of the object itself.
 
--- what stands in an object as it was parsed: its programs, its externs, those that the kernel's configuration gives, and the
--- maps that its functions use
+-- what stands in an object as it was parsed: its programs, its externs, those that the kernel's
+-- configuration gives, and the maps that its functions use
 pub record IsWanted (o : Object) (w : ObjectContents) : Type 0 where
   pub programs : map program_row w.programs.items ≡ program_rows o.programs
   pub externs : w.externs ≡ extern_rows o
   pub settings : w.settings ≡ object_settings o.btf
   pub map_uses : w.map_uses ≡ function_maps o
 
--- what each of its programs is made of, once its externs are written as if a kernel had them all; a program alone where one
--- of them can't be written
-pub record AreObjectLayouts (before : Object) (w : ObjectContents) (after : Object) (made : List ListedLayout) : Type 0 where
+-- what each of its programs is made of, once its externs are written as if a kernel had them all; a
+-- program alone where one of them can't be written
+pub record AreObjectLayouts (before : Object) (w : ObjectContents) (after : Object)
+    (made : List ListedLayout)
+    : Type 0 where
   pub is_written : Bool
   pub written : WritesExterns before w.settings after is_written
-  pub each : MatchBool is_written (AreLayouts after w.programs.items made) (AllZip IsOfOne w.programs.items made)
+  pub each : MatchBool is_written (AreLayouts after w.programs.items made)
+      (AllZip IsOfOne w.programs.items made)
 
--- what is told of an object with these layouts: which of its programs use which maps and helper functions, and the functions
--- that none of them reaches
-pub record IsListing (o : Object) (w : ObjectContents) (made : List ListedLayout) (l : ObjectListing) : Type 0 where
+-- what is told of an object with these layouts: which of its programs use which maps and helper
+-- functions, and the functions that none of them reaches
+pub record IsListing (o : Object) (w : ObjectContents) (made : List ListedLayout)
+    (l : ObjectListing)
+    : Type 0 where
   pub object : l.object.now ≡ o
   pub wanted : l.wanted.now ≡ w
   pub layouts : l.layouts.now ≡ made
@@ -175,10 +220,11 @@ pub record IsListing (o : Object) (w : ObjectContents) (made : List ListedLayout
   pub helper_users : AreUsers (calls o) made l.helper_users
   pub unreached : l.unreached.items ≡ unreached_keys o made
 
--- Of a parsed object: all that is told, where the layouts are those of its programs. But for its externs and the slots of its
--- functions the object is as it was parsed, its maps among the rest.
+-- Of a parsed object: all that is told, where the layouts are those of its programs. But for its
+-- externs and the slots of its functions the object is as it was parsed, its maps among the rest.
 pub record IsListed (parsed : Object) (l : ObjectListing) : Type 0 where
-  pub object : l.object.now ≡ record parsed { externs = l.object.now.externs; functions = l.object.now.functions }
+  pub object : l.object.now
+      ≡ record parsed { externs = l.object.now.externs; functions = l.object.now.functions }
   pub wanted : IsWanted parsed l.wanted.now
   pub layouts : AreObjectLayouts parsed l.wanted.now l.object.now l.layouts.now
   pub listing : IsListing l.object.now l.wanted.now l.layouts.now l

@@ -1,5 +1,30 @@
 -- What contracts of private functions name and no public one.
-use Rattle.std.specs.Prelude.{◌≡◌, ℕ, ◌+◌, ◌-◌, ◌^◌, ◌<◌, ◌==◌, min, count_by, Bool, false, List, [], ◌∷◌, ◌++◌, fold, map, length, slice_get, Option, Some, None, unwrap_or, if◌then◌else◌}
+use Rattle.std.specs.Prelude.{
+  ◌≡◌,
+  ℕ,
+  ◌+◌,
+  ◌-◌,
+  ◌^◌,
+  ◌<◌,
+  ◌==◌,
+  min,
+  count_by,
+  Bool,
+  false,
+  List,
+  [],
+  ◌∷◌,
+  ◌++◌,
+  fold,
+  map,
+  length,
+  slice_get,
+  Option,
+  Some,
+  None,
+  unwrap_or,
+  if◌then◌else◌,
+}
 use Rattle.std.specs.BTreeMap.{BTreeMap}
 use Rattle.std.specs.BTreeSet.{BTreeSet}
 use Rattle.std.specs.FinMap.{FinMap, get, insert}
@@ -41,7 +66,8 @@ module _ {K : Type 0} {R : K → K → Ordering} where
   with_users n users used = fold (with_user n) users used
 
   -- with the programs of these layouts, whose numbers begin at n, as users of what each uses
-  abbrev pub users_from : (ListedLayout → List K) → ℕ → FinMap R (List ℕ) → List ListedLayout → FinMap R (List ℕ)
+  abbrev pub users_from : (ListedLayout → List K) → ℕ → FinMap R (List ℕ) → List ListedLayout
+      → FinMap R (List ℕ)
   users_from used n users [] = users
   users_from used n users (l ∷ ls) = users_from used (n + 1) (with_users n users (used l)) ls
 
@@ -84,4 +110,6 @@ with_one n counts = if counts then min (n + 1) (2 ^ 64 - 1) else n
 abbrev pub CountsMore : BTreeMap (ℕ × Kind) ℕ → List Relocation → BTreeMap (ℕ × Kind) ℕ → Type 0
 CountsMore before records after =
     (asked : ℕ × Kind) → count_at before asked < 2 ^ 64
-    → (count_at after asked < 2 ^ 64) × (count_at after asked ≡ min (count_at before asked + count_by (asks asked) records) (2 ^ 64 - 1))
+    → (count_at after asked < 2 ^ 64)
+    × (count_at after asked
+    ≡ min (count_at before asked + count_by (asks asked) records) (2 ^ 64 - 1))

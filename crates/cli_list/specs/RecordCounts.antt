@@ -1,5 +1,19 @@
 -- How many CO-RE records of an object ask what of which type.
-use Rattle.std.specs.Prelude.{◌≡◌, ℕ, ◌-◌, ◌^◌, min, count_by, Bool, List, [], Option, Some, None, unwrap_or}
+use Rattle.std.specs.Prelude.{
+  ◌≡◌,
+  ℕ,
+  ◌-◌,
+  ◌^◌,
+  min,
+  count_by,
+  Bool,
+  List,
+  [],
+  Option,
+  Some,
+  None,
+  unwrap_or,
+}
 use Rattle.std.specs.BTreeMap.{BTreeMap, get}
 use Rattle.std.specs.List.{flat_map}
 use Rattle.std.specs.Ordering.{eq_by_cmp, nat_cmp, ordering_then}
@@ -44,4 +58,5 @@ count_at counts asked = unwrap_or (get asked_cmp counts asked) 0
 
 -- they are as many as there are, as far as 64 bits hold them
 abbrev pub AreCounts : List Relocation → BTreeMap (ℕ × Kind) ℕ → Type 0
-AreCounts records counts = (asked : ℕ × Kind) → count_at counts asked ≡ min (count_by (asks asked) records) (2 ^ 64 - 1)
+AreCounts records counts =
+    (asked : ℕ × Kind) → count_at counts asked ≡ min (count_by (asks asked) records) (2 ^ 64 - 1)

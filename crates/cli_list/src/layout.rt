@@ -65,7 +65,8 @@ fn layout_of_map(
     map: Option<LinkMap>,
     program: &ObjectProgram,
 ) -> Result<ListedLayout, AllocError>
-    ensures { IfOk result (λ l. MatchOption map (IsOfOne program.now l) (λ m. IsOfCopies m.copies l)) }
+    ensures { IfOk result (λ l.
+        MatchOption map (IsOfOne program.now l) (λ m. IsOfCopies m.copies l)) }
 {
     match map {
         Some(map) => Ok(linked(alloc, map.copies.as_slice())?),
@@ -154,7 +155,9 @@ pub fn layouts_if(
     programs: &[ObjectProgram],
     is_written: bool,
 ) -> Result<Items<ListedLayout>, AllocError>
-    ensures { IfOk result (λ all. MatchBool is_written (AreLayouts object.now programs.now all) (AllZip IsOfOne programs.now all)) }
+    ensures { IfOk result (λ all.
+        MatchBool is_written (AreLayouts object.now programs.now all)
+        (AllZip IsOfOne programs.now all)) }
 {
     if is_written {
         layouts(alloc, object, programs)
@@ -168,7 +171,8 @@ fn add_reached(
     reached: &mut BTreeSet<(usize, u64)>,
     functions: &[(usize, u64)],
 ) -> Result<(), AllocError>
-    ensures { OnOk result (reached.new.keys ≡ fold (insert_key key_cmp) reached.old.keys functions.now) }
+    ensures { OnOk result
+        (reached.new.keys ≡ fold (insert_key key_cmp) reached.old.keys functions.now) }
 {
     for function in functions {
         reached.insert(*function)?;
@@ -181,7 +185,8 @@ fn reached_by_some(
     alloc: Global,
     layouts: &[ListedLayout],
 ) -> Result<BTreeSet<(usize, u64)>, AllocError>
-    ensures { IfOk result (λ reached. reached.keys ≡ fold (insert_key key_cmp) [] (reached_keys layouts.now)) }
+    ensures { IfOk result (λ reached.
+        reached.keys ≡ fold (insert_key key_cmp) [] (reached_keys layouts.now)) }
 {
     let mut reached = BTreeSet::new(alloc);
     for layout in layouts {
@@ -196,7 +201,10 @@ fn keys_beside(
     object: &Object,
     reached: &BTreeSet<(usize, u64)>,
 ) -> Result<Vec<(usize, u64)>, AllocError>
-    ensures { IfOk result (λ keys. keys.items ≡ filter (λ key. not (contains key_cmp reached.now key)) (keys_of (finite.entries object.now.functions))) }
+    ensures { IfOk result (λ keys.
+        keys.items
+        ≡ filter (λ key. not (contains key_cmp reached.now key))
+        (keys_of (finite.entries object.now.functions))) }
 {
     let mut keys = Vec::new(alloc);
     for (key, _) in object.functions.iter() {
@@ -248,7 +256,8 @@ pub fn write_externs(
     object: &mut Object,
     settings: &[Text],
 ) -> Result<bool, AllocError>
-    ensures { IfOk result (λ is_written. WritesExterns object.old settings.now object.new is_written) }
+    ensures { IfOk result (λ is_written.
+        WritesExterns object.old settings.now object.new is_written) }
 {
     object.externs = all_known(alloc, object, settings)?;
     match object.relocate_externs() {

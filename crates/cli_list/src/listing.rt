@@ -200,7 +200,10 @@ pub fn listing_of<'a>(
     layouts: &'a Items<ListedLayout>,
 ) -> Result<ObjectListing<'a>, AllocError>
     ensures tables { IfOk result (λ listing. IsListing object.now wanted.now layouts.now listing) }
-    ensures listed { (parsed : Object) → IsWanted parsed wanted.now → AreObjectLayouts parsed wanted.now object.now layouts.now → IfOk result (λ listing. IsListed parsed listing) }
+    ensures listed { (parsed : Object)
+        → IsWanted parsed wanted.now
+        → AreObjectLayouts parsed wanted.now object.now layouts.now
+        → IfOk result (λ listing. IsListed parsed listing) }
 {
     let made = layouts.as_slice();
     let map_users = map_users(alloc, &wanted.map_uses, made)?;

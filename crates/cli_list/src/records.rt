@@ -35,7 +35,10 @@ fn asked_by(record: &Relocation) -> (u32, Kind)
 
 /// Counts a record.
 fn count_record(counts: &mut ByType, record: &Relocation) -> Result<(), AllocError>
-    ensures { OnOk result ((asked : ℕ × Kind) → count_at counts.new asked ≡ with_one (count_at counts.old asked) (asks asked record.now)) }
+    ensures { OnOk result
+        ((asked : ℕ × Kind)
+        → count_at counts.new asked
+        ≡ with_one (count_at counts.old asked) (asks asked record.now)) }
 {
     let asked = asked_by(record);
     let before = counts.get(&asked).copied().unwrap_or(0);

@@ -20,7 +20,8 @@ fn add_caller(
     helper: u32,
     program: usize,
 ) -> Result<(), AllocError>
-    ensures { OnOk result (users.new ≡ with_user_beside users.old helper program (finite.get users.old helper)) }
+    ensures { OnOk result
+        (users.new ≡ with_user_beside users.old helper program (finite.get users.old helper)) }
 {
     match users.get_mut(helper as u64) {
         Some(numbers) => {
@@ -56,7 +57,8 @@ fn add_helpers_at(
     keys: &[(usize, u64)],
     program: usize,
 ) -> Result<(), AllocError>
-    ensures { OnOk result (users.new ≡ with_users program users.old (helpers_at by_function.now keys.now)) }
+    ensures { OnOk result
+        (users.new ≡ with_users program users.old (helpers_at by_function.now keys.now)) }
 {
     for key in keys {
         if let Some(helpers) = by_function.get(*key) {
@@ -73,7 +75,8 @@ fn callers(
     by_function: &ByKey<BTreeSet<u32>>,
     layouts: &[ListedLayout],
 ) -> Result<ByNumber<Items<usize>>, AllocError>
-    ensures { IfOk result (λ users. users ≡ users_from (helpers_of by_function.now) 0 finite.empty layouts.now) }
+    ensures { IfOk result (λ users.
+        users ≡ users_from (helpers_of by_function.now) 0 finite.empty layouts.now) }
 {
     let mut users = ByNumber::new(alloc);
     for (program, layout) in layouts.iter().enumerate() {
@@ -102,7 +105,9 @@ fn add_user(
     name: &str,
     program: usize,
 ) -> Result<(), AllocError>
-    ensures { OnOk result (users.new ≡ with_user_beside users.old name.now program (finite.get users.old name.now)) }
+    ensures { OnOk result
+        (users.new
+        ≡ with_user_beside users.old name.now program (finite.get users.old name.now)) }
 {
     match users.get_mut(name) {
         Some(numbers) => {
@@ -156,7 +161,8 @@ fn users_of_maps(
     uses: &ByKey<Items<MapUse>>,
     layouts: &[ListedLayout],
 ) -> Result<ByName<Items<usize>>, AllocError>
-    ensures { IfOk result (λ users. users ≡ users_from (names_of uses.now) 0 finite.empty layouts.now) }
+    ensures { IfOk result (λ users.
+        users ≡ users_from (names_of uses.now) 0 finite.empty layouts.now) }
 {
     let mut users = ByName::new(alloc);
     for (program, layout) in layouts.iter().enumerate() {

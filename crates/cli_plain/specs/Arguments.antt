@@ -1,9 +1,28 @@
 -- The words of the command line `NAME FILE [--btf FILE] [--kallsyms FILE] [--program NAME]`.
-use Rattle.std.specs.Prelude.{ℕ, Bool, true, false, List, [], ◌∷◌, Option, Some, None, nat_eq, if◌then◌else◌, codes}
+use Rattle.std.specs.Prelude.{
+  ℕ,
+  Bool,
+  true,
+  false,
+  List,
+  [],
+  ◌∷◌,
+  Option,
+  Some,
+  None,
+  nat_eq,
+  if◌then◌else◌,
+  codes,
+}
 use Rattle.std.specs.List.{starts_with}
 use Rattle.std.specs.Str.{bytes_eq}
 use Rattle.cli_plain.specs.declared.arguments.ArgumentKind.{ArgumentKind}
-use Rattle.cli_plain.specs.declared.arguments.ArgumentKind.TheVariants.{File, Btf, Kallsyms, Program}
+use Rattle.cli_plain.specs.declared.arguments.ArgumentKind.TheVariants.{
+  File,
+  Btf,
+  Kallsyms,
+  Program,
+}
 use Rattle.cli_plain.specs.declared.arguments.Words.{Words}
 use Rattle.cli_plain.specs.declared.arguments.WordsError.{WordsError}
 use Rattle.cli_plain.specs.declared.arguments.WordsError.TheVariants.{Usage, OutOfMemory}
@@ -30,8 +49,9 @@ abbrev pub with_first_argument : Argument → Option (List Argument) → Option 
 with_first_argument argument None = None
 with_first_argument argument (Some others) = Some (argument ∷ others)
 
--- What words are after an option that waits for its text, or after none. An option takes the word behind it
--- whatever it is, and has one; no other word begins with two dashes; each other word is a file.
+-- What words are after an option that waits for its text, or after none. An option takes the word
+-- behind it whatever it is, and has one; no other word begins with two dashes; each other word is a
+-- file.
 abbrev pub arguments : Option ArgumentKind → List (List ℕ) → Option (List Argument)
 arguments None [] = Some []
 arguments (Some kind) [] = None
@@ -39,7 +59,9 @@ arguments (Some kind) (word ∷ words) = with_first_argument (kind, word) (argum
 arguments None (word ∷ words) =
     elim (option_of word) [
       | Some kind ↦ arguments (Some kind) words
-      | None ↦ if has_dashes word then None else with_first_argument (File, word) (arguments None words)
+      | None ↦ if has_dashes word
+          then None
+          else with_first_argument (File, word) (arguments None words)
     ]
 
 -- the texts that stand for each
@@ -66,7 +88,8 @@ put texts (Program, text) = set_once texts.program (record texts { program = Som
 -- arguments by their kinds, each at most once
 abbrev pub put_each : FoundValue → List Argument → Option FoundValue
 put_each texts [] = Some texts
-put_each texts (argument ∷ others) = elim (put texts argument) [ Some next ↦ put_each next others | None ↦ None ]
+put_each texts (argument ∷ others) =
+    elim (put texts argument) [ Some next ↦ put_each next others | None ↦ None ]
 
 abbrev pub put_arguments : FoundValue → Option (List Argument) → Option FoundValue
 put_arguments texts None = None
@@ -78,7 +101,10 @@ texts_in words = put_arguments nothing (arguments None words)
 -- there is a file
 abbrev pub with_file : FoundValue → Option (List ℕ) → Option Words
 with_file texts None = None
-with_file texts (Some file) = Some (record { file = file; btf = texts.btf; kallsyms = texts.kallsyms; program = texts.program })
+with_file texts (Some file) =
+    Some
+    (record
+    { file = file; btf = texts.btf; kallsyms = texts.kallsyms; program = texts.program })
 
 abbrev pub words_in : Option FoundValue → Option Words
 words_in None = None

@@ -1,5 +1,21 @@
--- What a run with status 0 has done, and why a program of the command line prints nothing, or not all.
-use Rattle.std.specs.Prelude.{⊤, ℕ, List, Option, IsSome, MatchOption, ◌≡◌, Some, None, Bool, true, false, Ok, Err}
+-- What a run with status 0 has done, and why a program of the command line prints nothing, or not
+-- all.
+use Rattle.std.specs.Prelude.{
+  ⊤,
+  ℕ,
+  List,
+  Option,
+  IsSome,
+  MatchOption,
+  ◌≡◌,
+  Some,
+  None,
+  Bool,
+  true,
+  false,
+  Ok,
+  Err,
+}
 use Rattle.std.specs.FinMap.{get}
 use Rattle.std.specs.Io.KnownBytes.{Appends}
 use Rattle.ebpf_inspect.specs.declared.report.ProgramReport.{ProgramReport}
@@ -17,13 +33,22 @@ use Rattle.cli_plain.specs.Linked.{IsFileLinked, kernel_types}
 use Rattle.cli_plain.specs.Printed.{report_named, printed}
 use Rattle.ebpf_object.specs.LinkedPrograms.{function_of_named_program}
 use Rattle.cli_plain.specs.declared.failure.Failure.{Failure}
-use Rattle.cli_plain.specs.declared.failure.Failure.TheVariants.{NoProgram, CannotRead, Btf, Preparing, CannotWrite, Memory}
+use Rattle.cli_plain.specs.declared.failure.Failure.TheVariants.{
+  NoProgram,
+  CannotRead,
+  Btf,
+  Preparing,
+  CannotWrite,
+  Memory,
+}
 
 -- ---- what a run of `ebpf-link` with status 0 has done
 
--- The file is linked, it has the program that is named, and the writer, whose bytes were these before and are these
--- now, has got the lines of that program or of all.
-pub record HasPrinted (file : List ℕ) (btf : Option (List ℕ)) (lines : Source) (program : Option (List ℕ)) (before now : Option (List ℕ)) : Type 0 where
+-- The file is linked, it has the program that is named, and the writer, whose bytes were these
+-- before and are these now, has got the lines of that program or of all.
+pub record HasPrinted (file : List ℕ) (btf : Option (List ℕ)) (lines : Source)
+    (program : Option (List ℕ)) (before now : Option (List ℕ))
+    : Type 0 where
   pub object : Object
   pub linked : IsFileLinked file btf lines object
   pub named : MatchOption program ⊤ (λ name. IsSome (get object.programs name))
@@ -42,7 +67,8 @@ LacksNamed o (Some name) f = Lacks o name f
 
 -- no report has the name that is refused
 abbrev pub LacksReport : List ProgramReport → List ℕ → Failure → Type 0
-LacksReport reports name (NoProgram absent) = (absent.now ≡ name) × (report_named reports name ≡ None)
+LacksReport reports name (NoProgram absent) =
+    (absent.now ≡ name) × (report_named reports name ≡ None)
 LacksReport reports name _ = ⊥
 
 abbrev pub LacksNamedReport : List ProgramReport → Option (List ℕ) → Failure → Type 0
@@ -70,14 +96,19 @@ abbrev pub IsPreparingFailure : Chosen → Source → List ℕ → Failure → T
 IsPreparingFailure steps lines file (Preparing e) = IsFirstPrepareFault steps lines Strict file e
 IsPreparingFailure steps lines file _ = ⊥
 
--- What a refusal says of the files is so: the kernel's types can't be read, or, where they can, preparing the file has
--- this first fault, or, where it has none, no program has the name.
+-- What a refusal says of the files is so: the kernel's types can't be read, or, where they can,
+-- preparing the file has this first fault, or, where it has none, no program has the name.
 abbrev pub IsFailureOf : List ℕ → Option (List ℕ) → Source → Option (List ℕ) → Failure → Type 0
 IsFailureOf file btf lines program (Btf e) = kernel_types btf ≡ Err e
 IsFailureOf file btf lines program (Preparing e) =
-    (kernel : Option TypeInfo) × (kernel_types btf ≡ Ok kernel) × IsFirstPrepareFault (default_passes kernel (object_of file).maps) lines Strict file e
+    (kernel : Option TypeInfo)
+    × (kernel_types btf ≡ Ok kernel)
+    × IsFirstPrepareFault (default_passes kernel (object_of file).maps) lines Strict file e
 IsFailureOf file btf lines program (NoProgram name) =
-    (o : Object) × IsFileLinked file btf lines o × (program ≡ Some name.now) × (get o.programs name.now ≡ None)
+    (o : Object)
+    × IsFileLinked file btf lines o
+    × (program ≡ Some name.now)
+    × (get o.programs name.now ≡ None)
 IsFailureOf file btf lines program (CannotRead path) = ⊥
 IsFailureOf file btf lines program CannotWrite = ⊥
 IsFailureOf file btf lines program Memory = ⊥

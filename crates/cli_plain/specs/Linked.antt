@@ -21,7 +21,8 @@ kernel_types None = Ok None
 kernel_types (Some bytes) = read_as_types (type_info_of Little bytes)
 
 -- the object of a file after all passes
-pub record IsFileLinked (file : List ℕ) (btf : Option (List ℕ)) (lines : Source) (o : Object) : Type 0 where
+pub record IsFileLinked (file : List ℕ) (btf : Option (List ℕ)) (lines : Source) (o : Object)
+    : Type 0 where
   pub types : Option TypeInfo
   pub kernel : kernel_types btf ≡ Ok types
   pub headline : Headline (default_passes types (object_of file).maps) lines Strict file o

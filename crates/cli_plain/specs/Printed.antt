@@ -1,5 +1,23 @@
 -- What `ebpf-link` prints of an object, and what `ebpf-inspect` prints of an object's programs.
-use Rattle.std.specs.Prelude.{ℕ, List, [], ◌∷◌, ◌++◌, Option, Some, None, codes, ◌≡◌, ⊤, Bool, true, false, Ok, IsSome, MatchOption}
+use Rattle.std.specs.Prelude.{
+  ℕ,
+  List,
+  [],
+  ◌∷◌,
+  ◌++◌,
+  Option,
+  Some,
+  None,
+  codes,
+  ◌≡◌,
+  ⊤,
+  Bool,
+  true,
+  false,
+  Ok,
+  IsSome,
+  MatchOption,
+}
 use Rattle.std.specs.FinMap.{entries}
 use Rattle.std.specs.Fmt.{decimal, digits}
 use Rattle.std.specs.List.{flat_map, find}
@@ -46,7 +64,8 @@ address_text address = codes "0x" ++ digits 16 false address
 -- `copy BASE SLOTS SECTION ADDRESS NAME`
 abbrev pub copy_line : CodeCopy → List ℕ
 copy_line copy =
-    (codes "copy " ++ decimal copy.base ++ codes " " ++ decimal copy.slots ++ codes " " ++ decimal (key_section copy.key) ++ codes " ")
+    (codes "copy " ++ decimal copy.base ++ codes " " ++ decimal copy.slots ++ codes " "
+    ++ decimal (key_section copy.key) ++ codes " ")
     ++ address_text (key_address copy.key) ++ (codes " " ++ copy.name ++ 10 ∷ [])
 
 abbrev pub word_of : Bool → List ℕ
@@ -55,11 +74,14 @@ word_of false = codes "load"
 
 -- `ref PLACE BASE call` or `ref PLACE BASE load`
 abbrev pub reference_line : PlacedReference → List ℕ
-reference_line r = codes "ref " ++ decimal r.place ++ codes " " ++ decimal r.base ++ codes " " ++ word_of r.is_call ++ 10 ∷ []
+reference_line r =
+    codes "ref " ++ decimal r.place ++ codes " " ++ decimal r.base ++ codes " " ++ word_of r.is_call
+    ++ 10 ∷ []
 
 -- `program NAME slots N`, and a line for each copy and for each reference
 abbrev pub report_text : ProgramReport → List ℕ
-report_text r = head_line r.name r.slots ++ flat_map copy_line r.copies ++ flat_map reference_line r.references
+report_text r =
+    head_line r.name r.slots ++ flat_map copy_line r.copies ++ flat_map reference_line r.references
 
 abbrev pub report_text_if : Option ProgramReport → List ℕ
 report_text_if None = []
@@ -77,14 +99,18 @@ reports_text reports None = flat_map report_text reports
 -- ---- a run
 
 -- what the programs of a file are made of, after all passes
-pub record HasInspected (file : List ℕ) (btf : Option (List ℕ)) (lines : Source) (reports : List ProgramReport) : Type 0 where
+pub record HasInspected (file : List ℕ) (btf : Option (List ℕ)) (lines : Source)
+    (reports : List ProgramReport)
+    : Type 0 where
   pub types : Option TypeInfo
   pub kernel : kernel_types btf ≡ Ok types
   pub inspected : IsInspected (default_passes types (object_of file).maps) lines Strict file reports
 
--- The file is inspected, it has the program that is named, and the writer, whose bytes were these before and are
--- these now, has got the lines of that program or of all.
-pub record HasListed (file : List ℕ) (btf : Option (List ℕ)) (lines : Source) (program : Option (List ℕ)) (before now : Option (List ℕ)) : Type 0 where
+-- The file is inspected, it has the program that is named, and the writer, whose bytes were these
+-- before and are these now, has got the lines of that program or of all.
+pub record HasListed (file : List ℕ) (btf : Option (List ℕ)) (lines : Source)
+    (program : Option (List ℕ)) (before now : Option (List ℕ))
+    : Type 0 where
   pub reports : List ProgramReport
   pub inspected : HasInspected file btf lines reports
   pub named : MatchOption program ⊤ (λ name. IsSome (report_named reports name))

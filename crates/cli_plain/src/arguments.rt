@@ -95,7 +95,13 @@ struct FoundWords<'a> {
 impl<'a> Model for FoundWords<'a> {
     ghost Value = { FoundValue };
 
-    ghost view = { λ f. record { file = option_copied f.file; btf = option_copied f.btf; kallsyms = option_copied f.kallsyms; program = option_copied f.program } };
+    ghost view = { λ f.
+        record {
+          file = option_copied f.file;
+          btf = option_copied f.btf;
+          kallsyms = option_copied f.kallsyms;
+          program = option_copied f.program;
+        } };
 }
 
 impl<'a> FoundWords<'a> {
@@ -178,7 +184,8 @@ fn copied(alloc: Global, text: Option<&str>) -> Result<Option<Text>, WordsError>
 /// - `Usage`: there is no file or a second one, an option twice or without its value, or another word that begins with `--`.
 /// - `OutOfMemory`: an allocation failed.
 pub fn read_words(alloc: Global, words: &[String]) -> Result<Words, WordsError>
-    ensures words { IfOk result (λ default_passes. parsed_words (map string_bytes words.now) ≡ Some default_passes) }
+    ensures words { IfOk result (λ default_passes.
+        parsed_words (map string_bytes words.now) ≡ Some default_passes) }
     ensures fault { Refuses is_words_memory result (words_fault (map string_bytes words.now)) }
 {
     let Some(found) = find_texts(words) else {

@@ -36,9 +36,12 @@ fn write_named<'a, W: Write>(
     name: &'a str,
     out: &mut W,
 ) -> Result<(), Failure<'a>>
-    ensures text { OnOk result (Appends (W.contents out.old) (W.contents out.new) (reports_text reports.now (Some name.now))) }
+    ensures text { OnOk result
+        (Appends (W.contents out.old) (W.contents out.new)
+        (reports_text reports.now (Some name.now))) }
     ensures there { OnOk result (IsSome (report_named reports.now name.now)) }
-    ensures refused { IfErr result (λ f. MatchBool (is_outside f) ⊤ (LacksReport reports.now name.now f)) }
+    ensures refused { IfErr result (λ f.
+        MatchBool (is_outside f) ⊤ (LacksReport reports.now name.now f)) }
     ensures untouched { IfErr result (λ f. MatchBool (is_writers f) ⊤ (out.new ≡ out.old)) }
 {
     let Some(report) = report_named(reports, name) else {
@@ -52,7 +55,8 @@ fn write_named<'a, W: Write>(
 
 /// Writes all reports.
 fn write_all<W: Write>(reports: &[ProgramReport], out: &mut W) -> Result<(), Failure<'static>>
-    ensures text { OnOk result (Appends (W.contents out.old) (W.contents out.new) (reports_text reports.now None)) }
+    ensures text { OnOk result
+        (Appends (W.contents out.old) (W.contents out.new) (reports_text reports.now None)) }
     ensures refused { IfErr result (λ f. is_outside f ≡ true) }
     ensures writers { IfErr result (λ f. is_writers f ≡ true) }
 {
@@ -71,9 +75,15 @@ fn write_reports<'a, W: Write>(
     program: Option<&'a str>,
     out: &mut W,
 ) -> Result<(), Failure<'a>>
-    ensures text { OnOk result (Appends (W.contents out.old) (W.contents out.new) (reports_text reports.now (option_copied program.entry))) }
-    ensures there { OnOk result (MatchOption (option_copied program.entry) ⊤ (λ name. IsSome (report_named reports.now name))) }
-    ensures refused { IfErr result (λ f. MatchBool (is_outside f) ⊤ (LacksNamedReport reports.now (option_copied program.entry) f)) }
+    ensures text { OnOk result
+        (Appends (W.contents out.old) (W.contents out.new)
+        (reports_text reports.now (option_copied program.entry))) }
+    ensures there { OnOk result
+        (MatchOption (option_copied program.entry) ⊤ (λ name.
+        IsSome (report_named reports.now name))) }
+    ensures refused { IfErr result (λ f.
+        MatchBool (is_outside f) ⊤
+        (LacksNamedReport reports.now (option_copied program.entry) f)) }
     ensures untouched { IfErr result (λ f. MatchBool (is_writers f) ⊤ (out.new ≡ out.old)) }
 {
     match program {
@@ -89,9 +99,15 @@ fn print_listed<'a, W: Write>(
     program: Option<&'a str>,
     out: &mut W,
 ) -> Result<(), Failure<'a>>
-    ensures text { OnOk result (Appends (W.contents out.old) (W.contents out.new) (reports_text reports.now (option_copied program.entry))) }
-    ensures there { OnOk result (MatchOption (option_copied program.entry) ⊤ (λ name. IsSome (report_named reports.now name))) }
-    ensures refused { IfErr result (λ f. MatchBool (is_outside f) ⊤ (LacksNamedReport reports.now (option_copied program.entry) f)) }
+    ensures text { OnOk result
+        (Appends (W.contents out.old) (W.contents out.new)
+        (reports_text reports.now (option_copied program.entry))) }
+    ensures there { OnOk result
+        (MatchOption (option_copied program.entry) ⊤ (λ name.
+        IsSome (report_named reports.now name))) }
+    ensures refused { IfErr result (λ f.
+        MatchBool (is_outside f) ⊤
+        (LacksNamedReport reports.now (option_copied program.entry) f)) }
     ensures untouched { IfErr result (λ f. MatchBool (is_writers f) ⊤ (out.new ≡ out.old)) }
 {
     match write_reports(reports, program, out) {
@@ -112,8 +128,17 @@ fn inspect_all<K: SymbolSource>(
     types: Option<&Btf>,
     kallsyms: K,
 ) -> Result<Items<ProgramReport>, Failure<'static>>
-    ensures inspected { (file : List ℕ) → IsParsed Strict file object → IfOk result (IsInspected (default_passes (option_copied types.entry) object.maps) (K.source kallsyms) Strict file) }
-    ensures refused { (file : List ℕ) → IsParsed Strict file object → IfErr result (λ f. MatchBool (is_outside f) ⊤ (IsPreparingFailure (default_passes (option_copied types.entry) object.maps) (K.source kallsyms) file f)) }
+    ensures inspected { (file : List ℕ)
+        → IsParsed Strict file object
+        → IfOk result
+        (IsInspected (default_passes (option_copied types.entry) object.maps)
+        (K.source kallsyms) Strict file) }
+    ensures refused { (file : List ℕ)
+        → IsParsed Strict file object
+        → IfErr result (λ f.
+        MatchBool (is_outside f) ⊤
+        (IsPreparingFailure (default_passes (option_copied types.entry) object.maps)
+        (K.source kallsyms) file f)) }
 {
     let Ok(names) = object.map_names(alloc) else {
         drop(object);
@@ -141,8 +166,12 @@ fn inspected<K: SymbolSource>(
     btf: Option<Vec<u8>>,
     kallsyms: K,
 ) -> Result<Items<ProgramReport>, Failure<'static>>
-    ensures inspected { IfOk result (HasInspected file.now (option_map (λ bytes. bytes.items) btf) (K.source kallsyms)) }
-    ensures refused { IfErr result (λ f. MatchBool (is_outside f) ⊤ (IsFailureOf file.now (option_map (λ bytes. bytes.items) btf) (K.source kallsyms) None f)) }
+    ensures inspected { IfOk result
+        (HasInspected file.now (option_map (λ bytes. bytes.items) btf) (K.source kallsyms)) }
+    ensures refused { IfErr result (λ f.
+        MatchBool (is_outside f) ⊤
+        (IsFailureOf file.now (option_map (λ bytes. bytes.items) btf) (K.source kallsyms)
+        None f)) }
 {
     let types = match read_types(btf) {
         Ok(types) => types,
@@ -175,8 +204,13 @@ pub fn print_reports<'a, K: SymbolSource, W: Write>(
     kallsyms: K,
     out: &mut W,
 ) -> Result<(), Failure<'a>>
-    ensures done { OnOk result (HasListed file.now (option_map (λ bytes. bytes.items) btf) (K.source kallsyms) (option_copied program.entry) (W.contents out.old) (W.contents out.new)) }
-    ensures refused { IfErr result (λ f. MatchBool (is_outside f) ⊤ (IsFailureOf file.now (option_map (λ bytes. bytes.items) btf) (K.source kallsyms) (option_copied program.entry) f)) }
+    ensures done { OnOk result
+        (HasListed file.now (option_map (λ bytes. bytes.items) btf) (K.source kallsyms)
+        (option_copied program.entry) (W.contents out.old) (W.contents out.new)) }
+    ensures refused { IfErr result (λ f.
+        MatchBool (is_outside f) ⊤
+        (IsFailureOf file.now (option_map (λ bytes. bytes.items) btf) (K.source kallsyms)
+        (option_copied program.entry) f)) }
     ensures untouched { IfErr result (λ f. MatchBool (is_writers f) ⊤ (out.new ≡ out.old)) }
 {
     let reports = match inspected(alloc, file, btf, kallsyms) {
@@ -201,7 +235,9 @@ pub fn run_inspect<K: SymbolSource, O: Write, E: Write>(
     err: &mut E,
 ) -> u8
     ensures status { result ≤ 1 }
-    ensures done { result ≡ 0 → HasListed file.now (option_map (λ bytes. bytes.items) btf) (K.source kallsyms) words.now.program (O.contents out.old) (O.contents out.new) }
+    ensures done { result ≡ 0
+        → HasListed file.now (option_map (λ bytes. bytes.items) btf) (K.source kallsyms)
+        words.now.program (O.contents out.old) (O.contents out.new) }
 {
     match print_reports(alloc, words.program(), file, btf, kallsyms, out) {
         Ok(()) => 0,

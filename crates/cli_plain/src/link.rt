@@ -28,7 +28,9 @@ use std::io::Write;
 
 /// Writes the program of a name.
 fn write_named<'a, W: Write>(object: &Object, name: &'a str, out: &mut W) -> Result<(), Failure<'a>>
-    ensures text { OnOk result (Appends (W.contents out.old) (W.contents out.new) (program_lines object.now name.now)) }
+    ensures text { OnOk result
+        (Appends (W.contents out.old) (W.contents out.new)
+        (program_lines object.now name.now)) }
     ensures there { OnOk result (IsSome (function_of_named_program object.now name.now)) }
     ensures refused { IfErr result (λ f. MatchBool (is_outside f) ⊤ (Lacks object.now name.now f)) }
     ensures untouched { IfErr result (λ f. MatchBool (is_writers f) ⊤ (out.new ≡ out.old)) }
@@ -48,7 +50,9 @@ fn write_each<W: Write>(
     names: &[&str],
     out: &mut W,
 ) -> Result<(), Failure<'static>>
-    ensures text { OnOk result (Appends (W.contents out.old) (W.contents out.new) (flat_map (program_lines object.now) (lent_bytes names.now))) }
+    ensures text { OnOk result
+        (Appends (W.contents out.old) (W.contents out.new)
+        (flat_map (program_lines object.now) (lent_bytes names.now))) }
     ensures refused { IfErr result (λ f. is_outside f ≡ true) }
     ensures writers { IfErr result (λ f. is_writers f ≡ true) }
 {
@@ -66,7 +70,8 @@ fn write_each<W: Write>(
 
 /// Writes all programs of an object, in byte order of their names.
 fn write_all<W: Write>(alloc: Global, object: &Object, out: &mut W) -> Result<(), Failure<'static>>
-    ensures text { OnOk result (Appends (W.contents out.old) (W.contents out.new) (printed object.now None)) }
+    ensures text { OnOk result
+        (Appends (W.contents out.old) (W.contents out.new) (printed object.now None)) }
     ensures refused { IfErr result (λ f. is_outside f ≡ true) }
     ensures untouched { IfErr result (λ f. MatchBool (is_writers f) ⊤ (out.new ≡ out.old)) }
 {
@@ -83,9 +88,14 @@ fn write_programs<'a, W: Write>(
     program: Option<&'a str>,
     out: &mut W,
 ) -> Result<(), Failure<'a>>
-    ensures text { OnOk result (Appends (W.contents out.old) (W.contents out.new) (printed object.now (option_copied program.entry))) }
-    ensures there { OnOk result (MatchOption (option_copied program.entry) ⊤ (λ name. IsSome (function_of_named_program object.now name))) }
-    ensures refused { IfErr result (λ f. MatchBool (is_outside f) ⊤ (LacksNamed object.now (option_copied program.entry) f)) }
+    ensures text { OnOk result
+        (Appends (W.contents out.old) (W.contents out.new)
+        (printed object.now (option_copied program.entry))) }
+    ensures there { OnOk result
+        (MatchOption (option_copied program.entry) ⊤ (λ name.
+        IsSome (function_of_named_program object.now name))) }
+    ensures refused { IfErr result (λ f.
+        MatchBool (is_outside f) ⊤ (LacksNamed object.now (option_copied program.entry) f)) }
     ensures untouched { IfErr result (λ f. MatchBool (is_writers f) ⊤ (out.new ≡ out.old)) }
 {
     match program {
@@ -114,9 +124,14 @@ fn print_object<'a, W: Write>(
     program: Option<&'a str>,
     out: &mut W,
 ) -> Result<(), Failure<'a>>
-    ensures text { OnOk result (Appends (W.contents out.old) (W.contents out.new) (printed object.now (option_copied program.entry))) }
-    ensures there { OnOk result (MatchOption (option_copied program.entry) ⊤ (λ name. IsSome (function_of_named_program object.now name))) }
-    ensures refused { IfErr result (λ f. MatchBool (is_outside f) ⊤ (LacksNamed object.now (option_copied program.entry) f)) }
+    ensures text { OnOk result
+        (Appends (W.contents out.old) (W.contents out.new)
+        (printed object.now (option_copied program.entry))) }
+    ensures there { OnOk result
+        (MatchOption (option_copied program.entry) ⊤ (λ name.
+        IsSome (function_of_named_program object.now name))) }
+    ensures refused { IfErr result (λ f.
+        MatchBool (is_outside f) ⊤ (LacksNamed object.now (option_copied program.entry) f)) }
     ensures untouched { IfErr result (λ f. MatchBool (is_writers f) ⊤ (out.new ≡ out.old)) }
 {
     match write_programs(alloc, object, program, out) {
@@ -136,8 +151,17 @@ pub fn prepare_all<K: SymbolSource>(
     types: Option<&Btf>,
     kallsyms: K,
 ) -> Result<Object, Failure<'static>>
-    ensures headline { (file : List ℕ) → IsParsed Strict file object → IfOk result (Headline (default_passes (option_copied types.entry) object.maps) (K.source kallsyms) Strict file) }
-    ensures refused { (file : List ℕ) → IsParsed Strict file object → IfErr result (λ f. MatchBool (is_outside f) ⊤ (IsPreparingFailure (default_passes (option_copied types.entry) object.maps) (K.source kallsyms) file f)) }
+    ensures headline { (file : List ℕ)
+        → IsParsed Strict file object
+        → IfOk result
+        (Headline (default_passes (option_copied types.entry) object.maps)
+        (K.source kallsyms) Strict file) }
+    ensures refused { (file : List ℕ)
+        → IsParsed Strict file object
+        → IfErr result (λ f.
+        MatchBool (is_outside f) ⊤
+        (IsPreparingFailure (default_passes (option_copied types.entry) object.maps)
+        (K.source kallsyms) file f)) }
 {
     let Ok(names) = object.map_names(alloc) else {
         drop(object);
@@ -165,8 +189,12 @@ fn prepared<K: SymbolSource>(
     btf: Option<Vec<u8>>,
     kallsyms: K,
 ) -> Result<Object, Failure<'static>>
-    ensures linked { IfOk result (IsFileLinked file.now (option_map (λ bytes. bytes.items) btf) (K.source kallsyms)) }
-    ensures refused { IfErr result (λ f. MatchBool (is_outside f) ⊤ (IsFailureOf file.now (option_map (λ bytes. bytes.items) btf) (K.source kallsyms) None f)) }
+    ensures linked { IfOk result
+        (IsFileLinked file.now (option_map (λ bytes. bytes.items) btf) (K.source kallsyms)) }
+    ensures refused { IfErr result (λ f.
+        MatchBool (is_outside f) ⊤
+        (IsFailureOf file.now (option_map (λ bytes. bytes.items) btf) (K.source kallsyms)
+        None f)) }
 {
     let types = match read_types(btf) {
         Ok(types) => types,
@@ -199,8 +227,13 @@ pub fn print_programs<'a, K: SymbolSource, W: Write>(
     kallsyms: K,
     out: &mut W,
 ) -> Result<(), Failure<'a>>
-    ensures done { OnOk result (HasPrinted file.now (option_map (λ bytes. bytes.items) btf) (K.source kallsyms) (option_copied program.entry) (W.contents out.old) (W.contents out.new)) }
-    ensures refused { IfErr result (λ f. MatchBool (is_outside f) ⊤ (IsFailureOf file.now (option_map (λ bytes. bytes.items) btf) (K.source kallsyms) (option_copied program.entry) f)) }
+    ensures done { OnOk result
+        (HasPrinted file.now (option_map (λ bytes. bytes.items) btf) (K.source kallsyms)
+        (option_copied program.entry) (W.contents out.old) (W.contents out.new)) }
+    ensures refused { IfErr result (λ f.
+        MatchBool (is_outside f) ⊤
+        (IsFailureOf file.now (option_map (λ bytes. bytes.items) btf) (K.source kallsyms)
+        (option_copied program.entry) f)) }
     ensures untouched { IfErr result (λ f. MatchBool (is_writers f) ⊤ (out.new ≡ out.old)) }
 {
     let object = match prepared(alloc, file, btf, kallsyms) {
@@ -234,7 +267,9 @@ pub fn run_link<K: SymbolSource, O: Write, E: Write>(
     err: &mut E,
 ) -> u8
     ensures status { result ≤ 1 }
-    ensures done { result ≡ 0 → HasPrinted file.now (option_map (λ bytes. bytes.items) btf) (K.source kallsyms) words.now.program (O.contents out.old) (O.contents out.new) }
+    ensures done { result ≡ 0
+        → HasPrinted file.now (option_map (λ bytes. bytes.items) btf) (K.source kallsyms)
+        words.now.program (O.contents out.old) (O.contents out.new) }
 {
     match print_programs(alloc, words.program(), file, btf, kallsyms, out) {
         Ok(()) => 0,

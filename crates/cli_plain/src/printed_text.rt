@@ -14,7 +14,8 @@ use std::io::{self, Write};
 
 /// Writes the line of a program: its name and the number of its slots.
 pub fn write_head<W: Write>(out: &mut W, name: &str, slots: &[bpf_insn]) -> io::Result<()>
-    ensures { OnOk result (Appends (W.contents out.old) (W.contents out.new) (head_line name.now slots.now)) }
+    ensures { OnOk result
+        (Appends (W.contents out.old) (W.contents out.new) (head_line name.now slots.now)) }
 {
     let count = slots.len();
     writeln!(out, "program {name} slots {count}")
@@ -22,7 +23,8 @@ pub fn write_head<W: Write>(out: &mut W, name: &str, slots: &[bpf_insn]) -> io::
 
 /// Writes a program: its name and the number of its slots, then each slot.
 pub fn write_program<W: Write>(out: &mut W, name: &str, slots: &[bpf_insn]) -> io::Result<()>
-    ensures { OnOk result (Appends (W.contents out.old) (W.contents out.new) (program_text name.now slots.now)) }
+    ensures { OnOk result
+        (Appends (W.contents out.old) (W.contents out.new) (program_text name.now slots.now)) }
 {
     write_head(out, name, slots)?;
     write_slots(out, slots)
@@ -30,7 +32,8 @@ pub fn write_program<W: Write>(out: &mut W, name: &str, slots: &[bpf_insn]) -> i
 
 /// Writes an address: `0x` and its digits of base 16.
 fn write_address<W: Write>(out: &mut W, address: u64) -> io::Result<()>
-    ensures { OnOk result (Appends (W.contents out.old) (W.contents out.new) (address_text address)) }
+    ensures { OnOk result
+        (Appends (W.contents out.old) (W.contents out.new) (address_text address)) }
 {
     write!(out, "0x{address:x}")
 }
@@ -51,7 +54,8 @@ fn write_copy<W: Write>(out: &mut W, copy: &CodeCopy) -> io::Result<()>
 
 /// Writes the line of a reference.
 fn write_reference<W: Write>(out: &mut W, reference: &PlacedReference) -> io::Result<()>
-    ensures { OnOk result (Appends (W.contents out.old) (W.contents out.new) (reference_line reference.now)) }
+    ensures { OnOk result
+        (Appends (W.contents out.old) (W.contents out.new) (reference_line reference.now)) }
 {
     let place = reference.place;
     let base = reference.base;
@@ -61,7 +65,8 @@ fn write_reference<W: Write>(out: &mut W, reference: &PlacedReference) -> io::Re
 
 /// Writes the lines of copies.
 fn write_copies<W: Write>(out: &mut W, copies: &[CodeCopy]) -> io::Result<()>
-    ensures { OnOk result (Appends (W.contents out.old) (W.contents out.new) (flat_map copy_line copies.now)) }
+    ensures { OnOk result
+        (Appends (W.contents out.old) (W.contents out.new) (flat_map copy_line copies.now)) }
 {
     for copy in copies {
         write_copy(out, copy)?;
@@ -71,7 +76,9 @@ fn write_copies<W: Write>(out: &mut W, copies: &[CodeCopy]) -> io::Result<()>
 
 /// Writes the lines of references.
 fn write_references<W: Write>(out: &mut W, references: &[PlacedReference]) -> io::Result<()>
-    ensures { OnOk result (Appends (W.contents out.old) (W.contents out.new) (flat_map reference_line references.now)) }
+    ensures { OnOk result
+        (Appends (W.contents out.old) (W.contents out.new)
+        (flat_map reference_line references.now)) }
 {
     for reference in references {
         write_reference(out, reference)?;
@@ -81,7 +88,8 @@ fn write_references<W: Write>(out: &mut W, references: &[PlacedReference]) -> io
 
 /// Writes the parts of a program: its name and the number of its slots, then each copy and each reference.
 pub fn write_report<W: Write>(out: &mut W, report: &ProgramReport) -> io::Result<()>
-    ensures { OnOk result (Appends (W.contents out.old) (W.contents out.new) (report_text report.now)) }
+    ensures { OnOk result
+        (Appends (W.contents out.old) (W.contents out.new) (report_text report.now)) }
 {
     write_head(out, report.name.as_str(), report.slots.as_slice())?;
     write_copies(out, report.copies.as_slice())?;

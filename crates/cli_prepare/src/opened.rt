@@ -40,7 +40,9 @@ fn define(
     parsed: &mut Object,
     kernel: &Kernel,
 ) -> Result<(), Stop>
-    ensures same { OnOk result (kconfig_externs parsed.old.btf parsed.old.symbol_table ≡ [] → parsed.new ≡ parsed.old) }
+    ensures same { OnOk result
+        (kconfig_externs parsed.old.btf parsed.old.symbol_table ≡ []
+        → parsed.new ≡ parsed.old) }
 {
     match define_settings(rt.alloc(), parsed, kernel) {
         Ok(()) => Ok(()),
@@ -59,7 +61,9 @@ fn chosen_of(
     file: &[u8],
     parsed: &mut Object,
 ) -> Result<Chosen, Stop>
-    ensures same { OnOk result (kconfig_externs parsed.old.btf parsed.old.symbol_table ≡ [] → parsed.new ≡ parsed.old) }
+    ensures same { OnOk result
+        (kconfig_externs parsed.old.btf parsed.old.symbol_table ≡ []
+        → parsed.new ≡ parsed.old) }
 {
     let (path, names) = (words.file.as_str(), words.programs.as_slice());
     let programs = chosen_programs(rt, words.json, path, file, parsed, names)?;

@@ -67,9 +67,20 @@ pub fn finished_object(
     object: &Object,
     kernel: &Kernel,
 ) -> Result<Object, PrepareError>
-    ensures stages { IfOk result (Stages (default_passes kernel.now.types object.now.maps) (TextLines kernel.now.symbols.items) object.now) }
-    ensures headline { (mode : ParseMode) (file : List ℕ) → IsParsed mode file object.now → IfOk result (Headline (default_passes kernel.now.types object.now.maps) (TextLines kernel.now.symbols.items) mode file) }
-    ensures refused { (mode : ParseMode) (file : List ℕ) → IsParsed mode file object.now → IfErr result (RefusesPreparing (IsFirstPrepareFault (default_passes kernel.now.types object.now.maps) (TextLines kernel.now.symbols.items) mode file)) }
+    ensures stages { IfOk result
+        (Stages (default_passes kernel.now.types object.now.maps)
+        (TextLines kernel.now.symbols.items) object.now) }
+    ensures headline { (mode : ParseMode) (file : List ℕ)
+        → IsParsed mode file object.now
+        → IfOk result
+        (Headline (default_passes kernel.now.types object.now.maps)
+        (TextLines kernel.now.symbols.items) mode file) }
+    ensures refused { (mode : ParseMode) (file : List ℕ)
+        → IsParsed mode file object.now
+        → IfErr result
+        (RefusesPreparing
+        (IsFirstPrepareFault (default_passes kernel.now.types object.now.maps)
+        (TextLines kernel.now.symbols.items) mode file)) }
 {
     let Ok(names) = object.map_names(alloc) else {
         return Err(PrepareError::OutOfMemory);

@@ -107,7 +107,9 @@ pub fn define_settings(
     object: &mut Object,
     kernel: &Kernel,
 ) -> Result<(), KconfigError>
-    ensures same { OnOk result (kconfig_externs object.old.btf object.old.symbol_table ≡ [] → object.new ≡ object.old) }
+    ensures same { OnOk result
+        (kconfig_externs object.old.btf object.old.symbol_table ≡ []
+        → object.new ≡ object.old) }
 {
     if !may_have_settings(object) {
         return Ok(());

@@ -1,5 +1,25 @@
 -- Faults in order, what a call may answer for want of memory, and what follows an answer.
-use Rattle.std.specs.Prelude.{◌≡◌, Bool, List, [], ◌∷◌, ⊤, Option, Some, None, Result, Ok, Err, MatchBool, if◌then◌else◌, ◌<◌, ℕ, true, false, slice_get}
+use Rattle.std.specs.Prelude.{
+  ◌≡◌,
+  Bool,
+  List,
+  [],
+  ◌∷◌,
+  ⊤,
+  Option,
+  Some,
+  None,
+  Result,
+  Ok,
+  Err,
+  MatchBool,
+  if◌then◌else◌,
+  ◌<◌,
+  ℕ,
+  true,
+  false,
+  slice_get,
+}
 use Rattle.std.specs.List.{flat_map}
 
 -- a row of a table of faults: whether the fault stands, and its error
@@ -51,7 +71,8 @@ rows_of stages = flat_map (λ stage. stage) stages
 pub record IsFirstFault {E : Type 0} (table : List (Bool × E)) (error : E) : Type 0 where
   pub index : ℕ
   pub stands : slice_get table index ≡ Some (true, error)
-  pub none_before : (k : ℕ) (row : Bool × E) → k < index → slice_get table k ≡ Some row → row.0 ≡ false
+  pub none_before : (k : ℕ) (row : Bool × E) → k < index → slice_get table k ≡ Some row
+      → row.0 ≡ false
 
 -- no row stands
 pub record IsClear {E : Type 0} (table : List (Bool × E)) : Type 0 where

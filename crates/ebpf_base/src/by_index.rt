@@ -98,7 +98,9 @@ impl<V> ByIndex<V> {
 
     /// The value at an index, to be written. What is left there when the borrow ends is the value there.
     pub fn get_mut(&mut self, index: usize) -> Option<&mut V>
-        ensures* writes_back { sem 𝓛 (LendsSo (the_row V.row) V.row self.entry result (λ n w. OnSome result (n ≡ map.insert self.old index w)) (λ n. n ≡ self.old)) }
+        ensures* writes_back { sem 𝓛
+            (LendsSo (the_row V.row) V.row self.entry result
+            (λ n w. OnSome result (n ≡ map.insert self.old index w)) (λ n. n ≡ self.old)) }
         ensures value { option_copied_mut result ≡ map.get self.old index }
     {
         self.entries.get_mut(&index)
@@ -117,7 +119,9 @@ impl<V> ByIndex<V> {
     /// Replaces the value at an index, which comes back. `Err` gives the value back
     /// where none is there. No memory is taken.
     pub fn replace(&mut self, index: usize, value: V) -> Result<V, V>
-        ensures { MatchOption (map.get self.old index) ((result ≡ Err value) × (self.new ≡ self.old)) (λ before. (result ≡ Ok before) × (self.new ≡ map.insert self.old index value)) }
+        ensures { MatchOption (map.get self.old index)
+            ((result ≡ Err value) × (self.new ≡ self.old)) (λ before.
+            (result ≡ Ok before) × (self.new ≡ map.insert self.old index value)) }
     {
         let Some(stored) = self.entries.get_mut(&index) else {
             return Err(value);

@@ -93,7 +93,9 @@ impl<V> ByKey<V> {
 
     /// The value at a key, to be written. What is left there when the borrow ends is the value at the key.
     pub fn get_mut(&mut self, key: (usize, u64)) -> Option<&mut V>
-        ensures* writes_back { sem 𝓛 (LendsSo (the_row V.row) V.row self.entry result (λ n w. OnSome result (n ≡ map.insert self.old key w)) (λ n. n ≡ self.old)) }
+        ensures* writes_back { sem 𝓛
+            (LendsSo (the_row V.row) V.row self.entry result
+            (λ n w. OnSome result (n ≡ map.insert self.old key w)) (λ n. n ≡ self.old)) }
         ensures value { option_copied_mut result ≡ map.get self.old key }
     {
         self.entries.get_mut(&key)
@@ -111,7 +113,8 @@ impl<V> ByKey<V> {
     /// Replaces the value at a key, which comes back. `Err` gives the value back
     /// where the key is not there. No memory is taken.
     pub fn replace(&mut self, key: (usize, u64), value: V) -> Result<V, V>
-        ensures { MatchOption (map.get self.old key) ((result ≡ Err value) × (self.new ≡ self.old)) (λ before. (result ≡ Ok before) × (self.new ≡ map.insert self.old key value)) }
+        ensures { MatchOption (map.get self.old key) ((result ≡ Err value) × (self.new ≡ self.old))
+            (λ before. (result ≡ Ok before) × (self.new ≡ map.insert self.old key value)) }
     {
         let Some(stored) = self.entries.get_mut(&key) else {
             return Err(value);

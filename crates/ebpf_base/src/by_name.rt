@@ -94,7 +94,10 @@ impl<V> ByName<V> {
 
     /// The value at a name, to be written. What is left there when the borrow ends is the value there.
     pub fn get_mut(&mut self, name: &str) -> Option<&mut V>
-        ensures* writes_back { sem 𝓛 (LendsSo (the_row V.row) V.row self.entry result (λ n w. OnSome result (n ≡ map.insert self.old name.now w)) (λ n. n ≡ self.old)) }
+        ensures* writes_back { sem 𝓛
+            (LendsSo (the_row V.row) V.row self.entry result
+            (λ n w. OnSome result (n ≡ map.insert self.old name.now w)) (λ n.
+            n ≡ self.old)) }
         ensures value { option_copied_mut result ≡ map.get self.old name.now }
     {
         self.entries.get_mut(name)
@@ -112,7 +115,9 @@ impl<V> ByName<V> {
     /// Replaces the value at a name, which comes back. `Err` gives the value back
     /// where none is there. No memory is taken.
     pub fn replace(&mut self, name: &str, value: V) -> Result<V, V>
-        ensures { MatchOption (map.get self.old name.now) ((result ≡ Err value) × (self.new ≡ self.old)) (λ before. (result ≡ Ok before) × (self.new ≡ map.insert self.old name.now value)) }
+        ensures { MatchOption (map.get self.old name.now)
+            ((result ≡ Err value) × (self.new ≡ self.old)) (λ before.
+            (result ≡ Ok before) × (self.new ≡ map.insert self.old name.now value)) }
     {
         let Some(stored) = self.entries.get_mut(name) else {
             return Err(value);

@@ -94,7 +94,8 @@ impl<T> Items<T> {
 
     /// The value at an index from 0 on, to be written. What is left there when the borrow ends is the value there.
     pub fn get_mut(&mut self, at: usize) -> Option<&mut T>
-        ensures* writes_back { sem 𝓛 (LendsIf (the_row T.row) T.row self.entry result (slice_set self.old at) self.old) }
+        ensures* writes_back { sem 𝓛
+            (LendsIf (the_row T.row) T.row self.entry result (slice_set self.old at) self.old) }
         ensures value { option_copied_mut result ≡ slice_get self.old at }
     {
         self.items.get_mut(at)
@@ -103,7 +104,8 @@ impl<T> Items<T> {
     /// Replaces the value at an index from 0 on, which comes back. `Err` gives the value back
     /// where none is there.
     pub fn replace(&mut self, at: usize, value: T) -> Result<T, T>
-        ensures { MatchOption (slice_get self.old at) ((result ≡ Err value) × (self.new ≡ self.old)) (λ before. (result ≡ Ok before) × (self.new ≡ slice_set self.old at value)) }
+        ensures { MatchOption (slice_get self.old at) ((result ≡ Err value) × (self.new ≡ self.old))
+            (λ before. (result ≡ Ok before) × (self.new ≡ slice_set self.old at value)) }
     {
         let Some(stored) = self.items.get_mut(at) else {
             return Err(value);
@@ -120,7 +122,9 @@ impl<T> Items<T> {
 
     /// The `Vec`, to be written. What it holds when the borrow ends is the list.
     pub fn as_vec_mut(&mut self) -> &mut Vec<T>
-        ensures* writes_back { sem 𝓛 (Lends (the_row T.row) (vec_row T.row global_row ⟦<Global as Allocator>⟧) self.entry result (λ items. items.items)) }
+        ensures* writes_back { sem 𝓛
+            (Lends (the_row T.row) (vec_row T.row global_row ⟦<Global as Allocator>⟧) self.entry
+            result (λ items. items.items)) }
         ensures value { result.now.items ≡ self.old }
     {
         &mut self.items

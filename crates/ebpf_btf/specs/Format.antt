@@ -1,7 +1,27 @@
 -- The bytes of types (the kernel's Documentation/bpf/btf.rst, 2.2 "Type Encoding").
--- A type is three words, that is numbers of four bytes: the offset of its name, its info, its size or another
--- type. Then the words of its kind follow.
-use Rattle.std.specs.Prelude.{◌≡◌, ℕ, ◌+◌, ◌*◌, ◌/◌, ◌%◌, ◌^◌, ◌≤◌, Bool, List, [], ◌∷◌, length, Option, Some, None, ◌==◌, if◌then◌else◌, ◌<◌}
+-- A type is three words, that is numbers of four bytes: the offset of its name, its info, its size
+-- or another type. Then the words of its kind follow.
+use Rattle.std.specs.Prelude.{
+  ◌≡◌,
+  ℕ,
+  ◌+◌,
+  ◌*◌,
+  ◌/◌,
+  ◌%◌,
+  ◌^◌,
+  ◌≤◌,
+  Bool,
+  List,
+  [],
+  ◌∷◌,
+  length,
+  Option,
+  Some,
+  None,
+  ◌==◌,
+  if◌then◌else◌,
+  ◌<◌,
+}
 use Rattle.ebpf_base.specs.declared.endianness.Endianness.{Endianness}
 use Rattle.ebpf_btf.specs.declared.kind.BtfKind.{BtfKind}
 use Rattle.ebpf_btf.specs.declared.kind.BtfKind.TheVariants as kinds
@@ -11,7 +31,28 @@ use Rattle.ebpf_btf.specs.declared.members.BtfEnum64.{BtfEnum64}
 use Rattle.ebpf_btf.specs.declared.members.BtfParam.{BtfParam}
 use Rattle.ebpf_btf.specs.declared.members.DataSecEntry.{DataSecEntry}
 use Rattle.ebpf_btf.specs.declared.types.BtfType.{BtfType}
-use Rattle.ebpf_btf.specs.declared.types.BtfType.TheVariants.{Unknown, Fwd, Const, Volatile, Restrict, Ptr, Typedef, Func, Int, Float, Enum, Array, Struct, Union, FuncProto, Var, DataSec, DeclTag, TypeTag, Enum64}
+use Rattle.ebpf_btf.specs.declared.types.BtfType.TheVariants.{
+  Unknown,
+  Fwd,
+  Const,
+  Volatile,
+  Restrict,
+  Ptr,
+  Typedef,
+  Func,
+  Int,
+  Float,
+  Enum,
+  Array,
+  Struct,
+  Union,
+  FuncProto,
+  Var,
+  DataSec,
+  DeclTag,
+  TypeTag,
+  Enum64,
+}
 use Rattle.ebpf_base.specs.Numbers.{number_at}
 use Rattle.ebpf_btf.specs.Items.{items_at}
 use Rattle.ebpf_btf.specs.Types.{kind_of, kind_number}
@@ -120,23 +161,37 @@ unfoldable pub spelled : Endianness → List ℕ → ℕ → BtfKind → BtfType
 spelled o bytes p kinds.Unknown = Unknown
 spelled o bytes p kinds.Int = Int (word o bytes p) (word o bytes (p + 8)) (word o bytes (p + 12))
 spelled o bytes p kinds.Ptr = Ptr (word o bytes p) (word o bytes (p + 8))
-spelled o bytes p kinds.Array = Array (word o bytes p) (word o bytes (p + 12)) (word o bytes (p + 16)) (word o bytes (p + 20))
-spelled o bytes p kinds.Struct = Struct (word o bytes p) (word o bytes (p + 8)) (kind_flag_at o bytes p) (items_at (member_at o bytes) 12 (p + 12) (vlen_at o bytes p))
-spelled o bytes p kinds.Union = Union (word o bytes p) (word o bytes (p + 8)) (kind_flag_at o bytes p) (items_at (member_at o bytes) 12 (p + 12) (vlen_at o bytes p)) None
-spelled o bytes p kinds.Enum = Enum (word o bytes p) (word o bytes (p + 8)) (kind_flag_at o bytes p) (items_at (enum_at o bytes) 8 (p + 12) (vlen_at o bytes p))
+spelled o bytes p kinds.Array =
+    Array (word o bytes p) (word o bytes (p + 12)) (word o bytes (p + 16)) (word o bytes (p + 20))
+spelled o bytes p kinds.Struct =
+    Struct (word o bytes p) (word o bytes (p + 8)) (kind_flag_at o bytes p)
+    (items_at (member_at o bytes) 12 (p + 12) (vlen_at o bytes p))
+spelled o bytes p kinds.Union =
+    Union (word o bytes p) (word o bytes (p + 8)) (kind_flag_at o bytes p)
+    (items_at (member_at o bytes) 12 (p + 12) (vlen_at o bytes p)) None
+spelled o bytes p kinds.Enum =
+    Enum (word o bytes p) (word o bytes (p + 8)) (kind_flag_at o bytes p)
+    (items_at (enum_at o bytes) 8 (p + 12) (vlen_at o bytes p))
 spelled o bytes p kinds.Fwd = Fwd (word o bytes p) (kind_flag_at o bytes p)
 spelled o bytes p kinds.Typedef = Typedef (word o bytes p) (word o bytes (p + 8))
 spelled o bytes p kinds.Volatile = Volatile (word o bytes p) (word o bytes (p + 8))
 spelled o bytes p kinds.Const = Const (word o bytes p) (word o bytes (p + 8))
 spelled o bytes p kinds.Restrict = Restrict (word o bytes p) (word o bytes (p + 8))
 spelled o bytes p kinds.Func = Func (word o bytes p) (word o bytes (p + 8))
-spelled o bytes p kinds.FuncProto = FuncProto (word o bytes p) (word o bytes (p + 8)) (items_at (param_at o bytes) 8 (p + 12) (vlen_at o bytes p))
+spelled o bytes p kinds.FuncProto =
+    FuncProto (word o bytes p) (word o bytes (p + 8))
+    (items_at (param_at o bytes) 8 (p + 12) (vlen_at o bytes p))
 spelled o bytes p kinds.Var = Var (word o bytes p) (word o bytes (p + 8)) (word o bytes (p + 12))
-spelled o bytes p kinds.DataSec = DataSec (word o bytes p) (word o bytes (p + 8)) (items_at (entry_at o bytes) 12 (p + 12) (vlen_at o bytes p))
+spelled o bytes p kinds.DataSec =
+    DataSec (word o bytes p) (word o bytes (p + 8))
+    (items_at (entry_at o bytes) 12 (p + 12) (vlen_at o bytes p))
 spelled o bytes p kinds.Float = Float (word o bytes p) (word o bytes (p + 8))
-spelled o bytes p kinds.DeclTag = DeclTag (word o bytes p) (word o bytes (p + 8)) (word o bytes (p + 12))
+spelled o bytes p kinds.DeclTag =
+    DeclTag (word o bytes p) (word o bytes (p + 8)) (word o bytes (p + 12))
 spelled o bytes p kinds.TypeTag = TypeTag (word o bytes p) (word o bytes (p + 8))
-spelled o bytes p kinds.Enum64 = Enum64 (word o bytes p) (word o bytes (p + 8)) (kind_flag_at o bytes p) (items_at (enum64_at o bytes) 12 (p + 12) (vlen_at o bytes p))
+spelled o bytes p kinds.Enum64 =
+    Enum64 (word o bytes p) (word o bytes (p + 8)) (kind_flag_at o bytes p)
+    (items_at (enum64_at o bytes) 12 (p + 12) (vlen_at o bytes p))
 
 -- where a type of a kind that begins at an offset ends
 abbrev pub end_of : Endianness → List ℕ → ℕ → BtfKind → ℕ
@@ -151,14 +206,19 @@ pub record IsTypeAt (o : Endianness) (bytes : List ℕ) (offset end : ℕ) (t : 
 -- the bytes from an offset on are those of some types, one after the other
 abbrev pub AreTypesAt : Endianness → List ℕ → ℕ → List BtfType → Type 0
 AreTypesAt o bytes offset [] = offset ≡ length bytes
-AreTypesAt o bytes offset (t ∷ ts) = (next : ℕ) × IsTypeAt o bytes offset next t × (next ≤ length bytes) × AreTypesAt o bytes next ts
+AreTypesAt o bytes offset (t ∷ ts) =
+    (next : ℕ) × IsTypeAt o bytes offset next t × (next ≤ length bytes) × AreTypesAt o bytes next ts
 
 -- ---- the tables of kinds and of their numbers, beside each other
 
 -- the kind that an info word has is the one of its number
 abbrev pub KindsByNumber : Type 0
-KindsByNumber = (info : ℕ) (kind : BtfKind) → info_kind info ≡ Some kind → kind_number kind ≡ info_kind_number info
+KindsByNumber =
+    (info : ℕ) (kind : BtfKind) → info_kind info ≡ Some kind
+    → kind_number kind ≡ info_kind_number info
 
 -- each kind but that of void stands in the info words that have its number
 abbrev pub NumbersOfKinds : Type 0
-NumbersOfKinds = (info : ℕ) (kind : BtfKind) → 0 < kind_number kind → info_kind_number info ≡ kind_number kind → info_kind info ≡ Some kind
+NumbersOfKinds =
+    (info : ℕ) (kind : BtfKind) → 0 < kind_number kind → info_kind_number info ≡ kind_number kind
+    → info_kind info ≡ Some kind

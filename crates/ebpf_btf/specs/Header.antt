@@ -1,4 +1,5 @@
--- The header of `.BTF` (the kernel's Documentation/bpf/btf.rst, 2. "BTF Type and String Encoding"; struct btf_header).
+-- The header of `.BTF` (the kernel's Documentation/bpf/btf.rst, 2. "BTF Type and String Encoding";
+-- struct btf_header).
 use Rattle.std.specs.Prelude.{ℕ, List, [], ◌∷◌, slice_index, ◌==◌, if◌then◌else◌}
 use Rattle.ebpf_base.specs.declared.endianness.Endianness.{Endianness}
 use Rattle.ebpf_base.specs.declared.endianness.Endianness.TheVariants.{Little, Big}

@@ -1,5 +1,24 @@
 -- Types by the offsets where they stand.
-use Rattle.std.specs.Prelude.{◌≡◌, ◌≤◌, ◌*◌, ◌^◌, ◌<◌, ◌==◌, ℕ, List, [], ◌∷◌, Option, None, Some, map, length, drop, option_map, unwrap_or}
+use Rattle.std.specs.Prelude.{
+  ◌≡◌,
+  ◌≤◌,
+  ◌*◌,
+  ◌^◌,
+  ◌<◌,
+  ◌==◌,
+  ℕ,
+  List,
+  [],
+  ◌∷◌,
+  Option,
+  None,
+  Some,
+  map,
+  length,
+  drop,
+  option_map,
+  unwrap_or,
+}
 use Rattle.std.specs.List.{All, find}
 use Rattle.ebpf_base.specs.declared.endianness.Endianness.{Endianness}
 use Rattle.ebpf_btf.specs.declared.fallback.Enum64Fallback.{Enum64Fallback}
@@ -34,11 +53,14 @@ AreInside o bytes offsets = All (λ offset. end_here o bytes offset ≤ length b
 abbrev pub AreOffsets : Endianness → List ℕ → ℕ → ℕ → List ℕ → Type 0
 AreOffsets o bytes offset end [] = offset ≡ end
 AreOffsets o bytes offset end (p ∷ ps) =
-    (p ≡ offset) × (info_kind (info_at o bytes p) ≡ Some (kind_here o bytes p)) × AreOffsets o bytes (end_here o bytes p) end ps
+    (p ≡ offset)
+    × (info_kind (info_at o bytes p) ≡ Some (kind_here o bytes p))
+    × AreOffsets o bytes (end_here o bytes p) end ps
 
--- What is kept of types: they are one after the other in the bytes from an offset on, which are fewer than 2 ^ 32, and
--- these are their offsets.
-pub record HoldsTypes (o : Endianness) (bytes : List ℕ) (start : ℕ) (offsets : List ℕ) : Type 0 where
+-- What is kept of types: they are one after the other in the bytes from an offset on, which are
+-- fewer than 2 ^ 32, and these are their offsets.
+pub record HoldsTypes (o : Endianness) (bytes : List ℕ) (start : ℕ) (offsets : List ℕ)
+    : Type 0 where
   pub within : start ≤ length bytes
   pub small : length (drop start bytes) < 2 ^ 32
   pub few : 12 * length offsets ≤ length (drop start bytes)
@@ -46,16 +68,19 @@ pub record HoldsTypes (o : Endianness) (bytes : List ℕ) (start : ℕ) (offsets
   pub tiled : AreOffsets o (drop start bytes) 0 (length (drop start bytes)) offsets
   pub whole : AreTypesAt o (drop start bytes) 0 (types_here o (drop start bytes) offsets)
 
--- ---- what stands beside the bytes: of UNIONs the enumerations of 64 bits that they were, which no bytes hold
+-- ---- what stands beside the bytes: of UNIONs the enumerations of 64 bits that they were, which no
+-- bytes hold
 
 -- what the UNION at an offset was
 unfoldable pub fallback_at : List OffsetFallback → ℕ → Option Enum64Fallback
-fallback_at fallbacks offset = option_map (λ f. f.fallback) (find (λ f. f.offset == offset) fallbacks)
+fallback_at fallbacks offset =
+    option_map (λ f. f.fallback) (find (λ f. f.offset == offset) fallbacks)
 
 -- a UNION and what it was
 unfoldable pub with_fallback : Option Enum64Fallback → BtfType → BtfType
 with_fallback None t = t
-with_fallback (Some fallback) (Union name size flag members _) = Union name size flag members (Some fallback)
+with_fallback (Some fallback) (Union name size flag members _) =
+    Union name size flag members (Some fallback)
 with_fallback (Some _) t = t
 
 -- a type as its bytes have it
@@ -65,7 +90,8 @@ without_fallback t = t
 
 -- the type at an offset, with what stands beside
 unfoldable pub held_type : Endianness → List ℕ → List OffsetFallback → ℕ → BtfType
-held_type o bytes fallbacks offset = with_fallback (fallback_at fallbacks offset) (type_here o bytes offset)
+held_type o bytes fallbacks offset =
+    with_fallback (fallback_at fallbacks offset) (type_here o bytes offset)
 
 unfoldable pub held_types : Endianness → List ℕ → List OffsetFallback → List ℕ → List BtfType
 held_types o bytes fallbacks offsets = map (held_type o bytes fallbacks) offsets

@@ -1,6 +1,29 @@
 -- What bytes give, and their first fault: the header of `.BTF` and its two parts (the kernel's
 -- Documentation/bpf/btf.rst, 2. "BTF Type and String Encoding"; struct btf_header).
-use Rattle.std.specs.Prelude.{◌≡◌, ℕ, zero, suc, ◌+◌, ◌∷◌, ◌++◌, [], List, length, Option, Some, None, Result, Ok, Err, option_map, nat_lt, not, ◌==◌, if◌then◌else◌, slice_range}
+use Rattle.std.specs.Prelude.{
+  ◌≡◌,
+  ℕ,
+  zero,
+  suc,
+  ◌+◌,
+  ◌∷◌,
+  ◌++◌,
+  [],
+  List,
+  length,
+  Option,
+  Some,
+  None,
+  Result,
+  Ok,
+  Err,
+  option_map,
+  nat_lt,
+  not,
+  ◌==◌,
+  if◌then◌else◌,
+  slice_range,
+}
 use Rattle.ebpf_base.specs.Faults.{first_of}
 use Rattle.ebpf_base.specs.declared.endianness.Endianness.{Endianness}
 use Rattle.ebpf_btf.specs.declared.error.BtfError.{BtfError}
@@ -57,15 +80,20 @@ types_part o bytes = slice_range bytes (types_start o bytes) (types_end o bytes)
 -- The header is sound, and its two parts are some types after void, and the strings.
 pub record Spells (o : Endianness) (bytes : List ℕ) (info : TypeInfo) : Type 0 where
   pub header : header_fault o bytes ≡ None
-  pub types : (ts : List BtfType) × (info.types ≡ Unknown ∷ ts) × AreTypesAt o (types_part o bytes) 0 ts
+  pub types : (ts : List BtfType)
+      × (info.types ≡ Unknown ∷ ts)
+      × AreTypesAt o (types_part o bytes) 0 ts
   pub strings : info.strings ≡ strings_in o bytes
 
 -- ---- what is read
 
--- the type at an offset, of a kind that is known, and the offset after it, where that is not past the end
+-- the type at an offset, of a kind that is known, and the offset after it, where that is not past
+-- the end
 abbrev pub up_to : Endianness → List ℕ → ℕ → BtfKind → Option (BtfType × ℕ)
 up_to o bytes offset kind =
-    if nat_lt (length bytes) (end_of o bytes offset kind) then None else Some (spelled o bytes offset kind, end_of o bytes offset kind)
+    if nat_lt (length bytes) (end_of o bytes offset kind)
+    then None
+    else Some (spelled o bytes offset kind, end_of o bytes offset kind)
 
 -- the first type from an offset on, and the offset after it; none where it is cut or of no kind
 unfoldable pub type_before : Endianness → List ℕ → ℕ → Option (BtfType × ℕ)
@@ -82,7 +110,8 @@ unfoldable pub types_from : ℕ → Endianness → List ℕ → ℕ → Option (
 types_from zero o bytes offset = if offset == length bytes then Some [] else None
 types_from (suc left) o bytes offset =
     if offset == length bytes then Some []
-    else if_some (type_before o bytes offset) (λ found. prepend_types (found.0 ∷ []) (types_from left o bytes found.1)) None
+    else if_some (type_before o bytes offset)
+    (λ found. prepend_types (found.0 ∷ []) (types_from left o bytes found.1)) None
 
 -- no more types than bytes stand in the part
 unfoldable pub types_of : Endianness → List ℕ → Option (List BtfType)
@@ -95,4 +124,6 @@ with_strings o bytes (Some ts) = Ok (record { types = ts; strings = strings_in o
 
 -- the type information of some bytes, or their first fault
 unfoldable pub type_info_of : Endianness → List ℕ → Result TypeInfo BtfError
-type_info_of o bytes = if_some (header_fault o bytes) (λ e. Err e) (with_strings o bytes (prepend_types (Unknown ∷ []) (types_of o (types_part o bytes))))
+type_info_of o bytes =
+    if_some (header_fault o bytes) (λ e. Err e)
+    (with_strings o bytes (prepend_types (Unknown ∷ []) (types_of o (types_part o bytes))))

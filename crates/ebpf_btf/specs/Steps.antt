@@ -1,9 +1,40 @@
 -- Modifiers, and sizes.
-use Rattle.std.specs.Prelude.{ℕ, ◌*◌, ◌^◌, zero, suc, List, Option, Some, None, Result, Ok, Err, nat_lt, slice_get, if◌then◌else◌}
+use Rattle.std.specs.Prelude.{
+  ℕ,
+  ◌*◌,
+  ◌^◌,
+  zero,
+  suc,
+  List,
+  Option,
+  Some,
+  None,
+  Result,
+  Ok,
+  Err,
+  nat_lt,
+  slice_get,
+  if◌then◌else◌,
+}
 use Rattle.ebpf_btf.specs.declared.error.BtfError.{BtfError}
-use Rattle.ebpf_btf.specs.declared.error.BtfError.TheVariants.{InvalidTypeInfo, UnexpectedBtfType, UnknownBtfType, MaximumTypeDepth}
+use Rattle.ebpf_btf.specs.declared.error.BtfError.TheVariants.{
+  InvalidTypeInfo,
+  UnexpectedBtfType,
+  UnknownBtfType,
+  MaximumTypeDepth,
+}
 use Rattle.ebpf_btf.specs.declared.types.BtfType.{BtfType}
-use Rattle.ebpf_btf.specs.declared.types.BtfType.TheVariants.{Const, Volatile, Restrict, Ptr, Typedef, Func, Array, Var, TypeTag}
+use Rattle.ebpf_btf.specs.declared.types.BtfType.TheVariants.{
+  Const,
+  Volatile,
+  Restrict,
+  Ptr,
+  Typedef,
+  Func,
+  Array,
+  Var,
+  TypeTag,
+}
 use Rattle.ebpf_base.specs.Faults.{if_ok}
 use Rattle.ebpf_btf.specs.Next.{if_some}
 use Rattle.ebpf_btf.specs.Types.{size_word}
@@ -48,7 +79,8 @@ unfoldable pub own_size : BtfType → Option ℕ
 own_size (Ptr _ _) = Some 8
 own_size t = size_word t
 
--- the id of the type that another is sized by: what it stands for, a variable's or function's type, an element
+-- the id of the type that another is sized by: what it stands for, a variable's or function's type,
+-- an element
 unfoldable pub sized_by : BtfType → Option ℕ
 sized_by (Var _ id _) = Some id
 sized_by (Func _ id) = Some id

@@ -1,5 +1,24 @@
 -- Strings by their offsets (the kernel's Documentation/bpf/btf.rst, 2.1 "String Encoding").
-use Rattle.std.specs.Prelude.{◌≡◌, ℕ, Bool, false, List, take, drop, Option, Some, None, Result, Ok, Err, option_map, is_some, nat_lt, ◌==◌, ◌&&◌}
+use Rattle.std.specs.Prelude.{
+  ◌≡◌,
+  ℕ,
+  Bool,
+  false,
+  List,
+  take,
+  drop,
+  Option,
+  Some,
+  None,
+  Result,
+  Ok,
+  Err,
+  option_map,
+  is_some,
+  nat_lt,
+  ◌==◌,
+  ◌&&◌,
+}
 use Rattle.std.specs.List.{position, position_from}
 use Rattle.std.specs.Str.{bytes_eq}
 use Rattle.std.specs.Str.Lossy.{utf8_lossy}
@@ -21,14 +40,16 @@ abbrev pub text_or_fault : ℕ → Option (List ℕ) → Result (List ℕ) BtfEr
 text_or_fault offset None = Err (InvalidStringOffset offset)
 text_or_fault offset (Some bytes) = Ok (utf8_lossy bytes)
 
--- The text at an offset: the bytes from there up to the next zero byte, where what is not UTF-8 is U+FFFD.
+-- The text at an offset: the bytes from there up to the next zero byte, where what is not UTF-8 is
+-- U+FFFD.
 -- There is none where the offset is outside the strings or no zero byte follows.
 unfoldable pub text_at : List ℕ → ℕ → Result (List ℕ) BtfError
 text_at strings offset = text_or_fault offset (before_zero (drop offset strings))
 
 -- a text stands at each offset below a number, and at no other
 abbrev pub AreReadableBelow : List ℕ → ℕ → Type 0
-AreReadableBelow strings n = (offset : ℕ) → is_some (before_zero (drop offset strings)) ≡ nat_lt offset n
+AreReadableBelow strings n =
+    (offset : ℕ) → is_some (before_zero (drop offset strings)) ≡ nat_lt offset n
 
 -- whether the text at an offset is a given one
 abbrev pub is_name_at : List ℕ → ℕ → List ℕ → Result Bool BtfError
@@ -36,7 +57,9 @@ is_name_at strings offset text = if_ok (text_at strings offset) (λ read. Ok (by
 
 -- whether the two are equal before the first three underscores
 abbrev pub is_essential_name_at : List ℕ → ℕ → List ℕ → Result Bool BtfError
-is_essential_name_at strings offset text = if_ok (text_at strings offset) (λ read. Ok (bytes_eq (essential_name read) (essential_name text)))
+is_essential_name_at strings offset text =
+    if_ok (text_at strings offset) (λ read.
+    Ok (bytes_eq (essential_name read) (essential_name text)))
 
 -- the name of a type
 abbrev pub type_name : TypeInfo → BtfType → Result (List ℕ) BtfError

@@ -1,11 +1,45 @@
 -- The words of types (the kernel's Documentation/bpf/btf.rst, 2.2 "Type Encoding").
-use Rattle.std.specs.Prelude.{ℕ, ◌/◌, ◌%◌, ◌^◌, Bool, false, List, Option, Some, None, ◌==◌, if◌then◌else◌}
+use Rattle.std.specs.Prelude.{
+  ℕ,
+  ◌/◌,
+  ◌%◌,
+  ◌^◌,
+  Bool,
+  false,
+  List,
+  Option,
+  Some,
+  None,
+  ◌==◌,
+  if◌then◌else◌,
+}
 use Rattle.ebpf_btf.specs.declared.array.BtfArray.{BtfArray}
 use Rattle.ebpf_btf.specs.declared.kind.BtfKind.{BtfKind}
 use Rattle.ebpf_btf.specs.declared.kind.BtfKind.TheVariants as kinds
 use Rattle.ebpf_btf.specs.declared.members.BtfMember.{BtfMember}
 use Rattle.ebpf_btf.specs.declared.types.BtfType.{BtfType}
-use Rattle.ebpf_btf.specs.declared.types.BtfType.TheVariants.{Unknown, Fwd, Const, Volatile, Restrict, Ptr, Typedef, Func, Int, Float, Enum, Array, Struct, Union, FuncProto, Var, DataSec, DeclTag, TypeTag, Enum64}
+use Rattle.ebpf_btf.specs.declared.types.BtfType.TheVariants.{
+  Unknown,
+  Fwd,
+  Const,
+  Volatile,
+  Restrict,
+  Ptr,
+  Typedef,
+  Func,
+  Int,
+  Float,
+  Enum,
+  Array,
+  Struct,
+  Union,
+  FuncProto,
+  Var,
+  DataSec,
+  DeclTag,
+  TypeTag,
+  Enum64,
+}
 
 unfoldable pub kind_of : BtfType → BtfKind
 kind_of Unknown = kinds.Unknown
@@ -123,8 +157,8 @@ bit_offset t member = if has_bit_fields t then member.offset % 2 ^ 24 else membe
 unfoldable pub bit_field_size : BtfType → BtfMember → ℕ
 bit_field_size t member = if has_bit_fields t then member.offset / 2 ^ 24 else 0
 
--- whether values are signed: of an INT as its encoding says (BTF_INT_SIGNED, bit 0 of the bits 24 to 27 of its word),
--- of an ENUM or ENUM64 as its kind_flag does
+-- whether values are signed: of an INT as its encoding says (BTF_INT_SIGNED, bit 0 of the bits 24
+-- to 27 of its word), of an ENUM or ENUM64 as its kind_flag does
 unfoldable pub is_signed : BtfType → Bool
 is_signed (Int _ _ bits) = bits / 2 ^ 24 % 2 == 1
 is_signed (Enum _ _ flag _) = flag
@@ -133,5 +167,6 @@ is_signed _ = false
 
 -- the elements of an ARRAY
 unfoldable pub array_of : BtfType → Option BtfArray
-array_of (Array _ element index len) = Some (record { element_type = element; index_type = index; len = len })
+array_of (Array _ element index len) =
+    Some (record { element_type = element; index_type = index; len = len })
 array_of _ = None

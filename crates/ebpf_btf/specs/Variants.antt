@@ -1,6 +1,22 @@
--- The variants of enumerations in one form (the kernel's Documentation/bpf/btf.rst, 2.2.6 BTF_KIND_ENUM and 2.2.19
+-- The variants of enumerations in one form (the kernel's Documentation/bpf/btf.rst, 2.2.6
+-- BTF_KIND_ENUM and 2.2.19
 -- BTF_KIND_ENUM64). Values have 64 bits.
-use Rattle.std.specs.Prelude.{ℕ, ◌+◌, ◌*◌, ◌-◌, ◌^◌, Bool, List, map, Option, Some, None, nat_le, ◌&&◌, if◌then◌else◌}
+use Rattle.std.specs.Prelude.{
+  ℕ,
+  ◌+◌,
+  ◌*◌,
+  ◌-◌,
+  ◌^◌,
+  Bool,
+  List,
+  map,
+  Option,
+  Some,
+  None,
+  nat_le,
+  ◌&&◌,
+  if◌then◌else◌,
+}
 use Rattle.ebpf_btf.specs.declared.members.BtfEnum.{BtfEnum}
 use Rattle.ebpf_btf.specs.declared.members.BtfEnum64.{BtfEnum64}
 use Rattle.ebpf_btf.specs.declared.members.Enum64VariantFallback.{Enum64VariantFallback}
@@ -10,15 +26,18 @@ use Rattle.ebpf_btf.specs.declared.variants.BtfVariant.{BtfVariant}
 
 -- 32 bits as 64: the high ones are those of the sign
 abbrev pub sign_extended : Bool → ℕ → ℕ
-sign_extended signed value = if signed && nat_le (2 ^ 31) value then value + (2 ^ 64 - 2 ^ 32) else value
+sign_extended signed value =
+    if signed && nat_le (2 ^ 31) value then value + (2 ^ 64 - 2 ^ 32) else value
 
 -- of an ENUM
 abbrev pub variant_of_32 : Bool → BtfEnum → BtfVariant
-variant_of_32 signed v = record { name_offset = v.name_offset; value = sign_extended signed v.value }
+variant_of_32 signed v =
+    record { name_offset = v.name_offset; value = sign_extended signed v.value }
 
 -- of an ENUM64: the two halves of the value
 abbrev pub variant_of_64 : BtfEnum64 → BtfVariant
-variant_of_64 v = record { name_offset = v.name_offset; value = v.value_high * 2 ^ 32 + v.value_low }
+variant_of_64 v =
+    record { name_offset = v.name_offset; value = v.value_high * 2 ^ 32 + v.value_low }
 
 -- of an enumeration that was made a UNION
 abbrev pub variant_of_fallback : Enum64VariantFallback → BtfVariant

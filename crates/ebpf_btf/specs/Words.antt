@@ -1,5 +1,27 @@
--- Types as words, in which they are written (the kernel's Documentation/bpf/btf.rst, 2.2 "Type Encoding").
-use Rattle.std.specs.Prelude.{ℕ, ◌+◌, ◌*◌, ◌^◌, Bool, false, List, [], ◌∷◌, length, drop, flat_map, sum_by, Option, None, is_some, unwrap_or, nat_le, ◌==◌, if◌then◌else◌}
+-- Types as words, in which they are written (the kernel's Documentation/bpf/btf.rst, 2.2 "Type
+-- Encoding").
+use Rattle.std.specs.Prelude.{
+  ℕ,
+  ◌+◌,
+  ◌*◌,
+  ◌^◌,
+  Bool,
+  false,
+  List,
+  [],
+  ◌∷◌,
+  length,
+  drop,
+  flat_map,
+  sum_by,
+  Option,
+  None,
+  is_some,
+  unwrap_or,
+  nat_le,
+  ◌==◌,
+  if◌then◌else◌,
+}
 use Rattle.std.specs.List.{list_any}
 use Rattle.byteorder.specs.Endian.{little_bytes, big_bytes}
 use Rattle.ebpf_base.specs.Faults.{first_of}
@@ -14,7 +36,19 @@ use Rattle.ebpf_btf.specs.declared.members.BtfEnum64.{BtfEnum64}
 use Rattle.ebpf_btf.specs.declared.members.BtfParam.{BtfParam}
 use Rattle.ebpf_btf.specs.declared.members.DataSecEntry.{DataSecEntry}
 use Rattle.ebpf_btf.specs.declared.types.BtfType.{BtfType}
-use Rattle.ebpf_btf.specs.declared.types.BtfType.TheVariants.{Fwd, Int, Enum, Array, Struct, Union, FuncProto, Var, DataSec, DeclTag, Enum64}
+use Rattle.ebpf_btf.specs.declared.types.BtfType.TheVariants.{
+  Fwd,
+  Int,
+  Enum,
+  Array,
+  Struct,
+  Union,
+  FuncProto,
+  Var,
+  DataSec,
+  DeclTag,
+  Enum64,
+}
 use Rattle.ebpf_btf.specs.Format.{further_words}
 use Rattle.ebpf_btf.specs.TypeInfo.{TypeInfo}
 use Rattle.ebpf_btf.specs.Types.{kind_of, kind_number, name_off, size_word, type_word}
@@ -83,7 +117,11 @@ further_of (DeclTag _ _ component) = component ∷ []
 further_of _ = []
 
 unfoldable pub words_of : BtfType → List ℕ
-words_of t = name_off t ∷ info_word (kind_number (kind_of t)) (flag_of t) (count_of t) ∷ third_of t ∷ further_of t
+words_of t =
+    name_off t
+    ∷ info_word (kind_number (kind_of t)) (flag_of t) (count_of t)
+    ∷ third_of t
+    ∷ further_of t
 
 -- ---- what can be added
 
@@ -114,4 +152,8 @@ has_fallback t = is_some (fallback_of t)
 
 -- No bytes hold what a UNION was, and the length of the strings has 32 bits.
 abbrev pub written_fault : TypeInfo → Option BtfError
-written_fault info = first_of ((list_any has_fallback info.types, TooLarge) ∷ (nat_le (2 ^ 32) (length info.strings), TooLarge) ∷ [])
+written_fault info =
+    first_of
+    ((list_any has_fallback info.types, TooLarge)
+    ∷ (nat_le (2 ^ 32) (length info.strings), TooLarge)
+    ∷ [])

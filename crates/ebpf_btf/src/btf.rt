@@ -70,9 +70,18 @@ impl Model for Btf {
 
     ghost Value = { TypeInfo };
 
-    ghost view = { λ b. record { types = Unknown ∷ held_types b.order (drop b.start b.bytes.items) b.fallbacks.items b.offsets.items; strings = b.strings.items } };
+    ghost view = { λ b.
+        record {
+          types = Unknown
+              ∷ held_types b.order (drop b.start b.bytes.items) b.fallbacks.items
+              b.offsets.items;
+          strings = b.strings.items;
+        } };
 
-    ghost invariant = { λ b. HoldsTypes b.order b.bytes.items b.start b.offsets.items × AreBeside (drop b.start b.bytes.items) b.fallbacks.items × AreReadableBelow b.strings.items b.readable };
+    ghost invariant = { λ b.
+        HoldsTypes b.order b.bytes.items b.start b.offsets.items
+        × AreBeside (drop b.start b.bytes.items) b.fallbacks.items
+        × AreReadableBelow b.strings.items b.readable };
 }
 
 impl Btf {
@@ -99,7 +108,8 @@ impl Btf {
         strings: Vec<u8>,
     ) -> Btf
         requires { HoldsTypes order bytes.items start offsets.items }
-        ensures types { result.types ≡ Unknown ∷ types_here order (drop start bytes.items) offsets.items }
+        ensures types { result.types
+            ≡ Unknown ∷ types_here order (drop start bytes.items) offsets.items }
         ensures strings { result.strings ≡ strings.items }
     {
         let readable = readable_below(&strings);
@@ -167,8 +177,10 @@ impl Btf {
     #[inline]
     #[tactic(auto, using(crate::proofs::Held::held_first, crate::proofs::Held::held_none, crate::proofs::Held::head_kind, crate::proofs::Held::head_name, crate::proofs::Listed::inside_at), unfolding(crate::specs::Types::kind_of, crate::specs::Types::name_off))]
     pub fn head(&self, id: usize) -> Option<TypeHead>
-        ensures kind { option_map (λ head. head.kind) result ≡ option_map kind_of (slice_get self.now.types id) }
-        ensures name { option_map (λ head. head.name_offset) result ≡ option_map name_off (slice_get self.now.types id) }
+        ensures kind { option_map (λ head. head.kind) result
+            ≡ option_map kind_of (slice_get self.now.types id) }
+        ensures name { option_map (λ head. head.name_offset) result
+            ≡ option_map name_off (slice_get self.now.types id) }
     {
         let _ = &self.offsets;
         if id == 0 {
@@ -212,7 +224,8 @@ impl Btf {
     /// `InvalidStringOffset` where the offset is outside the strings or no zero byte follows; `OutOfMemory`
     /// where memory for a copy is refused.
     pub fn string_at(&self, offset: u32) -> Result<CowStr<'_, Global>, BtfError>
-        ensures text { IfOk result (λ text. text_at self.now.strings offset ≡ Ok (cow_str_bytes text)) }
+        ensures text { IfOk result (λ text.
+            text_at self.now.strings offset ≡ Ok (cow_str_bytes text)) }
         ensures fault { Refuses is_btf_memory result (fault_of (text_at self.now.strings offset)) }
     {
         read_text(*self.strings.allocator(), &self.strings, offset)
@@ -229,8 +242,10 @@ impl Btf {
     ///
     /// `InvalidStringOffset` where the offset is outside the strings or no zero byte follows.
     pub fn bytes_at(&self, offset: u32) -> Result<&[u8], BtfError>
-        ensures text { IfOk result (λ bytes. text_at self.now.strings offset ≡ Ok (utf8_lossy bytes.now)) }
-        ensures found { option_copied (result_ok result) ≡ before_zero (drop offset self.now.strings) }
+        ensures text { IfOk result (λ bytes.
+            text_at self.now.strings offset ≡ Ok (utf8_lossy bytes.now)) }
+        ensures found { option_copied (result_ok result)
+            ≡ before_zero (drop offset self.now.strings) }
         ensures fault { IfErr result (λ e. text_at self.now.strings offset ≡ Err e) }
     {
         read_bytes(&self.strings, offset)
@@ -360,7 +375,8 @@ impl Btf {
     /// `OutOfMemory` where memory is refused.
     #[tactic(auto, using(crate::proofs::Header::header_again, crate::proofs::Header::order_is, crate::proofs::Held::held_plain))]
     pub fn to_bytes(&self, alloc: Global) -> Result<Vec<u8>, BtfError>
-        ensures again { IfOk result (λ bytes. type_info_of (order_of bytes.items) bytes.items ≡ Ok self.now) }
+        ensures again { IfOk result (λ bytes.
+            type_info_of (order_of bytes.items) bytes.items ≡ Ok self.now) }
         ensures fault { Refuses is_btf_memory result (written_fault self.now) }
     {
         if self.has_fallback() || self.strings.len() >= LENGTH_LIMIT {
@@ -399,8 +415,13 @@ fn append(
 ) -> Result<(), AllocError>
     ensures bytes { OnOk result (bytes.new.items ≡ bytes.old.items ++ added.now) }
     ensures offsets { OnOk result (offsets.new.items ≡ offsets.old.items ++ offset ∷ []) }
-    ensures fallbacks { OnOk result (fallbacks.new.items ≡ fallbacks.old.items ++ beside offset (option_copied fallback.entry)) }
-    ensures unchanged { OnErr result ((bytes.new.items ≡ bytes.old.items) × (offsets.new.items ≡ offsets.old.items) × (fallbacks.new.items ≡ fallbacks.old.items)) }
+    ensures fallbacks { OnOk result
+        (fallbacks.new.items
+        ≡ fallbacks.old.items ++ beside offset (option_copied fallback.entry)) }
+    ensures unchanged { OnErr result
+        ((bytes.new.items ≡ bytes.old.items)
+        × (offsets.new.items ≡ offsets.old.items)
+        × (fallbacks.new.items ≡ fallbacks.old.items)) }
 {
     offsets.reserve(1)?;
     let before = fallbacks.len();

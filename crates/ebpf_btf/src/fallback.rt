@@ -149,7 +149,9 @@ pub fn add_fallback(
     offset: u32,
     fallback: Option<&Enum64Fallback>,
 ) -> Result<(), AllocError>
-    ensures added { OnOk result (fallbacks.new.items ≡ fallbacks.old.items ++ beside offset (option_copied fallback.entry)) }
+    ensures added { OnOk result
+        (fallbacks.new.items
+        ≡ fallbacks.old.items ++ beside offset (option_copied fallback.entry)) }
     ensures unchanged { OnErr result (fallbacks.new.items ≡ fallbacks.old.items) }
 {
     let Some(fallback) = fallback else {

@@ -54,7 +54,9 @@ impl<'a, R: ListRow> Model for Rows<'a, R> {
 
     ghost Value = { List R };
 
-    ghost view = { λ r. unwrap_or (option_copied r.own) (items_at (R.row_at r.order r.bytes.now) R.SIZE r.offset r.count) };
+    ghost view = { λ r.
+        unwrap_or (option_copied r.own)
+        (items_at (R.row_at r.order r.bytes.now) R.SIZE r.offset r.count) };
 
     ghost invariant = { λ r. r.offset + R.SIZE * r.count ≤ length r.bytes.now };
 }

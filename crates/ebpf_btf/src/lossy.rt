@@ -16,7 +16,8 @@ const REPLACEMENT: [u8; 3] = [0xef, 0xbf, 0xbd];
 #[tactic(auto, using(crate::proofs::LossyTexts::lossy_text, crate::proofs::LossyTexts::lossy_split))]
 fn split_wrong(bytes: &[u8]) -> (&[u8], Option<&[u8]>)
     ensures text { IfNone result.1 (utf8_lossy bytes.now ≡ result.0.now) }
-    ensures wrong { IfSome result.1 (λ rest. utf8_lossy bytes.now ≡ result.0.now ++ (replacement_bytes ++ utf8_lossy rest.now)) }
+    ensures wrong { IfSome result.1 (λ rest.
+        utf8_lossy bytes.now ≡ result.0.now ++ (replacement_bytes ++ utf8_lossy rest.now)) }
     ensures shorter { IfSome result.1 (λ rest. length rest.now < length bytes.now) }
 {
     match str::from_utf8(bytes) {
@@ -31,7 +32,9 @@ fn split_wrong(bytes: &[u8]) -> (&[u8], Option<&[u8]>)
 
 /// What follows a text and U+FFFD.
 fn after_wrong<'a>(name: &'a [u8], text: &[u8]) -> Option<&'a [u8]>
-    ensures { (rest : List ℕ) → bytes_eq (text.now ++ (replacement_bytes ++ rest)) name.now ≡ option_map_or (λ left. bytes_eq rest left.now) result false }
+    ensures { (rest : List ℕ)
+        → bytes_eq (text.now ++ (replacement_bytes ++ rest)) name.now
+        ≡ option_map_or (λ left. bytes_eq rest left.now) result false }
 {
     match name.strip_prefix(text) {
         Some(left) => left.strip_prefix(&REPLACEMENT),

@@ -94,7 +94,8 @@ impl Btf {
     ///
     /// `UnknownBtfTypeName` where there is none, `OutOfMemory` where memory is refused.
     pub fn id_by_type_name_kind(&self, name: &str, kind: BtfKind) -> Result<u32, BtfError>
-        ensures { Gives is_btf_memory result (ok_or (id_of_name self.now name.now kind) (UnknownBtfTypeName name.now)) }
+        ensures { Gives is_btf_memory result
+            (ok_or (id_of_name self.now name.now kind) (UnknownBtfTypeName name.now)) }
     {
         match self.find_named(name, kind) {
             Some(id) => Ok(id),

@@ -38,10 +38,16 @@ struct PartRanges {
 #[tactic(auto, unfolding(crate::specs::Reading::header_fault, crate::specs::Reading::header_length, crate::specs::Reading::magic, crate::specs::Reading::types_start, crate::specs::Reading::types_end, crate::specs::Reading::strings_start, crate::specs::Reading::strings_end))]
 fn read_header(order: Endianness, bytes: &[u8]) -> Result<PartRanges, BtfError>
     ensures fault { fault_of result ≡ header_fault order bytes.now }
-    ensures types { IfOk result (λ p. (p.types_start ≡ types_start order bytes.now) × (p.types_end ≡ types_end order bytes.now)) }
-    ensures strings { IfOk result (λ p. (p.strings_start ≡ strings_start order bytes.now) × (p.strings_end ≡ strings_end order bytes.now)) }
-    ensures order { IfOk result (λ p. (p.types_start ≤ p.types_end) × (p.strings_start ≤ p.strings_end)) }
-    ensures inside { IfOk result (λ p. (p.types_end ≤ length bytes.now) × (p.strings_end ≤ length bytes.now)) }
+    ensures types { IfOk result (λ p.
+        (p.types_start ≡ types_start order bytes.now)
+        × (p.types_end ≡ types_end order bytes.now)) }
+    ensures strings { IfOk result (λ p.
+        (p.strings_start ≡ strings_start order bytes.now)
+        × (p.strings_end ≡ strings_end order bytes.now)) }
+    ensures order { IfOk result (λ p.
+        (p.types_start ≤ p.types_end) × (p.strings_start ≤ p.strings_end)) }
+    ensures inside { IfOk result (λ p.
+        (p.types_end ≤ length bytes.now) × (p.strings_end ≤ length bytes.now)) }
     ensures small { IfOk result (λ p. p.types_end < p.types_start + 2 ^ 32) }
 {
     if bytes.len() < HEADER_LENGTH || read_u16(order, bytes, 0) != MAGIC {
@@ -70,9 +76,11 @@ fn read_header(order: Endianness, bytes: &[u8]) -> Result<PartRanges, BtfError>
 /// or has no known kind.
 fn read_offsets(alloc: Global, order: Endianness, part: &[u8]) -> Result<Vec<u32>, BtfError>
     requires small { length part.now < 2 ^ 32 }
-    ensures found { IfOk result (λ offsets. types_of order part.now ≡ Some (types_here order part.now offsets.items)) }
+    ensures found { IfOk result (λ offsets.
+        types_of order part.now ≡ Some (types_here order part.now offsets.items)) }
     ensures kept { IfOk result (λ offsets. HoldsTypes order part.now 0 offsets.items) }
-    ensures fault { Refuses is_btf_memory result (fault_of (ok_or (types_of order part.now) InvalidTypeInfo)) }
+    ensures fault { Refuses is_btf_memory result
+        (fault_of (ok_or (types_of order part.now) InvalidTypeInfo)) }
 {
     let end = part.len() as u32;
     let mut offsets = Vec::with_capacity(alloc, part.len() / USUAL_LENGTH)?;
@@ -125,7 +133,8 @@ impl Btf {
     pub fn parse(alloc: Global, data: &[u8], endianness: Endianness) -> Result<Btf, BtfError>
         ensures exact { Gives is_btf_memory result (type_info_of endianness «data».now) }
         ensures found { IfOk result (λ info. Spells endianness «data».now info) }
-        ensures only { (info : TypeInfo) → Spells endianness «data».now info → Gives is_btf_memory result (Ok info) }
+        ensures only { (info : TypeInfo) → Spells endianness «data».now info
+            → Gives is_btf_memory result (Ok info) }
     {
         copy_parts(alloc, endianness, data)
     }
@@ -137,7 +146,8 @@ impl Btf {
     pub fn from_vec(data: Vec<u8>, endianness: Endianness) -> Result<Btf, BtfError>
         ensures exact { Gives is_btf_memory result (type_info_of endianness «data».items) }
         ensures found { IfOk result (λ info. Spells endianness «data».items info) }
-        ensures only { (info : TypeInfo) → Spells endianness «data».items info → Gives is_btf_memory result (Ok info) }
+        ensures only { (info : TypeInfo) → Spells endianness «data».items info
+            → Gives is_btf_memory result (Ok info) }
     {
         take_parts(endianness, data)
     }

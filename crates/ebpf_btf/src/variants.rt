@@ -87,7 +87,8 @@ impl<'a> BtfType<'a> {
     /// where there are not so many, and of other types.
     #[tactic(auto, unfolding(crate::specs::Variants::variants_of))]
     pub fn variant(&self, index: usize) -> Option<BtfVariant>
-        ensures { result ≡ option_and_then (λ variants. slice_get variants index) (variants_of self.now) }
+        ensures { result
+            ≡ option_and_then (λ variants. slice_get variants index) (variants_of self.now) }
     {
         match self {
             BtfType::Enum {

@@ -243,8 +243,10 @@ pub fn head_here(order: Endianness, bytes: &[u8], offset: u32) -> TypeHead
 pub fn next_offset(order: Endianness, bytes: &[u8], offset: u32) -> Option<u32>
     requires before { offset ≤ length bytes.now }
     requires small { length bytes.now < 2 ^ 32 }
-    ensures found { type_before order bytes.now offset ≡ option_map (λ next. (type_here order bytes.now offset, next)) result }
-    ensures known { IfSome result (λ _. info_kind (info_at order bytes.now offset) ≡ Some (kind_here order bytes.now offset)) }
+    ensures found { type_before order bytes.now offset
+        ≡ option_map (λ next. (type_here order bytes.now offset, next)) result }
+    ensures known { IfSome result (λ _.
+        info_kind (info_at order bytes.now offset) ≡ Some (kind_here order bytes.now offset)) }
     ensures here { IfSome result (λ next. next ≡ end_here order bytes.now offset) }
     ensures within { IfSome result (λ next. (offset + 12 ≤ next) × (next ≤ length bytes.now)) }
 {

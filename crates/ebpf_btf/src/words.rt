@@ -104,7 +104,8 @@ pub fn words_of(alloc: Global, ty: &BtfType<'_>) -> Result<Vec<u32>, AllocError>
 pub fn type_bytes(alloc: Global, order: Endianness, ty: &BtfType<'_>) -> Result<Vec<u8>, AllocError>
     requires some { 0 < kind_number (kind_of ty.now) }
     requires few { count_of ty.now < 65536 }
-    ensures { IfOk result (λ bytes. IsTypeAt order bytes.items 0 (length bytes.items) (without_fallback ty.now)) }
+    ensures { IfOk result (λ bytes.
+        IsTypeAt order bytes.items 0 (length bytes.items) (without_fallback ty.now)) }
 {
     let words = words_of(alloc, ty)?;
     let bytes = bytes_of(alloc, order, &words)?;

@@ -40,7 +40,11 @@ pub fn with_header(
 ) -> Result<Vec<u8>, AllocError>
     requires types { length types.now < 2 ^ 32 }
     requires strings { length strings.now < 2 ^ 32 }
-    ensures { IfOk result (λ out. out.items ≡ header_bytes order (length types.now) (length strings.now) ++ types.now ++ strings.now) }
+    ensures { IfOk result (λ out.
+        out.items
+        ≡ header_bytes order (length types.now) (length strings.now)
+        ++ types.now
+        ++ strings.now) }
 {
     let mut out = header(alloc, order, types.len() as u32, strings.len() as u32)?;
     out.extend_from_slice(types)?;

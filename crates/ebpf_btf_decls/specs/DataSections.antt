@@ -1,5 +1,20 @@
--- The DATASECs of a name, and what their entries give: the sections that types speak of (the kernel's Documentation/bpf/btf.rst, 2.2.15 "BTF_KIND_DATASEC").
-use Rattle.std.specs.Prelude.{ℕ, Bool, true, false, List, [], Option, Some, None, Result, Ok, Err, ◌∷◌}
+-- The DATASECs of a name, and what their entries give: the sections that types speak of (the
+-- kernel's Documentation/bpf/btf.rst, 2.2.15 "BTF_KIND_DATASEC").
+use Rattle.std.specs.Prelude.{
+  ℕ,
+  Bool,
+  true,
+  false,
+  List,
+  [],
+  Option,
+  Some,
+  None,
+  Result,
+  Ok,
+  Err,
+  ◌∷◌,
+}
 use Rattle.ebpf_base.specs.Faults.{if_ok}
 use Rattle.ebpf_btf.specs.Next.{if_some}
 use Rattle.ebpf_btf.specs.Strings.{is_name_at}
@@ -15,7 +30,8 @@ unfoldable pub datasec_entries : BtfType → Option (List DataSecEntry)
 datasec_entries (DataSec _ _ entries) = Some entries
 datasec_entries _ = None
 
--- The DATASEC that a search by name meets: one of that name, with its entries, or one whose name can't be read.
+-- The DATASEC that a search by name meets: one of that name, with its entries, or one whose name
+-- can't be read.
 pub data DatasecMatch : Type 0 where
   Named : List DataSecEntry → DatasecMatch
   UnreadableName : BtfError → DatasecMatch
@@ -28,7 +44,9 @@ datasec_match_if entries (Err e) = Some (UnreadableName e)
 
 -- what the search meets at a type
 unfoldable pub datasec_match : TypeInfo → List ℕ → BtfType → Option DatasecMatch
-datasec_match info wanted t = if_some (datasec_entries t) (λ entries. datasec_match_if entries (is_name_at info.strings (name_off t) wanted)) None
+datasec_match info wanted t =
+    if_some (datasec_entries t)
+    (λ entries. datasec_match_if entries (is_name_at info.strings (name_off t) wanted)) None
 
 -- the entries of the section that was found
 abbrev pub matched_entries : Option DatasecMatch → List DataSecEntry
@@ -49,4 +67,5 @@ given (Err e) = []
 -- what the answers at the members of a list give, in order, or the first fault
 abbrev pub all_given : {A X : Type 0} → (A → Result X BtfError) → List A → Result (List X) BtfError
 all_given answer [] = Ok []
-all_given answer (m ∷ members) = if_ok (answer m) (λ x. if_ok (all_given answer members) (λ xs. Ok (x ∷ xs)))
+all_given answer (m ∷ members) =
+    if_ok (answer m) (λ x. if_ok (all_given answer members) (λ xs. Ok (x ∷ xs)))

@@ -1,7 +1,28 @@
--- Externs: the kernel's functions and variables that an object names in its DATASEC `.ksyms`, and what stands in for the functions.
+-- Externs: the kernel's functions and variables that an object names in its DATASEC `.ksyms`, and
+-- what stands in for the functions.
 use Rattle.std.specs.FinMap.{FinMap, empty}
 use Rattle.std.specs.List.{position, flat_map}
-use Rattle.std.specs.Prelude.{◌≡◌, length, take, ℕ, Bool, false, List, Option, None, ◌==◌, codes, true, ◌||◌, not, Some, Result, Ok, Err, if◌then◌else◌}
+use Rattle.std.specs.Prelude.{
+  ◌≡◌,
+  length,
+  take,
+  ℕ,
+  Bool,
+  false,
+  List,
+  Option,
+  None,
+  ◌==◌,
+  codes,
+  true,
+  ◌||◌,
+  not,
+  Some,
+  Result,
+  Ok,
+  Err,
+  if◌then◌else◌,
+}
 use Rattle.ebpf_base.specs.Faults.{or_else, first_some, fault_of, if_ok}
 use Rattle.ebpf_btf.specs.Next.{if_some}
 use Rattle.ebpf_base.specs.Maps.{put_all, text_cmp}
@@ -15,9 +36,18 @@ use Rattle.ebpf_btf.specs.declared.error.BtfError.TheVariants.{InvalidDatasec, I
 use Rattle.ebpf_btf.specs.declared.members.DataSecEntry.{DataSecEntry}
 use Rattle.ebpf_btf.specs.declared.types.BtfType.{BtfType}
 use Rattle.ebpf_btf.specs.declared.types.BtfType.TheVariants.{Int, Var, Func}
-use Rattle.ebpf_btf_decls.specs.DataSections.{given, DatasecMatch, datasec_match, matched_entries, datasec_match_fault}
+use Rattle.ebpf_btf_decls.specs.DataSections.{
+  given,
+  DatasecMatch,
+  datasec_match,
+  matched_entries,
+  datasec_match_fault,
+}
 use Rattle.ebpf_btf_decls.specs.declared.externs.FunctionOrFault.{FunctionOrFault}
-use Rattle.ebpf_btf_decls.specs.declared.externs.FunctionOrFault.TheVariants.{Function, UnreadableType}
+use Rattle.ebpf_btf_decls.specs.declared.externs.FunctionOrFault.TheVariants.{
+  Function,
+  UnreadableType,
+}
 use Rattle.ebpf_model.specs.declared.symbol.ExternDesc.{ExternDesc}
 
 -- ---- what contracts of private functions name and no public one
@@ -27,8 +57,8 @@ pub record Begins (before after : TypeInfo) : Type 0 where
   pub types : take (length before.types) after.types ≡ before.types
   pub strings : take (length before.strings) after.strings ≡ before.strings
 
--- ---- the INT and the VAR that stand in for what a DATASEC of externs names as functions, since the kernel takes
--- variables alone there.
+-- ---- the INT and the VAR that stand in for what a DATASEC of externs names as functions, since
+-- the kernel takes variables alone there.
 
 -- an INT of 4 bytes
 unfoldable pub is_word : BtfType → Bool
@@ -45,7 +75,9 @@ with_named info name t = with_type (with_string info name) (t (length info.strin
 
 -- an offset or a type that has no room
 abbrev pub named_fault : TypeInfo → List ℕ → (ℕ → BtfType) → Option BtfError
-named_fault info name t = or_else (too_large_fault (length info.strings)) (type_fault (with_string info name) (t (length info.strings)))
+named_fault info name t =
+    or_else (too_large_fault (length info.strings))
+    (type_fault (with_string info name) (t (length info.strings)))
 
 -- `int`, signed, of 32 bits
 abbrev pub int_at : ℕ → BtfType
@@ -67,10 +99,13 @@ abbrev pub variable_at : ℕ → ℕ → BtfType
 variable_at word name = Var name word 1
 
 abbrev pub with_placeholder : TypeInfo → TypeInfo
-with_placeholder info = with_named (with_word info) (codes "ksym_func_placeholder") (variable_at (the_word info))
+with_placeholder info =
+    with_named (with_word info) (codes "ksym_func_placeholder") (variable_at (the_word info))
 
 abbrev pub placeholder_fault : TypeInfo → Option BtfError
-placeholder_fault info = or_else (word_fault info) (named_fault (with_word info) (codes "ksym_func_placeholder") (variable_at (the_word info)))
+placeholder_fault info =
+    or_else (word_fault info)
+    (named_fault (with_word info) (codes "ksym_func_placeholder") (variable_at (the_word info)))
 
 -- ---- one extern
 
@@ -95,16 +130,18 @@ new_extern id t weak held_id = record {
   is_resolved = false;
 }
 
--- What an entry declares, with its name: a FUNC or VAR, for whose name there is a symbol that is weak or not, and
--- whose type can be resolved.
-unfoldable pub extern_of : TypeInfo → (List ℕ → Option Bool) → DataSecEntry → Result (List ℕ × ExternDesc) BtfError
+-- What an entry declares, with its name: a FUNC or VAR, for whose name there is a symbol that is
+-- weak or not, and whose type can be resolved.
+unfoldable pub extern_of : TypeInfo → (List ℕ → Option Bool) → DataSecEntry
+    → Result (List ℕ × ExternDesc) BtfError
 extern_of info weak entry =
     if_ok (type_at info.types entry.btf_type) (λ t.
     if_some (func_or_var_type t)
     (λ id.
     if_ok (type_name info t) (λ name.
     if_some (weak name)
-    (λ is_weak. if_ok (resolved info.types id) (λ r. Ok (name, new_extern entry.btf_type t is_weak r)))
+    (λ is_weak.
+    if_ok (resolved info.types id) (λ r. Ok (name, new_extern entry.btf_type t is_weak r)))
     (Err InvalidSymbolName)))
     (Err InvalidDatasec))
 
@@ -140,15 +177,20 @@ types_fault info (Some (UnreadableType e)) = Some e
 types_fault info (Some Function) = placeholder_fault info
 
 -- the externs that entries declare, by name; of equal names the later stands
-abbrev pub entries_externs : TypeInfo → (List ℕ → Option Bool) → List DataSecEntry → FinMap text_cmp ExternDesc
-entries_externs info weak entries = put_all empty (flat_map (λ entry. given (extern_of info weak entry)) entries)
+abbrev pub entries_externs : TypeInfo → (List ℕ → Option Bool) → List DataSecEntry
+    → FinMap text_cmp ExternDesc
+entries_externs info weak entries =
+    put_all empty (flat_map (λ entry. given (extern_of info weak entry)) entries)
 
-abbrev pub extern_entries_fault : TypeInfo → (List ℕ → Option Bool) → List DataSecEntry → Option BtfError
-extern_entries_fault info weak entries = first_some (λ entry. fault_of (extern_of info weak entry)) entries
+abbrev pub extern_entries_fault : TypeInfo → (List ℕ → Option Bool) → List DataSecEntry
+    → Option BtfError
+extern_entries_fault info weak entries =
+    first_some (λ entry. fault_of (extern_of info weak entry)) entries
 
 -- the types with what externs add
 abbrev pub extern_types : TypeInfo → TypeInfo
-extern_types info = types_with info (first_function_or_fault info (matched_entries (ksyms_datasec info)))
+extern_types info =
+    types_with info (first_function_or_fault info (matched_entries (ksyms_datasec info)))
 
 -- the externs of an object with these types, and what symbols say of names
 abbrev pub externs : TypeInfo → (List ℕ → Option Bool) → FinMap text_cmp ExternDesc
@@ -157,5 +199,6 @@ externs info weak = entries_externs (extern_types info) weak (matched_entries (k
 abbrev pub extern_declarations_fault : TypeInfo → (List ℕ → Option Bool) → Option BtfError
 extern_declarations_fault info weak =
     or_else (datasec_match_fault (ksyms_datasec info))
-    (or_else (types_fault info (first_function_or_fault info (matched_entries (ksyms_datasec info))))
+    (or_else (types_fault info (first_function_or_fault info (matched_entries (ksyms_datasec
+    info))))
     (extern_entries_fault (extern_types info) weak (matched_entries (ksyms_datasec info))))

@@ -1,5 +1,29 @@
--- The members of a struct that declares a map (libbpf's "BTF-defined maps"), and the definition that they make.
-use Rattle.std.specs.Prelude.{ℕ, ◌+◌, ◌*◌, ◌^◌, Bool, true, false, List, [], ◌∷◌, Option, Some, None, Result, Ok, Err, ◌==◌, nat_lt, unwrap_or, slice_get, codes, if◌then◌else◌}
+-- The members of a struct that declares a map (libbpf's "BTF-defined maps"), and the definition
+-- that they make.
+use Rattle.std.specs.Prelude.{
+  ℕ,
+  ◌+◌,
+  ◌*◌,
+  ◌^◌,
+  Bool,
+  true,
+  false,
+  List,
+  [],
+  ◌∷◌,
+  Option,
+  Some,
+  None,
+  Result,
+  Ok,
+  Err,
+  ◌==◌,
+  nat_lt,
+  unwrap_or,
+  slice_get,
+  codes,
+  if◌then◌else◌,
+}
 use Rattle.std.specs.Str.{bytes_eq}
 use Rattle.ebpf_base.specs.Faults.{first_of, or_else, if_ok}
 use Rattle.ebpf_btf.specs.Next.{if_some}
@@ -15,15 +39,30 @@ use Rattle.ebpf_btf_decls.specs.declared.members.MapDefinitions.{MapDefinitions}
 use Rattle.ebpf_btf_decls.specs.declared.members.MapMember.{MapMember}
 use Rattle.ebpf_btf_decls.specs.declared.members.MapMember.TheVariants as about
 use Rattle.ebpf_btf_decls.specs.declared.members.MapNumber.{MapNumber}
-use Rattle.ebpf_btf_decls.specs.declared.members.MapNumber.TheVariants.{MapType, KeySize, ValueSize, MaxEntries, MapFlags, MapExtra}
+use Rattle.ebpf_btf_decls.specs.declared.members.MapNumber.TheVariants.{
+  MapType,
+  KeySize,
+  ValueSize,
+  MaxEntries,
+  MapFlags,
+  MapExtra,
+}
 use Rattle.ebpf_btf_decls.specs.declared.members.MemberValue.{MemberValue}
-use Rattle.ebpf_btf_decls.specs.declared.members.MemberValue.TheVariants.{Number, Pinning, Key, Value, Values, Programs, Extra}
+use Rattle.ebpf_btf_decls.specs.declared.members.MemberValue.TheVariants.{
+  Number,
+  Pinning,
+  Key,
+  Value,
+  Values,
+  Programs,
+  Extra,
+}
 use Rattle.ebpf_parts.specs.declared.maps.definition.BtfMapDef.{BtfMapDef}
 use Rattle.ebpf_parts.specs.declared.maps.definition.PinningType.{PinningType}
 use Rattle.ebpf_parts.specs.declared.maps.definition.PinningType.TheVariants as pinned
 
--- ---- the members of a struct that declares a map (libbpf's "BTF-defined maps"). A number is spelled by the length of
--- an array that a member points to, a type by a member that points to it.
+-- ---- the members of a struct that declares a map (libbpf's "BTF-defined maps"). A number is
+-- spelled by the length of an array that a member points to, a type by a member that points to it.
 
 -- what a member of this name is about
 unfoldable pub map_member : List ℕ → MapMember
@@ -64,7 +103,9 @@ unfoldable pub number : List BtfType → ℕ → Result ℕ BtfError
 number types id =
     if_ok (type_at types id) (λ p.
     if_some (pointee p)
-    (λ a. if_ok (type_at types a) (λ t. if_some (array_of t) (λ array. Ok array.len) (Err (unexpected_type t))))
+    (λ a.
+    if_ok (type_at types a) (λ t.
+    if_some (array_of t) (λ array. Ok array.len) (Err (unexpected_type t))))
     (Err (unexpected_type p)))
 
 -- an ENUM's value has its sign extended, as libbpf widens it whatever the ENUM says of its values
@@ -118,12 +159,16 @@ pointee_struct types id =
     if_ok (resolved_type types id) (λ p.
     if_some (pointee p) (λ s. resolved types s) (Err (unexpected_type p)))
 
--- the id of the struct of the maps that a map holds: the member is an ARRAY of no elements that point to it
+-- the id of the struct of the maps that a map holds: the member is an ARRAY of no elements that
+-- point to it
 unfoldable pub inner_map_struct : List BtfType → List ℕ → ℕ → Result ℕ BtfError
 inner_map_struct types name id =
     if_ok (type_at types id) (λ t.
     if_some (array_of t)
-    (λ array. if array.len == 0 then pointee_struct types array.element_type else Err (InvalidValuesSpec name))
+    (λ array.
+    if array.len == 0
+    then pointee_struct types array.element_type
+    else Err (InvalidValuesSpec name))
     (Err (unexpected_type t)))
 
 -- ---- the value of one member

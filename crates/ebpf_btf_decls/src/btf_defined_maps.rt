@@ -82,8 +82,14 @@ impl<'b> BtfDefinedMaps<'b> {
         symbols: &ByName<usize>,
     ) -> Result<(), ParseError>
         ensures stays { self.new ≡ self.old }
-        ensures put { OnOk result (maps.new ≡ put_all maps.old (btf_maps self.old.mode self.old.types (map.get symbols.now) section.now.index.0 section.now.name)) }
-        ensures fault { Refuses is_parse_memory result (btf_maps_fault self.old.mode self.old.types (map.get symbols.now) section.now.index.0 section.now.name) }
+        ensures put { OnOk result
+            (maps.new
+            ≡ put_all maps.old
+            (btf_maps self.old.mode self.old.types (map.get symbols.now)
+            section.now.index.0 section.now.name)) }
+        ensures fault { Refuses is_parse_memory result
+            (btf_maps_fault self.old.mode self.old.types (map.get symbols.now)
+            section.now.index.0 section.now.name) }
     {
         if let Some(distinct) = self.distinct.get(section.name) {
             return distinct.put(alloc, maps, section, symbols);
@@ -115,7 +121,9 @@ fn check_symbol(
     number: usize,
     name: &str,
 ) -> Result<(), ParseError>
-    requires { (d : MapDefinitions) → slice_get last.now number ≡ Some d → missing (map.get symbols.now) name.now ≡ None }
+    requires { (d : MapDefinitions)
+        → slice_get last.now number ≡ Some d
+        → missing (map.get symbols.now) name.now ≡ None }
     ensures { Refuses is_parse_memory result (missing (map.get symbols.now) name.now) }
 {
     if let Some(_before) = last.get(number) {
@@ -142,11 +150,20 @@ fn add_entry(
 ) -> Result<(), ParseError>
     requires known { Knows mode btf.now known.old }
     requires numbered { AreNumbered btf.now.strings distinct.old.names }
-    requires symbols { AllZip (HasSymbol (map.get symbols.now)) distinct.old.names.names distinct.old.last }
+    requires symbols { AllZip (HasSymbol (map.get symbols.now)) distinct.old.names.names
+        distinct.old.last }
     ensures known { Knows mode btf.now known.new }
     ensures numbered { OnOk result (AreNumbered btf.now.strings distinct.new.names) }
-    ensures added { OnOk result ((name : List ℕ) × (n : ℕ) × (d : MapDefinitions) × (declared mode btf.now entry.now ≡ Ok (name, d)) × HasNumber distinct.old.names.names distinct.new.names.names name n × (distinct.new.last ≡ put_at distinct.old.last n d) × HasSymbol (map.get symbols.now) name d) }
-    ensures fault { Refuses is_parse_memory result (fault_of (entry_map mode btf.now (map.get symbols.now) 0 entry.now)) }
+    ensures added { OnOk result
+        ((name : List ℕ)
+        × (n : ℕ)
+        × (d : MapDefinitions)
+        × (declared mode btf.now entry.now ≡ Ok (name, d))
+        × HasNumber distinct.old.names.names distinct.new.names.names name n
+        × (distinct.new.last ≡ put_at distinct.old.last n d)
+        × HasSymbol (map.get symbols.now) name d) }
+    ensures fault { Refuses is_parse_memory result
+        (fault_of (entry_map mode btf.now (map.get symbols.now) 0 entry.now)) }
 {
     let (number, definitions) = match declared(
         alloc,
@@ -181,8 +198,11 @@ fn read_entries(
 ) -> Result<DistinctMaps, ParseError>
     requires { Knows mode btf.now known.old }
     ensures known { Knows mode btf.now known.new }
-    ensures kept { IfOk result (λ distinct. AreKept distinct.names.names distinct.last (flat_map (λ entry. given (declared mode btf.now entry)) entries.now)) }
-    ensures fault { Refuses is_parse_memory result (entries_fault mode btf.now (map.get symbols.now) 0 entries.now) }
+    ensures kept { IfOk result (λ distinct.
+        AreKept distinct.names.names distinct.last
+        (flat_map (λ entry. given (declared mode btf.now entry)) entries.now)) }
+    ensures fault { Refuses is_parse_memory result
+        (entries_fault mode btf.now (map.get symbols.now) 0 entries.now) }
 {
     let mut distinct = DistinctMaps::none(alloc);
     for entry in entries {
@@ -207,7 +227,8 @@ fn read_section_maps(
     requires known { Knows mode btf.now known.old }
     ensures known { Knows mode btf.now known.new }
     ensures maps { IfOk result (λ distinct. AreMapsOf mode btf.now name.now distinct) }
-    ensures fault { Refuses is_parse_memory result (btf_maps_fault mode btf.now (map.get symbols.now) 0 name.now) }
+    ensures fault { Refuses is_parse_memory result
+        (btf_maps_fault mode btf.now (map.get symbols.now) 0 name.now) }
 {
     let Some(entries) = sections.by_name.get(name) else {
         unreachable!()

@@ -30,8 +30,10 @@ pub fn section_entries<'a>(
     wanted: &str,
     ty: &BtfType<'a>,
 ) -> Result<Option<Rows<'a, DataSecEntry>>, BtfError>
-    ensures found { IfOk result (λ found. datasec_match btf.now wanted.now ty.now ≡ option_map Named found) }
-    ensures fault { IfErr result (λ e. datasec_match btf.now wanted.now ty.now ≡ Some (UnreadableName e)) }
+    ensures found { IfOk result (λ found.
+        datasec_match btf.now wanted.now ty.now ≡ option_map Named found) }
+    ensures fault { IfErr result (λ e.
+        datasec_match btf.now wanted.now ty.now ≡ Some (UnreadableName e)) }
 {
     let Some(entries) = datasec_entries(ty) else {
         return Ok(None);
@@ -48,8 +50,10 @@ pub fn first_entries<'a>(
     btf: &'a Btf,
     wanted: &str,
 ) -> Result<Option<Rows<'a, DataSecEntry>>, BtfError>
-    ensures found { IfOk result (λ found. first_some (datasec_match btf.now wanted.now) btf.now.types ≡ option_map Named found) }
-    ensures fault { IfErr result (λ e. first_some (datasec_match btf.now wanted.now) btf.now.types ≡ Some (UnreadableName e)) }
+    ensures found { IfOk result (λ found.
+        first_some (datasec_match btf.now wanted.now) btf.now.types ≡ option_map Named found) }
+    ensures fault { IfErr result (λ e.
+        first_some (datasec_match btf.now wanted.now) btf.now.types ≡ Some (UnreadableName e)) }
 {
     for id in 0..btf.len() {
         let ty = btf.at(id);
@@ -89,7 +93,8 @@ fn add_entries(
     name: &str,
     entries: &Rows<'_, DataSecEntry>,
 ) -> Result<(), BtfError>
-    ensures with_entries { OnOk result (by_name.new ≡ with_entries by_name.old name.now entries.now) }
+    ensures with_entries { OnOk result
+        (by_name.new ≡ with_entries by_name.old name.now entries.now) }
     ensures memory { IfErr result (λ e. is_btf_memory e ≡ true) }
 {
     let Some(kept) = by_name.get_mut(name) else {
@@ -109,7 +114,8 @@ fn scan_type(
     ty: &BtfType<'_>,
 ) -> Result<bool, BtfError>
     requires { NamesAreWithin longest by_name.old }
-    ensures looked { IfOk result (λ readable. IsScanned btf.now ty.now by_name.old by_name.new readable) }
+    ensures looked { IfOk result (λ readable.
+        IsScanned btf.now ty.now by_name.old by_name.new readable) }
     ensures memory { IfErr result (λ e. is_btf_memory e ≡ true) }
 {
     let Some(entries) = datasec_entries(ty) else {

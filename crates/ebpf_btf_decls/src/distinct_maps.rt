@@ -35,8 +35,12 @@ pub fn declared(
     requires numbered { AreNumbered btf.now.strings names.old }
     ensures known { Knows mode btf.now known.new }
     ensures numbered { OnOk result (AreNumbered btf.now.strings names.new) }
-    ensures declared { IfOk result (λ found. (name : List ℕ) × (declared mode btf.now entry.now ≡ Ok (name, found.1)) × HasNumber names.old.names names.new.names name found.0) }
-    ensures fault { IfErr result (λ e. MatchBool (is_btf_memory e) ⊤ (declared mode btf.now entry.now ≡ Err e)) }
+    ensures declared { IfOk result (λ found.
+        (name : List ℕ)
+        × (declared mode btf.now entry.now ≡ Ok (name, found.1))
+        × HasNumber names.old.names names.new.names name found.0) }
+    ensures fault { IfErr result (λ e.
+        MatchBool (is_btf_memory e) ⊤ (declared mode btf.now entry.now ≡ Err e)) }
 {
     let ty = btf.type_by_id(entry.btf_type)?;
     let BtfType::Var { btf_type, .. } = ty else {
@@ -44,14 +48,7 @@ pub fn declared(
     };
     let number = names.number_at(alloc, btf, ty.name_offset())?;
     let struct_id = btf.resolve_type(btf_type)?;
-    let definitions = struct_definitions(
-        alloc,
-        btf,
-        mode,
-        known,
-        names.name(number),
-        struct_id,
-    )?;
+    let definitions = struct_definitions(alloc, btf, mode, known, names.name(number), struct_id)?;
     Ok((number, definitions))
 }
 
@@ -104,8 +101,12 @@ impl DistinctMaps {
         section: &Section<'_>,
         symbols: &ByName<usize>,
     ) -> Result<(), ParseError>
-        ensures put { OnOk result (maps.new ≡ put_all maps.old (distinct_maps (map.get symbols.now) section.now.index.0 self.now)) }
-        ensures fault { Refuses is_parse_memory result (distinct_fault (map.get symbols.now) self.now) }
+        ensures put { OnOk result
+            (maps.new
+            ≡ put_all maps.old
+            (distinct_maps (map.get symbols.now) section.now.index.0 self.now)) }
+        ensures fault { Refuses is_parse_memory result
+            (distinct_fault (map.get symbols.now) self.now) }
     {
         for number in 0..self.names.names.len() {
             let Some(name) = self.names.names.get(number) else {
@@ -129,7 +130,12 @@ fn put_last(
     name: &str,
     definitions: &MapDefinitions,
 ) -> Result<(), ParseError>
-    ensures put { OnOk result (maps.new ≡ put_all maps.old (given (map_with_symbol (map.get symbols.now) section.now.index.0 (Ok (name.now, definitions.now))))) }
+    ensures put { OnOk result
+        (maps.new
+        ≡ put_all maps.old
+        (given
+        (map_with_symbol (map.get symbols.now) section.now.index.0
+        (Ok (name.now, definitions.now))))) }
     ensures fault { Refuses is_parse_memory result (missing (map.get symbols.now) name.now) }
 {
     let Some(symbol_index) = symbols.get(name) else {

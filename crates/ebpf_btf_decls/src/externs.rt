@@ -75,8 +75,10 @@ fn first_function_or_fault(btf: &Btf, entries: &[DataSecEntry]) -> Option<Functi
 /// Adds a placeholder where there is a function among entries.
 #[tactic(auto, unfolding(crate::specs::Externs::types_with, crate::specs::Externs::types_fault))]
 fn prepare_types(btf: &mut Btf, entries: &[DataSecEntry]) -> Result<(), BtfError>
-    ensures types { OnOk result (btf.new ≡ types_with btf.old (first_function_or_fault btf.old entries.now)) }
-    ensures fault { Refuses is_btf_memory result (types_fault btf.old (first_function_or_fault btf.old entries.now)) }
+    ensures types { OnOk result
+        (btf.new ≡ types_with btf.old (first_function_or_fault btf.old entries.now)) }
+    ensures fault { Refuses is_btf_memory result
+        (types_fault btf.old (first_function_or_fault btf.old entries.now)) }
     ensures begins { Begins btf.old btf.new }
 {
     match first_function_or_fault(btf, entries) {
@@ -88,7 +90,9 @@ fn prepare_types(btf: &mut Btf, entries: &[DataSecEntry]) -> Result<(), BtfError
 
 /// Whether the symbol of a name is weak, which is looked for at the first extern of the name.
 fn is_weak(weak: &ByName<bool>, last: &Items<ExternDesc>, number: usize, name: &str) -> Option<bool>
-    requires { (d : ExternDesc) → slice_get last.now number ≡ Some d → map.get weak.now name.now ≡ Some d.is_weak }
+    requires { (d : ExternDesc)
+        → slice_get last.now number ≡ Some d
+        → map.get weak.now name.now ≡ Some d.is_weak }
     ensures { result ≡ map.get weak.now name.now }
 {
     if let Some(before) = last.get(number) {
@@ -110,8 +114,13 @@ fn extern_of(
     requires numbered { AreNumbered btf.now.strings names.old }
     requires weak { AllZip (IsWeak (map.get weak.now)) names.old.names last.now }
     ensures numbered { OnOk result (AreNumbered btf.now.strings names.new) }
-    ensures declared { IfOk result (λ found. (name : List ℕ) × (extern_of btf.now (map.get weak.now) entry.now ≡ Ok (name, found.1)) × HasNumber names.old.names names.new.names name found.0 × IsWeak (map.get weak.now) name found.1) }
-    ensures fault { Refuses is_btf_memory result (fault_of (extern_of btf.now (map.get weak.now) entry.now)) }
+    ensures declared { IfOk result (λ found.
+        (name : List ℕ)
+        × (extern_of btf.now (map.get weak.now) entry.now ≡ Ok (name, found.1))
+        × HasNumber names.old.names names.new.names name found.0
+        × IsWeak (map.get weak.now) name found.1) }
+    ensures fault { Refuses is_btf_memory result
+        (fault_of (extern_of btf.now (map.get weak.now) entry.now)) }
 {
     let ty = btf.type_by_id(entry.btf_type)?;
     let Some(type_id) = func_or_var_type(&ty) else {
@@ -139,7 +148,8 @@ fn by_name(
     names: &Items<Text>,
     last: &Items<ExternDesc>,
 ) -> Result<ByName<ExternDesc>, BtfError>
-    ensures externs { IfOk result (λ externs. externs ≡ put_all map.empty (zip names.now last.now)) }
+    ensures externs { IfOk result (λ externs.
+        externs ≡ put_all map.empty (zip names.now last.now)) }
     ensures memory { IfErr result (λ e. is_btf_memory e ≡ true) }
 {
     let mut externs = ByName::new(alloc);
@@ -162,8 +172,10 @@ fn entries_externs(
     weak: &ByName<bool>,
     entries: &[DataSecEntry],
 ) -> Result<ByName<ExternDesc>, BtfError>
-    ensures externs { IfOk result (λ found. found ≡ entries_externs btf.now (map.get weak.now) entries.now) }
-    ensures fault { Refuses is_btf_memory result (extern_entries_fault btf.now (map.get weak.now) entries.now) }
+    ensures externs { IfOk result (λ found.
+        found ≡ entries_externs btf.now (map.get weak.now) entries.now) }
+    ensures fault { Refuses is_btf_memory result
+        (extern_entries_fault btf.now (map.get weak.now) entries.now) }
 {
     let mut names = NumberedNames::none(alloc);
     let mut last = Items::new(alloc);
@@ -183,9 +195,17 @@ fn add_externs(
     weak: &ByName<bool>,
     entries: &[DataSecEntry],
 ) -> Result<ByName<ExternDesc>, BtfError>
-    ensures types { OnOk result (btf.new ≡ types_with btf.old (first_function_or_fault btf.old entries.now)) }
-    ensures externs { IfOk result (λ found. found ≡ entries_externs (types_with btf.old (first_function_or_fault btf.old entries.now)) (map.get weak.now) entries.now) }
-    ensures fault { Refuses is_btf_memory result (or_else (types_fault btf.old (first_function_or_fault btf.old entries.now)) (extern_entries_fault (types_with btf.old (first_function_or_fault btf.old entries.now)) (map.get weak.now) entries.now)) }
+    ensures types { OnOk result
+        (btf.new ≡ types_with btf.old (first_function_or_fault btf.old entries.now)) }
+    ensures externs { IfOk result (λ found.
+        found
+        ≡ entries_externs (types_with btf.old (first_function_or_fault btf.old entries.now))
+        (map.get weak.now) entries.now) }
+    ensures fault { Refuses is_btf_memory result
+        (or_else (types_fault btf.old (first_function_or_fault btf.old entries.now))
+        (extern_entries_fault
+        (types_with btf.old (first_function_or_fault btf.old entries.now))
+        (map.get weak.now) entries.now)) }
     ensures begins { Begins btf.old btf.new }
 {
     prepare_types(btf, entries)?;
@@ -216,7 +236,8 @@ pub fn collect_externs(
 ) -> Result<ByName<ExternDesc>, BtfError>
     ensures types { OnOk result (btf.new ≡ extern_types btf.old) }
     ensures externs { IfOk result (λ found. found ≡ externs btf.old (map.get weak.now)) }
-    ensures fault { Refuses is_btf_memory result (extern_declarations_fault btf.old (map.get weak.now)) }
+    ensures fault { Refuses is_btf_memory result
+        (extern_declarations_fault btf.old (map.get weak.now)) }
     ensures unchanged { OnErr result (btf.new ≡ btf.old) }
 {
     let entries = match first_entries(btf, EXTERNS)? {

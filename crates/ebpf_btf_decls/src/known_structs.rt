@@ -155,7 +155,8 @@ fn inner_struct_definition(
     struct_id: u32,
 ) -> Result<BtfMapDef, BtfError>
     requires { RemembersInner mode btf.now known.old }
-    ensures says { Gives is_btf_memory result (inner_struct_definition mode btf.now name.now struct_id) }
+    ensures says { Gives is_btf_memory result
+        (inner_struct_definition mode btf.now name.now struct_id) }
     ensures known { RemembersInner mode btf.now known.new }
 {
     if let Some(said) = known.get(&struct_id) {

@@ -66,7 +66,10 @@ impl NumberedNames {
     /// The number of the name at an offset, which is read there once.
     pub fn number_at(&mut self, alloc: Global, btf: &Btf, offset: u32) -> Result<usize, BtfError>
         requires { AreNumbered btf.now.strings self.old }
-        ensures number { IfOk result (λ n. (name : List ℕ) × (text_at btf.now.strings offset ≡ Ok name) × HasNumber self.old.names self.new.names name n) }
+        ensures number { IfOk result (λ n.
+            (name : List ℕ)
+            × (text_at btf.now.strings offset ≡ Ok name)
+            × HasNumber self.old.names self.new.names name n) }
         ensures numbered { OnOk result (AreNumbered btf.now.strings self.new) }
         ensures fault { Refuses is_btf_memory result (fault_of (text_at btf.now.strings offset)) }
     {

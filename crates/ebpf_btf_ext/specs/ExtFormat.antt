@@ -1,13 +1,37 @@
--- The bytes of `.BTF.ext` (the kernel's Documentation/bpf/btf.rst, 4.2 ".BTF.ext section"; struct btf_ext_header,
--- struct btf_ext_info_sec, and in include/uapi/linux/bpf.h struct bpf_core_relo).
-use Rattle.std.specs.Prelude.{ℕ, ◌+◌, ◌*◌, ◌/◌, List, [], ◌∷◌, map, length, Option, None, Result, Ok, Err, nat_lt, not, ◌&&◌, ◌==◌, if◌then◌else◌}
+-- The bytes of `.BTF.ext` (the kernel's Documentation/bpf/btf.rst, 4.2 ".BTF.ext section"; struct
+-- btf_ext_header, struct btf_ext_info_sec, and in include/uapi/linux/bpf.h struct bpf_core_relo).
+use Rattle.std.specs.Prelude.{
+  ℕ,
+  ◌+◌,
+  ◌*◌,
+  ◌/◌,
+  List,
+  [],
+  ◌∷◌,
+  map,
+  length,
+  Option,
+  None,
+  Result,
+  Ok,
+  Err,
+  nat_lt,
+  not,
+  ◌&&◌,
+  ◌==◌,
+  if◌then◌else◌,
+}
 use Rattle.std.specs.List.{range_with_len}
 use Rattle.ebpf_base.specs.Faults.{first_of, if_ok}
 use Rattle.ebpf_btf.specs.Next.{if_some}
 use Rattle.ebpf_base.specs.declared.endianness.Endianness.{Endianness}
 use Rattle.ebpf_base.specs.declared.endianness.Endianness.TheVariants.{Little}
 use Rattle.ebpf_btf.specs.declared.error.BtfError.{BtfError}
-use Rattle.ebpf_btf.specs.declared.error.BtfError.TheVariants.{InvalidHeader, InvalidInfo, InvalidRelocationKind}
+use Rattle.ebpf_btf.specs.declared.error.BtfError.TheVariants.{
+  InvalidHeader,
+  InvalidInfo,
+  InvalidRelocationKind,
+}
 use Rattle.ebpf_btf_ext.specs.declared.ext_infos.bpf_func_info.{bpf_func_info}
 use Rattle.ebpf_btf_ext.specs.declared.ext_infos.bpf_line_info.{bpf_line_info}
 use Rattle.ebpf_btf_ext.specs.declared.ext_infos.FuncSecInfo.{FuncSecInfo}
@@ -28,7 +52,8 @@ ext_header_fault o bytes = first_of (
     ∷ (nat_lt (length bytes) (header_length o bytes), InvalidHeader)
     ∷ [])
 
--- where the header has the offset and length of func info, of line info, and of the CO-RE relocations
+-- where the header has the offset and length of func info, of line info, and of the CO-RE
+-- relocations
 abbrev pub func_part : ℕ
 func_part = 8
 
@@ -40,7 +65,8 @@ core_relo_part = 24
 
 -- the length of a part, 0 where the header ends before it
 unfoldable pub part_length : Endianness → List ℕ → ℕ → ℕ
-part_length o bytes at = if nat_lt (header_length o bytes) (at + 8) then 0 else word o bytes (at + 4)
+part_length o bytes at =
+    if nat_lt (header_length o bytes) (at + 8) then 0 else word o bytes (at + 4)
 
 unfoldable pub part_start : Endianness → List ℕ → ℕ → ℕ
 part_start o bytes at = header_length o bytes + word o bytes at
@@ -56,13 +82,15 @@ part_fault o bytes at =
 
 -- a part begins with the size of its records; its sections follow up to its end
 unfoldable pub record_size : Endianness → List ℕ → ℕ → ℕ
-record_size o bytes at = if part_length o bytes at == 0 then 0 else word o bytes (part_start o bytes at)
+record_size o bytes at =
+    if part_length o bytes at == 0 then 0 else word o bytes (part_start o bytes at)
 
 unfoldable pub sections_start : Endianness → List ℕ → ℕ → ℕ
 sections_start o bytes at = if part_length o bytes at == 0 then 0 else part_start o bytes at + 4
 
 unfoldable pub sections_end : Endianness → List ℕ → ℕ → ℕ
-sections_end o bytes at = if part_length o bytes at == 0 then 0 else part_start o bytes at + part_length o bytes at
+sections_end o bytes at =
+    if part_length o bytes at == 0 then 0 else part_start o bytes at + part_length o bytes at
 
 -- ---- a section: the offset of its name, the number of its records, and the records
 
@@ -116,7 +144,8 @@ line_infos o bytes size offset = record {
 
 -- ---- CO-RE relocations, whose records are little endian in each file
 
--- the CO-RE relocation at an offset, with its number in its section; the fault where its kind is none
+-- the CO-RE relocation at an offset, with its number in its section; the fault where its kind is
+-- none
 unfoldable pub core_relo_at : List ℕ → ℕ → ℕ → ℕ → Result Relocation BtfError
 core_relo_at bytes size offset number =
     if_some (relocation_kind (word Little bytes (offset + size * number + 12)))
@@ -136,4 +165,5 @@ all_ok (r ∷ rs) = if_ok r (λ x. if_ok (all_ok rs) (λ xs. Ok (x ∷ xs)))
 
 -- so many relocations from an offset on, numbered from 0
 unfoldable pub core_relos_at : List ℕ → ℕ → ℕ → ℕ → Result (List Relocation) BtfError
-core_relos_at bytes size offset n = all_ok (map (core_relo_at bytes size offset) (range_with_len 0 n))
+core_relos_at bytes size offset n =
+    all_ok (map (core_relo_at bytes size offset) (range_with_len 0 n))

@@ -1,5 +1,22 @@
 -- Func info and line info of `.BTF.ext`, by the names of sections.
-use Rattle.std.specs.Prelude.{ℕ, List, [], unwrap_or, zero, suc, ◌+◌, ◌-◌, ◌∷◌, Result, Ok, Err, ◌==◌, if◌then◌else◌, ◌≡◌, None}
+use Rattle.std.specs.Prelude.{
+  ℕ,
+  List,
+  [],
+  unwrap_or,
+  zero,
+  suc,
+  ◌+◌,
+  ◌-◌,
+  ◌∷◌,
+  Result,
+  Ok,
+  Err,
+  ◌==◌,
+  if◌then◌else◌,
+  ◌≡◌,
+  None,
+}
 use Rattle.std.specs.FinMap.{FinMap, get, empty}
 use Rattle.ebpf_base.specs.Maps.{put_all, text_cmp}
 use Rattle.ebpf_base.specs.Faults.{if_ok}
@@ -8,7 +25,23 @@ use Rattle.ebpf_base.specs.declared.endianness.Endianness.{Endianness}
 use Rattle.ebpf_btf.specs.Strings.{text_at}
 use Rattle.ebpf_btf.specs.declared.error.BtfError.{BtfError}
 use Rattle.ebpf_btf.specs.declared.error.BtfError.TheVariants.{InvalidInfo}
-use Rattle.ebpf_btf_ext.specs.ExtFormat.{ext_header_fault, func_part, line_part, core_relo_part, part_fault, record_size, sections_start, sections_end, sec_name_off_at, num_info_at, section_end, info_sec_fault, func_infos, line_infos, core_relos_at}
+use Rattle.ebpf_btf_ext.specs.ExtFormat.{
+  ext_header_fault,
+  func_part,
+  line_part,
+  core_relo_part,
+  part_fault,
+  record_size,
+  sections_start,
+  sections_end,
+  sec_name_off_at,
+  num_info_at,
+  section_end,
+  info_sec_fault,
+  func_infos,
+  line_infos,
+  core_relos_at,
+}
 use Rattle.ebpf_btf_ext.specs.declared.ext_infos.FuncSecInfo.{FuncSecInfo}
 use Rattle.ebpf_btf_ext.specs.declared.ext_infos.LineSecInfo.{LineSecInfo}
 use Rattle.ebpf_btf_ext.specs.declared.relocation.Relocation.{Relocation}
@@ -27,71 +60,124 @@ func_info_at sections name = unwrap_or (get sections name) no_func_info
 abbrev pub line_info_at : FinMap text_cmp LineSecInfo → List ℕ → LineSecInfo
 line_info_at sections name = unwrap_or (get sections name) no_line_info
 
--- ---- what the bytes of `.BTF.ext` give, and their first fault: part by part, and in a part section by section
+-- ---- what the bytes of `.BTF.ext` give, and their first fault: part by part, and in a part
+-- section by section
 
 -- ---- one section, and the offset after it; its own faults come first, then those of its records
 
-unfoldable pub checked_section : {S : Type 0} → Endianness → List ℕ → ℕ → ℕ → ℕ → (ℕ → Result S BtfError) → ℕ → Result (S × ℕ) BtfError
+unfoldable pub checked_section : {S : Type 0} → Endianness → List ℕ → ℕ → ℕ → ℕ
+    → (ℕ → Result S BtfError) → ℕ → Result (S × ℕ) BtfError
 checked_section o bytes least size end records offset =
     if_some (info_sec_fault o bytes least size offset end) (λ e. Err e)
     (if_ok (records offset) (λ s. Ok (s, section_end o bytes size offset)))
 
 -- the name of a section, and its func info or line info
-unfoldable pub named_func_info : Endianness → List ℕ → List ℕ → ℕ → ℕ → Result (List ℕ × FuncSecInfo) BtfError
-named_func_info o bytes strings size offset = if_ok (text_at strings (sec_name_off_at o bytes offset)) (λ name. Ok (name, func_infos o bytes size offset))
+unfoldable pub named_func_info : Endianness → List ℕ → List ℕ → ℕ → ℕ
+    → Result (List ℕ × FuncSecInfo) BtfError
+named_func_info o bytes strings size offset =
+    if_ok (text_at strings (sec_name_off_at o bytes offset)) (λ name.
+    Ok (name, func_infos o bytes size offset))
 
-unfoldable pub named_line_info : Endianness → List ℕ → List ℕ → ℕ → ℕ → Result (List ℕ × LineSecInfo) BtfError
-named_line_info o bytes strings size offset = if_ok (text_at strings (sec_name_off_at o bytes offset)) (λ name. Ok (name, line_infos o bytes size offset))
+unfoldable pub named_line_info : Endianness → List ℕ → List ℕ → ℕ → ℕ
+    → Result (List ℕ × LineSecInfo) BtfError
+named_line_info o bytes strings size offset =
+    if_ok (text_at strings (sec_name_off_at o bytes offset)) (λ name.
+    Ok (name, line_infos o bytes size offset))
 
 -- the offset of a section's name, and its relocations
-unfoldable pub section_core_relos : Endianness → List ℕ → ℕ → ℕ → Result (ℕ × List Relocation) BtfError
+unfoldable pub section_core_relos : Endianness → List ℕ → ℕ → ℕ
+    → Result (ℕ × List Relocation) BtfError
 section_core_relos o bytes size offset =
-    if_ok (core_relos_at bytes size (offset + 8) (num_info_at o bytes offset)) (λ relocations. Ok (sec_name_off_at o bytes offset, relocations))
+    if_ok (core_relos_at bytes size (offset + 8) (num_info_at o bytes offset)) (λ relocations.
+    Ok (sec_name_off_at o bytes offset, relocations))
 
-abbrev pub func_section : Endianness → List ℕ → List ℕ → ℕ → ℕ → ℕ → Result ((List ℕ × FuncSecInfo) × ℕ) BtfError
-func_section o bytes strings size end = checked_section o bytes 8 size end (named_func_info o bytes strings size)
+abbrev pub func_section : Endianness
+    → List ℕ
+    → List ℕ
+    → ℕ
+    → ℕ
+    → ℕ
+    → Result ((List ℕ × FuncSecInfo) × ℕ) BtfError
+func_section o bytes strings size end =
+    checked_section o bytes 8 size end (named_func_info o bytes strings size)
 
-abbrev pub line_section : Endianness → List ℕ → List ℕ → ℕ → ℕ → ℕ → Result ((List ℕ × LineSecInfo) × ℕ) BtfError
-line_section o bytes strings size end = checked_section o bytes 16 size end (named_line_info o bytes strings size)
+abbrev pub line_section : Endianness
+    → List ℕ
+    → List ℕ
+    → ℕ
+    → ℕ
+    → ℕ
+    → Result ((List ℕ × LineSecInfo) × ℕ) BtfError
+line_section o bytes strings size end =
+    checked_section o bytes 16 size end (named_line_info o bytes strings size)
 
-abbrev pub core_relo_section : Endianness → List ℕ → ℕ → ℕ → ℕ → Result ((ℕ × List Relocation) × ℕ) BtfError
-core_relo_section o bytes size end = checked_section o bytes 16 size end (section_core_relos o bytes size)
+abbrev pub core_relo_section : Endianness
+    → List ℕ
+    → ℕ
+    → ℕ
+    → ℕ
+    → Result ((ℕ × List Relocation) × ℕ) BtfError
+core_relo_section o bytes size end =
+    checked_section o bytes 16 size end (section_core_relos o bytes size)
 
 -- ---- sections one after the other, of which there are at most `left`
 
-unfoldable pub sections_from : {S : Type 0} → ℕ → (ℕ → Result (S × ℕ) BtfError) → ℕ → ℕ → Result (List S) BtfError
+unfoldable pub sections_from : {S : Type 0} → ℕ → (ℕ → Result (S × ℕ) BtfError) → ℕ → ℕ
+    → Result (List S) BtfError
 sections_from zero read offset end = if offset == end then Ok [] else Err InvalidInfo
 sections_from (suc left) read offset end =
     if offset == end then Ok []
-    else if_ok (read offset) (λ found. if_ok (sections_from left read found.1 end) (λ more. Ok (found.0 ∷ more)))
+    else if_ok (read offset) (λ found.
+    if_ok (sections_from left read found.1 end) (λ more. Ok (found.0 ∷ more)))
 
 -- the sections of a part, of which there are no more than bytes
-abbrev pub part_sections : {S : Type 0} → Endianness → List ℕ → ℕ → (ℕ → Result (S × ℕ) BtfError) → Result (List S) BtfError
-part_sections o bytes at read = sections_from (sections_end o bytes at - sections_start o bytes at) read (sections_start o bytes at) (sections_end o bytes at)
+abbrev pub part_sections : {S : Type 0} → Endianness → List ℕ → ℕ → (ℕ → Result (S × ℕ) BtfError)
+    → Result (List S) BtfError
+part_sections o bytes at read =
+    sections_from (sections_end o bytes at - sections_start o bytes at) read
+    (sections_start o bytes at) (sections_end o bytes at)
 
 -- ---- the three parts
 
 -- of sections with equal names the later stands
-abbrev pub by_names : {S : Type 0} → Result (List (List ℕ × S)) BtfError → Result (FinMap text_cmp S) BtfError
+abbrev pub by_names : {S : Type 0} → Result (List (List ℕ × S)) BtfError
+    → Result (FinMap text_cmp S) BtfError
 by_names sections = if_ok sections (λ all. Ok (put_all empty all))
 
-unfoldable pub func_sections : Endianness → List ℕ → List ℕ → Result (FinMap text_cmp FuncSecInfo) BtfError
+unfoldable pub func_sections : Endianness
+    → List ℕ
+    → List ℕ
+    → Result (FinMap text_cmp FuncSecInfo) BtfError
 func_sections o bytes strings =
     if_some (part_fault o bytes func_part) (λ e. Err e)
-    (by_names (part_sections o bytes func_part (func_section o bytes strings (record_size o bytes func_part) (sections_end o bytes func_part))))
+    (by_names
+    (part_sections o bytes func_part
+    (func_section o bytes strings (record_size o bytes func_part)
+    (sections_end o bytes func_part))))
 
-unfoldable pub line_sections : Endianness → List ℕ → List ℕ → Result (FinMap text_cmp LineSecInfo) BtfError
+unfoldable pub line_sections : Endianness
+    → List ℕ
+    → List ℕ
+    → Result (FinMap text_cmp LineSecInfo) BtfError
 line_sections o bytes strings =
     if_some (part_fault o bytes line_part) (λ e. Err e)
-    (by_names (part_sections o bytes line_part (line_section o bytes strings (record_size o bytes line_part) (sections_end o bytes line_part))))
+    (by_names
+    (part_sections o bytes line_part
+    (line_section o bytes strings (record_size o bytes line_part)
+    (sections_end o bytes line_part))))
 
-unfoldable pub core_relo_sections : Endianness → List ℕ → Result (List (ℕ × List Relocation)) BtfError
+unfoldable pub core_relo_sections : Endianness
+    → List ℕ
+    → Result (List (ℕ × List Relocation)) BtfError
 core_relo_sections o bytes =
     if_some (part_fault o bytes core_relo_part) (λ e. Err e)
-    (part_sections o bytes core_relo_part (core_relo_section o bytes (record_size o bytes core_relo_part) (sections_end o bytes core_relo_part)))
+    (part_sections o bytes core_relo_part
+    (core_relo_section o bytes (record_size o bytes core_relo_part)
+    (sections_end o bytes core_relo_part)))
 
--- what is read: func info and line info by the names of sections, the relocations of sections in order, each
--- after the offset of its section's name, and the sizes of the records of func info and line info
+-- what is read: func info and line info by the names of sections, the relocations of sections in
+-- order, each after the offset of its section's name, and the sizes of the records of func info and
+-- line info
 pub record ExtInfo : Type 0 where
   pub func_info : FinMap text_cmp FuncSecInfo
   pub line_info : FinMap text_cmp LineSecInfo
@@ -112,33 +198,45 @@ read_ext o bytes strings =
       line_record_size = record_size o bytes line_part;
     })))))
 
--- ---- what the bytes of `.BTF.ext` spell (the kernel's Documentation/bpf/btf.rst, 4.2 ".BTF.ext section"): three parts,
--- each of sections one after the other
+-- ---- what the bytes of `.BTF.ext` spell (the kernel's Documentation/bpf/btf.rst, 4.2 ".BTF.ext
+-- section"): three parts, each of sections one after the other
 
--- A section stands from an offset up to the next one, inside its part, and has these records. They have a size that is
--- not below a least one.
-pub record IsSectionAt {S : Type 0} (o : Endianness) (bytes : List ℕ) (least size end : ℕ) (records : ℕ → Result S BtfError) (offset next : ℕ) (s : S) : Type 0 where
+-- A section stands from an offset up to the next one, inside its part, and has these records. They
+-- have a size that is not below a least one.
+pub record IsSectionAt {S : Type 0} (o : Endianness) (bytes : List ℕ) (least size end : ℕ)
+    (records : ℕ → Result S BtfError) (offset next : ℕ) (s : S)
+    : Type 0 where
   pub sound : info_sec_fault o bytes least size offset end ≡ None
   pub ends : next ≡ section_end o bytes size offset
   pub gives : records offset ≡ Ok s
 
 -- the bytes from an offset up to an end are those of some sections, one after the other
-abbrev pub AreSectionsAt : {S : Type 0} → Endianness → List ℕ → ℕ → ℕ → ℕ → (ℕ → Result S BtfError) → ℕ → List S → Type 0
+abbrev pub AreSectionsAt : {S : Type 0} → Endianness → List ℕ → ℕ → ℕ → ℕ
+    → (ℕ → Result S BtfError) → ℕ → List S → Type 0
 AreSectionsAt o bytes least size end records offset [] = offset ≡ end
 AreSectionsAt o bytes least size end records offset (s ∷ sections) =
-    (next : ℕ) × IsSectionAt o bytes least size end records offset next s × AreSectionsAt o bytes least size end records next sections
+    (next : ℕ)
+    × IsSectionAt o bytes least size end records offset next s
+    × AreSectionsAt o bytes least size end records next sections
 
 -- a part is sound and has these sections
-pub record IsPart {S : Type 0} (o : Endianness) (bytes : List ℕ) (at least : ℕ) (records : ℕ → ℕ → Result S BtfError) (sections : List S) : Type 0 where
+pub record IsPart {S : Type 0} (o : Endianness) (bytes : List ℕ) (at least : ℕ)
+    (records : ℕ → ℕ → Result S BtfError) (sections : List S)
+    : Type 0 where
   pub sound : part_fault o bytes at ≡ None
-  pub sections_are : AreSectionsAt o bytes least (record_size o bytes at) (sections_end o bytes at) (records (record_size o bytes at)) (sections_start o bytes at) sections
+  pub sections_are : AreSectionsAt o bytes least (record_size o bytes at) (sections_end o bytes at)
+      (records (record_size o bytes at)) (sections_start o bytes at) sections
 
--- The header is sound, and the parts are these func info, line info and relocations; of sections of func info or
--- line info with equal names the later stands.
+-- The header is sound, and the parts are these func info, line info and relocations; of sections of
+-- func info or line info with equal names the later stands.
 pub record SpellsExt (o : Endianness) (bytes strings : List ℕ) (ext : ExtInfo) : Type 0 where
   pub header : ext_header_fault o bytes ≡ None
-  pub funcs : (sections : List (List ℕ × FuncSecInfo)) × (ext.func_info ≡ put_all empty sections) × IsPart o bytes func_part 8 (named_func_info o bytes strings) sections
-  pub lines : (sections : List (List ℕ × LineSecInfo)) × (ext.line_info ≡ put_all empty sections) × IsPart o bytes line_part 16 (named_line_info o bytes strings) sections
+  pub funcs : (sections : List (List ℕ × FuncSecInfo))
+      × (ext.func_info ≡ put_all empty sections)
+      × IsPart o bytes func_part 8 (named_func_info o bytes strings) sections
+  pub lines : (sections : List (List ℕ × LineSecInfo))
+      × (ext.line_info ≡ put_all empty sections)
+      × IsPart o bytes line_part 16 (named_line_info o bytes strings) sections
   pub relocations : IsPart o bytes core_relo_part 16 (section_core_relos o bytes) ext.relocations
   pub func_record_size : ext.func_record_size ≡ record_size o bytes func_part
   pub line_record_size : ext.line_record_size ≡ record_size o bytes line_part

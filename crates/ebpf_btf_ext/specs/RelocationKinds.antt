@@ -1,7 +1,21 @@
--- The kinds of CO-RE relocations by their numbers (the kernel's include/uapi/linux/bpf.h, enum bpf_core_relo_kind).
+-- The kinds of CO-RE relocations by their numbers (the kernel's include/uapi/linux/bpf.h, enum
+-- bpf_core_relo_kind).
 use Rattle.std.specs.Prelude.{◌≡◌, ℕ, Option, Some, None, ◌==◌, if◌then◌else◌}
 use Rattle.ebpf_btf_ext.specs.declared.relocation.RelocationKind.{RelocationKind}
-use Rattle.ebpf_btf_ext.specs.declared.relocation.RelocationKind.TheVariants.{FieldByteOffset, FieldByteSize, FieldExists, FieldSigned, FieldLShift64, FieldRShift64, TypeIdLocal, TypeIdTarget, TypeExists, TypeSize, EnumVariantExists, EnumVariantValue}
+use Rattle.ebpf_btf_ext.specs.declared.relocation.RelocationKind.TheVariants.{
+  FieldByteOffset,
+  FieldByteSize,
+  FieldExists,
+  FieldSigned,
+  FieldLShift64,
+  FieldRShift64,
+  TypeIdLocal,
+  TypeIdTarget,
+  TypeExists,
+  TypeSize,
+  EnumVariantExists,
+  EnumVariantValue,
+}
 
 unfoldable pub relocation_kind_number : RelocationKind → ℕ
 relocation_kind_number FieldByteOffset = 0
@@ -37,8 +51,11 @@ relocation_kind n =
 
 -- the kind of a relocation that a number has is the one of the number
 abbrev pub RelocationKindsByNumber : Type 0
-RelocationKindsByNumber = (n : ℕ) (kind : RelocationKind) → relocation_kind n ≡ Some kind → relocation_kind_number kind ≡ n
+RelocationKindsByNumber =
+    (n : ℕ) (kind : RelocationKind) → relocation_kind n ≡ Some kind
+    → relocation_kind_number kind ≡ n
 
 -- each of them is found by its number
 abbrev pub NumbersOfRelocationKinds : Type 0
-NumbersOfRelocationKinds = (kind : RelocationKind) → relocation_kind (relocation_kind_number kind) ≡ Some kind
+NumbersOfRelocationKinds =
+    (kind : RelocationKind) → relocation_kind (relocation_kind_number kind) ≡ Some kind

@@ -16,7 +16,8 @@ section_with_name s (Ok name) = (name, s) ∷ []
 section_with_name s (Err e) = []
 
 abbrev pub sections_with_names : {S : Type 0} → List ℕ → List (ℕ × S) → List (List ℕ × S)
-sections_with_names strings sections = flat_map (λ s. section_with_name s.1 (text_at strings s.0)) sections
+sections_with_names strings sections =
+    flat_map (λ s. section_with_name s.1 (text_at strings s.0)) sections
 
 -- of sections with equal names the later stands
 unfoldable pub by_offsets : {S : Type 0} → List ℕ → List (ℕ × S) → FinMap text_cmp S
@@ -34,7 +35,8 @@ pub record IsCopied (strings names : List ℕ) (offset copied : ℕ) : Type 0 wh
 
 -- the names of the sections stand at these offsets of the names
 abbrev pub AreCopied : {S : Type 0} → List ℕ → List ℕ → List (ℕ × S) → List ℕ → Type 0
-AreCopied strings names sections offsets = AllZip (λ s copied. IsCopied strings names s.0 copied) sections offsets
+AreCopied strings names sections offsets =
+    AllZip (λ s copied. IsCopied strings names s.0 copied) sections offsets
 
 -- sections with these offsets instead of theirs, as far as there are some
 abbrev pub with_offsets : {S : Type 0} → List ℕ → List (ℕ × S) → List (ℕ × S)

@@ -49,7 +49,12 @@ impl Model for BtfExt {
 
     ghost Value = { ExtInfo };
 
-    ghost coded = { Prim.hlevel (codes, map.code {R = text_cmp} coded_text funcs.the_row.coded, map.code {R = text_cmp} coded_text lines.the_row.coded) };
+    ghost coded = { Prim.hlevel (
+      codes,
+      map.code {R = text_cmp} coded_text funcs.the_row.coded,
+      map.code
+          {R = text_cmp} coded_text lines.the_row.coded,
+    ) };
 
     ghost view = { λ x. record {
       func_info = x.func_info;
@@ -106,9 +111,12 @@ impl BtfExt {
         endianness: Endianness,
         btf: &Btf,
     ) -> Result<BtfExt, BtfError>
-        ensures exact { Gives is_btf_memory result (read_ext endianness «data».now btf.now.strings) }
+        ensures exact { Gives is_btf_memory result
+            (read_ext endianness «data».now btf.now.strings) }
         ensures found { IfOk result (λ ext. SpellsExt endianness «data».now btf.now.strings ext) }
-        ensures only { (ext : ExtInfo) → SpellsExt endianness «data».now btf.now.strings ext → Gives is_btf_memory result (Ok ext) }
+        ensures only { (ext : ExtInfo)
+            → SpellsExt endianness «data».now btf.now.strings ext
+            → Gives is_btf_memory result (Ok ext) }
     {
         read_parts(alloc, endianness, data, btf)
     }

@@ -104,12 +104,18 @@ pub trait SectionInfo: Clone + Drop {
 impl SectionInfo for FuncSecInfo {
     type Record = bpf_func_info;
 
-    ghost info_with = { λ offset count records. record { sec_name_offset = offset; num_info = count; func_info = records } };
+    ghost info_with = { λ offset count records.
+        record { sec_name_offset = offset; num_info = count; func_info = records } };
 
     ghost same_copy = { λ info copy same. same };
 
     fn with(sec_name_offset: u32, num_info: u32, records: Items<bpf_func_info>) -> FuncSecInfo
-        ensures { result ≡ record { sec_name_offset = sec_name_offset; num_info = num_info; func_info = records } }
+        ensures { result
+            ≡ record {
+              sec_name_offset = sec_name_offset;
+              num_info = num_info;
+              func_info = records;
+            } }
     {
         FuncSecInfo {
             sec_name_offset,
@@ -122,12 +128,18 @@ impl SectionInfo for FuncSecInfo {
 impl SectionInfo for LineSecInfo {
     type Record = bpf_line_info;
 
-    ghost info_with = { λ offset count records. record { sec_name_offset = offset; num_info = count; line_info = records } };
+    ghost info_with = { λ offset count records.
+        record { sec_name_offset = offset; num_info = count; line_info = records } };
 
     ghost same_copy = { λ info copy same. same };
 
     fn with(sec_name_offset: u32, num_info: u32, records: Items<bpf_line_info>) -> LineSecInfo
-        ensures { result ≡ record { sec_name_offset = sec_name_offset; num_info = num_info; line_info = records } }
+        ensures { result
+            ≡ record {
+              sec_name_offset = sec_name_offset;
+              num_info = num_info;
+              line_info = records;
+            } }
     {
         LineSecInfo {
             sec_name_offset,

@@ -111,7 +111,8 @@ fn read_section_head(
 ) -> Result<SectionHead, BtfError>
     requires before { offset ≤ part.end }
     requires inside { part.end ≤ length bytes.now }
-    ensures fault { fault_of result ≡ info_sec_fault order bytes.now least part.record_size offset part.end }
+    ensures fault { fault_of result
+        ≡ info_sec_fault order bytes.now least part.record_size offset part.end }
     ensures name { IfOk result (λ h. h.name_offset ≡ sec_name_off_at order bytes.now offset) }
     ensures count { IfOk result (λ h. h.count ≡ num_info_at order bytes.now offset) }
     ensures next { IfOk result (λ h. h.next ≡ section_end order bytes.now part.record_size offset) }
@@ -237,7 +238,9 @@ fn read_info_section<S: SectionInfo>(
     requires least { least ≡ S.Record.least }
     requires before { offset < part.end }
     requires inside { part.end ≤ length bytes.now }
-    ensures { GivesByOffset btf.now.strings result (info_section S.info_with S.Record.row_at least order bytes.now btf.now.strings part.record_size part.end offset) }
+    ensures { GivesByOffset btf.now.strings result
+        (info_section S.info_with S.Record.row_at least order bytes.now btf.now.strings
+        part.record_size part.end offset) }
 {
     let head = read_section_head(order, bytes, part, least, offset)?;
     btf.is_name_at(head.name_offset, "")?;
@@ -261,7 +264,11 @@ fn read_info_sections<S: SectionInfo>(
     requires least { least ≡ S.Record.least }
     requires before { part.offset ≤ part.end }
     requires inside { part.end ≤ length bytes.now }
-    ensures { Gives is_btf_memory result (by_names (sections_from (part.end - part.offset) (info_section S.info_with S.Record.row_at least order bytes.now btf.now.strings part.record_size part.end) part.offset part.end)) }
+    ensures { Gives is_btf_memory result
+        (by_names
+        (sections_from (part.end - part.offset)
+        (info_section S.info_with S.Record.row_at least order bytes.now
+        btf.now.strings part.record_size part.end) part.offset part.end)) }
 {
     let mut sections = Items::new(alloc);
     let mut offset = part.offset;
@@ -284,7 +291,11 @@ pub fn read_func_sections(
 ) -> Result<FuncInfo, BtfError>
     requires before { part.offset ≤ part.end }
     requires inside { part.end ≤ length bytes.now }
-    ensures { Gives is_btf_memory result (by_names (sections_from (part.end - part.offset) (func_section order bytes.now btf.now.strings part.record_size part.end) part.offset part.end)) }
+    ensures { Gives is_btf_memory result
+        (by_names
+        (sections_from (part.end - part.offset)
+        (func_section order bytes.now btf.now.strings part.record_size part.end)
+        part.offset part.end)) }
 {
     read_info_sections(alloc, order, bytes, btf, part, FUNC_RECORD)
 }
@@ -300,7 +311,11 @@ pub fn read_line_sections(
 ) -> Result<LineInfo, BtfError>
     requires before { part.offset ≤ part.end }
     requires inside { part.end ≤ length bytes.now }
-    ensures { Gives is_btf_memory result (by_names (sections_from (part.end - part.offset) (line_section order bytes.now btf.now.strings part.record_size part.end) part.offset part.end)) }
+    ensures { Gives is_btf_memory result
+        (by_names
+        (sections_from (part.end - part.offset)
+        (line_section order bytes.now btf.now.strings part.record_size part.end)
+        part.offset part.end)) }
 {
     read_info_sections(alloc, order, bytes, btf, part, LINE_RECORD)
 }
@@ -316,7 +331,8 @@ fn read_relocation_section(
 ) -> Result<((u32, Items<Relocation>), usize), BtfError>
     requires before { offset < part.end }
     requires inside { part.end ≤ length bytes.now }
-    ensures found { Gives is_btf_memory result (core_relo_section order bytes.now part.record_size part.end offset) }
+    ensures found { Gives is_btf_memory result
+        (core_relo_section order bytes.now part.record_size part.end offset) }
 {
     let head = read_section_head(order, bytes, part, RELOCATION, offset)?;
     let size = part.record_size as usize;
@@ -334,7 +350,10 @@ pub fn read_relocation_sections(
 ) -> Result<Items<(u32, Items<Relocation>)>, BtfError>
     requires before { part.offset ≤ part.end }
     requires inside { part.end ≤ length bytes.now }
-    ensures { Gives is_btf_memory result (sections_from (part.end - part.offset) (core_relo_section order bytes.now part.record_size part.end) part.offset part.end) }
+    ensures { Gives is_btf_memory result
+        (sections_from (part.end - part.offset)
+        (core_relo_section order bytes.now part.record_size part.end) part.offset
+        part.end) }
 {
     let mut sections = Items::new(alloc);
     let mut offset = part.offset;

@@ -194,7 +194,8 @@ fn copy_names<S>(
     strings: &[u8],
     sections: &[(u32, S)],
 ) -> Result<Option<CopiedNames>, AllocError>
-    ensures { IfOk result (λ found. IfSome found (λ c. AreCopied strings.now c.names sections.now c.offsets.items)) }
+    ensures { IfOk result (λ found.
+        IfSome found (λ c. AreCopied strings.now c.names sections.now c.offsets.items)) }
 {
     let room = sections.len().saturating_mul(NAME).min(strings.len());
     let mut names = Items::from_vec(Vec::with_capacity(alloc, room)?);
@@ -272,7 +273,8 @@ impl<S: Drop> SectionsByName<S> {
 impl<S: SectionInfo> SectionsByName<S> {
     /// A copy of what a section has; where there is none an empty list, with the count and the offset 0.
     pub fn get(&self, name: &str) -> Result<S, AllocError>
-        ensures { IfOk result (λ info. info ≡ unwrap_or (map.get self.now name.now) (S.info_with 0 0 [])) }
+        ensures { IfOk result (λ info.
+            info ≡ unwrap_or (map.get self.now name.now) (S.info_with 0 0 [])) }
     {
         match self.section(name) {
             Some(info) => info.clone(),
@@ -291,7 +293,11 @@ impl<S> SectionsByName<S> {
 
     /// What all sections have, where the sections of these names are found in one pass, in which of each section's name
     /// no more is looked at than the longest of them has. `Err` where memory is refused.
-    pub fn with_found(&self, alloc: Global, names: &[&str]) -> Result<FoundSections<'_, S>, AllocError>
+    pub fn with_found(
+        &self,
+        alloc: Global,
+        names: &[&str],
+    ) -> Result<FoundSections<'_, S>, AllocError>
         ensures { IfOk result (λ found. found ≡ self.now) }
     {
         FoundSections::gather(

@@ -50,7 +50,8 @@ impl RelocationKind {
 impl TryFrom<u32> for RelocationKind {
     type Error = BtfError;
 
-    ghost try_from_gives = { λ number result. result ≡ ok_or (relocation_kind number) (InvalidRelocationKind number) };
+    ghost try_from_gives = { λ number result.
+        result ≡ ok_or (relocation_kind number) (InvalidRelocationKind number) };
 
     /// The kind of a number. `InvalidRelocationKind` past 11.
     #[tactic(auto, unfolding(crate::specs::RelocationKinds::relocation_kind))]

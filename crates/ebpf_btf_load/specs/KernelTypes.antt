@@ -1,5 +1,42 @@
--- The types of an object as the kernel takes them: the words that are written among their bytes, and the types that come of it.
-use Rattle.std.specs.Prelude.{ℕ, ◌+◌, nat_lt, List, [], ◌∷◌, ◌++◌, length, codes, Option, None, Result, Ok, Err, if◌then◌else◌, nat_le, take, drop, fold, Bool, true, false, ◌||◌, Some, option_map, zero, suc, ◌*◌, not, ◌&&◌, ◌==◌, map, slice_get, ◌≡◌, ◌<◌}
+-- The types of an object as the kernel takes them: the words that are written among their bytes,
+-- and the types that come of it.
+use Rattle.std.specs.Prelude.{
+  ℕ,
+  ◌+◌,
+  nat_lt,
+  List,
+  [],
+  ◌∷◌,
+  ◌++◌,
+  length,
+  codes,
+  Option,
+  None,
+  Result,
+  Ok,
+  Err,
+  if◌then◌else◌,
+  nat_le,
+  take,
+  drop,
+  fold,
+  Bool,
+  true,
+  false,
+  ◌||◌,
+  Some,
+  option_map,
+  zero,
+  suc,
+  ◌*◌,
+  not,
+  ◌&&◌,
+  ◌==◌,
+  map,
+  slice_get,
+  ◌≡◌,
+  ◌<◌,
+}
 use Rattle.std.specs.List.{find, flat_map, All}
 use Rattle.std.specs.Option.{option_map_or}
 use Rattle.ebpf_base.specs.Faults.{fault_of, or_else, first_of, first_in, if_ok}
@@ -18,42 +55,92 @@ use Rattle.ebpf_elf.specs.Names.{is_name}
 use Rattle.ebpf_elf.specs.Sections.{SectionOf, data_faults, data_of, section_name, sections}
 use Rattle.ebpf_btf.specs.declared.members.BtfParam.{BtfParam}
 use Rattle.ebpf_btf.specs.declared.error.BtfError as btf_errors
-use Rattle.ebpf_btf_load.specs.SectionWords.{data_words, kconfig_words, full_size, placed_rows, in_offset_order, extern_places, rooms_end, kconfig_rows, rooms_in}
-use Rattle.ebpf_btf_load.specs.KsymsSections.{hidden_words, ksyms_words, all_strings, standin_bytes, standins_or_fault, linkage_by, linkage_in, linkages_of, ksyms_rows, first_int, standins_with}
-use Rattle.ebpf_btf_load.specs.TypeSources.{symbol_table_bytes, TypeSources, list_or_none, if_no_fault, type_starts}
+use Rattle.ebpf_btf_load.specs.SectionWords.{
+  data_words,
+  kconfig_words,
+  full_size,
+  placed_rows,
+  in_offset_order,
+  extern_places,
+  rooms_end,
+  kconfig_rows,
+  rooms_in,
+}
+use Rattle.ebpf_btf_load.specs.KsymsSections.{
+  hidden_words,
+  ksyms_words,
+  all_strings,
+  standin_bytes,
+  standins_or_fault,
+  linkage_by,
+  linkage_in,
+  linkages_of,
+  ksyms_rows,
+  first_int,
+  standins_with,
+}
+use Rattle.ebpf_btf_load.specs.TypeSources.{
+  symbol_table_bytes,
+  TypeSources,
+  list_or_none,
+  if_no_fault,
+  type_starts,
+}
 use Rattle.ebpf_btf_load.specs.declared.ksyms.Standins.{Standins}
 use Rattle.ebpf_btf_load.specs.declared.error.KernelTypesError.{KernelTypesError}
-use Rattle.ebpf_btf_load.specs.declared.error.KernelTypesError.TheVariants.{TooLarge, OutOfMemory, BtfError, ElfError}
+use Rattle.ebpf_btf_load.specs.declared.error.KernelTypesError.TheVariants.{
+  TooLarge,
+  OutOfMemory,
+  BtfError,
+  ElfError,
+}
 use Rattle.ebpf_btf_load.specs.declared.words.WrittenWord.{WrittenWord}
 use Rattle.ebpf_btf_load.specs.declared.data_sections.PlacedRow.{PlacedRow}
 
--- ---- the types of an object as the kernel takes them, and the words that are written among their bytes.
+-- ---- the types of an object as the kernel takes them, and the words that are written among their
+-- bytes.
 
 -- the words of a DATASEC, by its name
-abbrev pub few_rows_words : TypeSources → Standins → ℕ → ℕ → ℕ → List DataSecEntry → Result (List WrittenWord) KernelTypesError
+abbrev pub few_rows_words : TypeSources
+    → Standins
+    → ℕ
+    → ℕ
+    → ℕ
+    → List DataSecEntry
+    → Result (List WrittenWord) KernelTypesError
 few_rows_words g s id name size rows =
     if is_text (codes ".ksyms") (text_at g.types.strings name) then ksyms_words g s id rows
     else if is_text (codes ".kconfig") (text_at g.types.strings name) then kconfig_words g id rows
     else data_words g id name size rows
 
--- the words of a type: those of a DATASEC, which has no more than 65,535 entries in a file; other types have none
-unfoldable pub section_type_words : TypeSources → Standins → ℕ → BtfType → Result (List WrittenWord) KernelTypesError
-section_type_words g s id (DataSec name size rows) = if nat_lt 65535 (length rows) then Err TooLarge else few_rows_words g s id name size rows
+-- the words of a type: those of a DATASEC, which has no more than 65,535 entries in a file; other
+-- types have none
+unfoldable pub section_type_words : TypeSources
+    → Standins
+    → ℕ
+    → BtfType
+    → Result (List WrittenWord) KernelTypesError
+section_type_words g s id (DataSec name size rows) =
+    if nat_lt 65535 (length rows) then Err TooLarge else few_rows_words g s id name size rows
 section_type_words g s id _ = Ok []
 
 -- those of types by their ids from one on
 abbrev pub types_words : TypeSources → Standins → ℕ → List BtfType → List WrittenWord
 types_words g s id [] = []
-types_words g s id (t ∷ ts) = list_or_none (section_type_words g s id t) ++ types_words g s (id + 1) ts
+types_words g s id (t ∷ ts) =
+    list_or_none (section_type_words g s id t) ++ types_words g s (id + 1) ts
 
 -- the first fault
 abbrev pub type_words_fault : TypeSources → Standins → ℕ → List BtfType → Option KernelTypesError
 type_words_fault g s id [] = None
-type_words_fault g s id (t ∷ ts) = or_else (fault_of (section_type_words g s id t)) (type_words_fault g s (id + 1) ts)
+type_words_fault g s id (t ∷ ts) =
+    or_else (fault_of (section_type_words g s id t)) (type_words_fault g s (id + 1) ts)
 
 -- those of DATASECs, then those of hidden functions; later words stand
 abbrev pub all_words : TypeSources → Standins → Result (List WrittenWord) KernelTypesError
-all_words g s = if_no_fault (type_words_fault g s 0 g.types.types) (Ok (types_words g s 0 g.types.types ++ hidden_words g))
+all_words g s =
+    if_no_fault (type_words_fault g s 0 g.types.types)
+    (Ok (types_words g s 0 g.types.types ++ hidden_words g))
 
 -- ---- words that are written over others
 
@@ -77,14 +164,17 @@ abbrev pub is_kernel_types_memory : KernelTypesError → Bool
 is_kernel_types_memory OutOfMemory = true
 is_kernel_types_memory _ = false
 
--- The types of an object as the kernel takes them: `.BTF` of its file, but for the words that are written, and what is
--- appended.
+-- The types of an object as the kernel takes them: `.BTF` of its file, but for the words that are
+-- written, and what is appended.
 
 -- ---- bytes
 
 -- the bytes of the types; none where the header is wrong
 abbrev pub part_of : Endianness → List ℕ → List ℕ
-part_of order bytes = if nat_lt (length bytes) 24 || nat_lt (length bytes) (types_end order bytes) then [] else types_part order bytes
+part_of order bytes =
+    if nat_lt (length bytes) 24 || nat_lt (length bytes) (types_end order bytes)
+    then []
+    else types_part order bytes
 
 -- a header, types and strings, each of fewer than 2 ^ 32 bytes
 abbrev pub btf_part : Endianness → List ℕ → List ℕ → Result (List ℕ) KernelTypesError
@@ -95,13 +185,17 @@ btf_part order types strings =
 
 -- the bytes of the types with words written, and of what is appended
 abbrev pub all_types : TypeSources → Standins → List WrittenWord → List ℕ
-all_types g s words = words_over g.order g.part words ++ standin_bytes g.order (length g.types.strings) s
+all_types g s words =
+    words_over g.order g.part words ++ standin_bytes g.order (length g.types.strings) s
 
-abbrev pub written_types : TypeSources → Standins → List WrittenWord → Result (List ℕ) KernelTypesError
+abbrev pub written_types : TypeSources → Standins → List WrittenWord
+    → Result (List ℕ) KernelTypesError
 written_types g s words = btf_part g.order (all_types g s words) (all_strings g.types s)
 
 abbrev pub types_of_sources : TypeSources → Result (List ℕ) KernelTypesError
-types_of_sources g = if_ok (standins_or_fault g.types) (λ s. if_ok (all_words g s) (λ words. written_types g s words))
+types_of_sources g =
+    if_ok (standins_or_fault g.types) (λ s.
+    if_ok (all_words g s) (λ words. written_types g s words))
 
 -- ---- the file
 
@@ -123,10 +217,13 @@ abbrev pub types_read : Endianness → List ℕ → Result TypeInfo KernelTypesE
 types_read order bytes = types_or_fault (type_info_of order bytes)
 
 abbrev pub types_of_bytes : List ℕ → List ℕ → Result (List ℕ) KernelTypesError
-types_of_bytes file bytes = if_ok (types_read (ei_data file) bytes) (λ types. types_of_sources (sources_of file bytes types))
+types_of_bytes file bytes =
+    if_ok (types_read (ei_data file) bytes) (λ types.
+    types_of_sources (sources_of file bytes types))
 
 abbrev pub types_of_section : List ℕ → SectionOf → Result (List ℕ) KernelTypesError
-types_of_section file s = if_no_fault (option_map ElfError (first_of (data_faults s))) (types_of_bytes file (data_of s))
+types_of_section file s =
+    if_no_fault (option_map ElfError (first_of (data_faults s))) (types_of_bytes file (data_of s))
 
 abbrev pub types_of_found : List ℕ → Option SectionOf → Result (Option (List ℕ)) KernelTypesError
 types_of_found file None = Ok None
@@ -144,8 +241,9 @@ btf_section file = find (λ s. is_name (codes ".BTF") (section_name s)) (section
 unfoldable pub kernel_types_of : List ℕ → Result (Option (List ℕ)) KernelTypesError
 kernel_types_of file = if_no_fault (no_file_fault file) (types_of_found file (btf_section file))
 
--- ---- the types that the kernel is handed: those of the file, with what becomes of some of them, and then the types that stand
--- in. Each keeps its id. FUNCs stay as they are: their linkage stands in their bytes and is no part of a type.
+-- ---- the types that the kernel is handed: those of the file, with what becomes of some of them,
+-- and then the types that stand in. Each keeps its id. FUNCs stay as they are: their linkage stands
+-- in their bytes and is no part of a type.
 
 -- ---- changes of types
 
@@ -161,14 +259,16 @@ pub data Change : Type 0 where
   ParamNames : ℕ → Change
 
 abbrev pub named_param : ℕ → BtfParam → BtfParam
-named_param name p = if not (p.btf_type == 0) && p.name_offset == 0 then record p { name_offset = name } else p
+named_param name p =
+    if not (p.btf_type == 0) && p.name_offset == 0 then record p { name_offset = name } else p
 
 -- a type with a change; of another kind it stays
 unfoldable pub changed : BtfType → Change → BtfType
 changed (DataSec name _ _) (Entries size entries) = DataSec name size entries
 changed (Var name type _) (Linkage linkage) = Var name type linkage
 changed (Var name _ _) (TypeAndLinkage type linkage) = Var name type linkage
-changed (FuncProto offset type params) (ParamNames name) = FuncProto offset type (map (named_param name) params)
+changed (FuncProto offset type params) (ParamNames name) =
+    FuncProto offset type (map (named_param name) params)
 changed t _ = t
 
 -- whether a type is of a kind that may change; all others stay
@@ -200,33 +300,43 @@ with_changes types changes = fold with_change types changes
 abbrev pub changed_by : List TypeChange → ℕ → BtfType → BtfType
 changed_by changes id t = fold (λ now c. if c.id == id then changed now c.change else now) t changes
 
--- ---- `.ksyms`: an entry takes 4 bytes, one behind the other, and FUNCs are replaced by the variable that stands in
+-- ---- `.ksyms`: an entry takes 4 bytes, one behind the other, and FUNCs are replaced by the
+-- variable that stands in
 
 -- what an entry names: a FUNC's parameters get names, a VAR the type of 4 bytes and global linkage
 abbrev pub extern_changes : Standins → ℕ → Option BtfType → List TypeChange
-extern_changes s id (Some (Func name proto)) = record { id = proto; change = ParamNames s.name_offset } ∷ []
-extern_changes s id (Some (Var name type linkage)) = record { id = id; change = TypeAndLinkage s.int_id 1 } ∷ []
+extern_changes s id (Some (Func name proto)) =
+    record { id = proto; change = ParamNames s.name_offset } ∷ []
+extern_changes s id (Some (Var name type linkage)) =
+    record { id = id; change = TypeAndLinkage s.int_id 1 } ∷ []
 extern_changes s id _ = []
 
 abbrev pub externs_changes : TypeInfo → Standins → List DataSecEntry → List TypeChange
-externs_changes types s rows = flat_map (λ row. extern_changes s row.btf_type (slice_get types.types row.btf_type)) rows
+externs_changes types s rows =
+    flat_map (λ row. extern_changes s row.btf_type (slice_get types.types row.btf_type)) rows
 
 abbrev pub ksyms_changes : TypeInfo → Standins → ℕ → List DataSecEntry → List TypeChange
 ksyms_changes types s id rows =
     record { id = id; change = Entries (length rows * 4) (ksyms_rows types s 0 rows) }
     ∷ externs_changes types s rows
 
--- ---- `.kconfig`: the size of the map's value, the offsets of the externs in it, and global linkage
+-- ---- `.kconfig`: the size of the map's value, the offsets of the externs in it, and global
+-- linkage
 
 abbrev pub global_changes : List DataSecEntry → List TypeChange
 global_changes rows = map (λ row. record { id = row.btf_type; change = Linkage 1 }) rows
 
 abbrev pub kconfig_changes : TypeInfo → ℕ → List DataSecEntry → List TypeChange
 kconfig_changes types id rows =
-    record { id = id; change = Entries (rooms_end 0 (rooms_in types [] rows)) (in_offset_order (kconfig_rows (extern_places 0 (rooms_in types [] rows)) rows)) }
+    record {
+      id = id;
+      change = Entries (rooms_end 0 (rooms_in types [] rows))
+          (in_offset_order (kconfig_rows (extern_places 0 (rooms_in types [] rows)) rows));
+    }
     ∷ global_changes rows
 
--- ---- own variables: the section's size, the symbols' addresses, and hidden variables become static
+-- ---- own variables: the section's size, the symbols' addresses, and hidden variables become
+-- static
 
 -- a size that was found (where there is none, no types are handed)
 abbrev pub found_size : Result ℕ KernelTypesError → ℕ
@@ -234,7 +344,10 @@ found_size (Ok size) = size
 found_size (Err e) = 0
 
 abbrev pub static_changes : List PlacedRow → List TypeChange
-static_changes placed = flat_map (λ p. if p.is_hidden then record { id = p.row.btf_type; change = Linkage 0 } ∷ [] else []) placed
+static_changes placed =
+    flat_map
+    (λ p. if p.is_hidden then record { id = p.row.btf_type; change = Linkage 0 } ∷ [] else [])
+    placed
 
 abbrev pub placed_changes : ℕ → ℕ → List PlacedRow → List TypeChange
 placed_changes id size placed =
@@ -242,7 +355,8 @@ placed_changes id size placed =
     ∷ static_changes placed
 
 abbrev pub data_changes : TypeSources → ℕ → ℕ → ℕ → List DataSecEntry → List TypeChange
-data_changes g id name size rows = placed_changes id (found_size (full_size g id name size)) (placed_rows g (size == 0) rows)
+data_changes g id name size rows =
+    placed_changes id (found_size (full_size g id name size)) (placed_rows g (size == 0) rows)
 
 -- ---- all types
 
@@ -250,7 +364,8 @@ data_changes g id name size rows = placed_changes id (found_size (full_size g id
 unfoldable pub section_changes : TypeSources → Standins → ℕ → BtfType → List TypeChange
 section_changes g s id (DataSec name size rows) =
     if is_text (codes ".ksyms") (text_at g.types.strings name) then ksyms_changes g.types s id rows
-    else if is_text (codes ".kconfig") (text_at g.types.strings name) then kconfig_changes g.types id rows
+    else if is_text (codes ".kconfig") (text_at g.types.strings name)
+    then kconfig_changes g.types id rows
     else data_changes g id name size rows
 section_changes g s id _ = []
 
@@ -292,21 +407,29 @@ btf_bytes file = option_map_or data_of (btf_section file) []
 abbrev pub sources_in : List ℕ → TypeInfo → TypeSources
 sources_in file types = sources_of file (btf_bytes file) types
 
--- The bytes that the kernel is handed are read as the types that are stated: `.BTF` of the file gives types, and these bytes
--- give the file's types with what becomes of them, and its strings with the names that are appended.
+-- The bytes that the kernel is handed are read as the types that are stated: `.BTF` of the file
+-- gives types, and these bytes give the file's types with what becomes of them, and its strings
+-- with the names that are appended.
 abbrev pub KernelTypesAreRead : Type 0
-KernelTypesAreRead = (file handed : List ℕ) → All (λ b. b < 256) file → kernel_types_of file ≡ Ok (Some handed)
+KernelTypesAreRead =
+    (file handed : List ℕ) → All (λ b. b < 256) file → kernel_types_of file ≡ Ok (Some handed)
     → (types : TypeInfo)
     × (type_info_of (ei_data file) (btf_bytes file) ≡ Ok types)
     × (type_info_of (ei_data file) handed ≡ Ok (kernel_type_info (sources_in file types)))
 
--- In these bytes each FUNC of the file has the linkage that is stated, or else the one that it has in the file.
+-- In these bytes each FUNC of the file has the linkage that is stated, or else the one that it has
+-- in the file.
 abbrev pub FunctionLinkagesAreStated : Type 0
-FunctionLinkagesAreStated = (file handed : List ℕ) (types : TypeInfo) → All (λ b. b < 256) file → kernel_types_of file ≡ Ok (Some handed)
+FunctionLinkagesAreStated =
+    (file handed : List ℕ) (types : TypeInfo)
+    → All (λ b. b < 256) file
+    → kernel_types_of file ≡ Ok (Some handed)
     → type_info_of (ei_data file) (btf_bytes file) ≡ Ok types
     → (id name proto : ℕ) → slice_get types.types id ≡ Some (Func name proto)
-    → linkage_in (ei_data file) (types_part (ei_data file) handed) (kernel_type_info (sources_in file types)).types id
-    ≡ linkage_by (linkages_of (sources_in file types)) id (linkage_in (ei_data file) (types_part (ei_data file) (btf_bytes file)) types.types id)
+    → linkage_in (ei_data file) (types_part (ei_data file) handed)
+    (kernel_type_info (sources_in file types)).types id
+    ≡ linkage_by (linkages_of (sources_in file types)) id
+    (linkage_in (ei_data file) (types_part (ei_data file) (btf_bytes file)) types.types id)
 
 -- Each type keeps its id, and what becomes of it is by the changes of its id alone.
 abbrev pub TypesKeepIds : Type 0
@@ -315,9 +438,13 @@ TypesKeepIds = (g : TypeSources) (id : ℕ) (t : BtfType) → slice_get g.types.
 
 -- A type that is no DATASEC, VAR or FUNC_PROTO stays.
 abbrev pub OtherTypesStay : Type 0
-OtherTypesStay = (g : TypeSources) (id : ℕ) (t : BtfType) → slice_get g.types.types id ≡ Some t → may_change t ≡ false
+OtherTypesStay =
+    (g : TypeSources) (id : ℕ) (t : BtfType) → slice_get g.types.types id ≡ Some t
+    → may_change t ≡ false
     → slice_get (kernel_type_info g).types id ≡ Some t
 
 -- The types that stand in are the ones behind them.
 abbrev pub StandinsAreLast : Type 0
-StandinsAreLast = (g : TypeSources) → drop (length g.types.types) (kernel_type_info g).types ≡ standin_types g.types (standins_of g)
+StandinsAreLast =
+    (g : TypeSources)
+    → drop (length g.types.types) (kernel_type_info g).types ≡ standin_types g.types (standins_of g)

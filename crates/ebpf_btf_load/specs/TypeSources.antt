@@ -1,5 +1,34 @@
--- What the words of sections are found from, where types stand among bytes, and symbols by binding, type and visibility (ELF-64 gABI, 'Symbol Table': st_info, st_other).
-use Rattle.std.specs.Prelude.{ℕ, nat_le, List, [], ◌∷◌, length, slice_get, unwrap_or, if◌then◌else◌, ◌+◌, Option, Some, None, Result, Ok, Err, ◌*◌, ◌/◌, ◌%◌, Bool, false, ◌&&◌, ◌||◌, ◌==◌, nat_lt, slice_index, is_none}
+-- What the words of sections are found from, where types stand among bytes, and symbols by binding,
+-- type and visibility (ELF-64 gABI, 'Symbol Table': st_info, st_other).
+use Rattle.std.specs.Prelude.{
+  ℕ,
+  nat_le,
+  List,
+  [],
+  ◌∷◌,
+  length,
+  slice_get,
+  unwrap_or,
+  if◌then◌else◌,
+  ◌+◌,
+  Option,
+  Some,
+  None,
+  Result,
+  Ok,
+  Err,
+  ◌*◌,
+  ◌/◌,
+  ◌%◌,
+  Bool,
+  false,
+  ◌&&◌,
+  ◌||◌,
+  ◌==◌,
+  nat_lt,
+  slice_index,
+  is_none,
+}
 use Rattle.std.specs.List.{find}
 use Rattle.std.specs.Option.{option_map_or}
 use Rattle.ebpf_base.specs.declared.endianness.Endianness.{Endianness}
@@ -20,15 +49,18 @@ use Rattle.ebpf_btf_load.specs.declared.sections.Sources.{Sources}
 
 -- ---- where each type stands among the bytes of types
 
--- where a type of a kind that begins at an offset ends; there, where it has no bytes, as void, or passes the end
+-- where a type of a kind that begins at an offset ends; there, where it has no bytes, as void, or
+-- passes the end
 unfoldable pub type_end : Endianness → List ℕ → ℕ → BtfKind → ℕ
 type_end o part offset kinds.Unknown = offset
-type_end o part offset kind = if nat_le (end_of o part offset kind) (length part) then end_of o part offset kind else offset
+type_end o part offset kind =
+    if nat_le (end_of o part offset kind) (length part) then end_of o part offset kind else offset
 
 -- where types stand that follow each other from an offset on
 abbrev pub type_starts : Endianness → List ℕ → ℕ → List BtfType → List ℕ
 type_starts o part offset [] = []
-type_starts o part offset (t ∷ ts) = offset ∷ type_starts o part (type_end o part offset (kind_of t)) ts
+type_starts o part offset (t ∷ ts) =
+    offset ∷ type_starts o part (type_end o part offset (kind_of t)) ts
 
 -- where the type with an id stands
 abbrev pub start_of : List ℕ → ℕ → ℕ
@@ -64,14 +96,23 @@ list_or_none (Ok xs) = xs
 list_or_none (Err e) = []
 
 -- an answer, unless there is a fault
-abbrev pub if_no_fault : {X : Type 0} → Option KernelTypesError → Result X KernelTypesError → Result X KernelTypesError
+abbrev pub if_no_fault : {X : Type 0} → Option KernelTypesError → Result X KernelTypesError
+    → Result X KernelTypesError
 if_no_fault None answer = answer
 if_no_fault (Some e) answer = Err e
 
 -- ---- what contracts of private functions name and no public one
 
 abbrev pub given_of : Sources → TypeSources
-given_of s = record { order = s.order; part = s.part.now; types = s.types.now; starts = s.starts.now; file = s.file.now; table = s.table.now }
+given_of s =
+    record {
+      order = s.order;
+      part = s.part.now;
+      types = s.types.now;
+      starts = s.starts.now;
+      file = s.file.now;
+      table = s.table.now;
+    }
 
 -- ---- symbols by binding, type and visibility (ELF-64 gABI, 'Symbol Table': st_info, st_other).
 
@@ -85,11 +126,13 @@ entry_bytes s = if is_none (first_of (data_faults s)) then data_of s else []
 
 -- the entries of the symbols, 24 bytes each
 abbrev pub symbol_table_bytes : List ℕ → List ℕ
-symbol_table_bytes file = option_map_or entry_bytes (find (λ s. is_symbol_table s) (sections file)) []
+symbol_table_bytes file =
+    option_map_or entry_bytes (find (λ s. is_symbol_table s) (sections file)) []
 
 -- a byte of a symbol's entry
 unfoldable pub symbol_byte : List ℕ → ℕ → ℕ → ℕ
-symbol_byte table index within = if nat_lt index (length table / 24) then slice_index table (24 * index + within) else 0
+symbol_byte table index within =
+    if nat_lt index (length table / 24) then slice_index table (24 * index + within) else 0
 
 -- STB_GLOBAL or STB_WEAK, in the high half of st_info
 abbrev pub is_bound : List ℕ → SymbolOf → Bool
@@ -116,8 +159,11 @@ abbrev pub has_btf_name : List ℕ → ℕ → SymbolOf → Bool
 has_btf_name strings offset s = is_btf_name strings offset (symbol_name s)
 
 abbrev pub is_variable_symbol : List ℕ → List ℕ → ℕ → SymbolOf → Bool
-is_variable_symbol table strings offset s = is_object_symbol table s && has_btf_name strings offset s
+is_variable_symbol table strings offset s =
+    is_object_symbol table s && has_btf_name strings offset s
 
--- the first symbol of a variable with the name at an offset of the strings (libbpf 1.5, libbpf.c: find_elf_var_sym)
+-- the first symbol of a variable with the name at an offset of the strings (libbpf 1.5, libbpf.c:
+-- find_elf_var_sym)
 abbrev pub variable_symbol : List ℕ → List ℕ → List ℕ → ℕ → Option SymbolOf
-variable_symbol file table strings offset = find (λ s. is_variable_symbol table strings offset s) (symbols file)
+variable_symbol file table strings offset =
+    find (λ s. is_variable_symbol table strings offset s) (symbols file)

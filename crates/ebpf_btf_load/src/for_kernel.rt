@@ -32,7 +32,8 @@ fn section_type_words(
     type_id: u32,
     ty: &BtfType<'_>,
 ) -> Result<Items<WrittenWord>, KernelTypesError>
-    ensures { Gives is_kernel_types_memory result (section_type_words (given_of sources.now) standins type_id ty.now) }
+    ensures { Gives is_kernel_types_memory result
+        (section_type_words (given_of sources.now) standins type_id ty.now) }
 {
     match ty {
         BtfType::DataSec {
@@ -61,8 +62,10 @@ fn types_words(
     sources: &Sources<'_>,
     standins: Standins,
 ) -> Result<Items<WrittenWord>, KernelTypesError>
-    ensures words { IfOk result (λ words. words ≡ types_words (given_of sources.now) standins 0 sources.now.types.now.types) }
-    ensures fault { Refuses is_kernel_types_memory result (type_words_fault (given_of sources.now) standins 0 sources.now.types.now.types) }
+    ensures words { IfOk result (λ words.
+        words ≡ types_words (given_of sources.now) standins 0 sources.now.types.now.types) }
+    ensures fault { Refuses is_kernel_types_memory result
+        (type_words_fault (given_of sources.now) standins 0 sources.now.types.now.types) }
 {
     let mut words = Items::new(alloc);
     let mut id = 0usize;
@@ -160,7 +163,8 @@ fn all_types(
     words: &[WrittenWord],
 ) -> Result<Vec<u8>, AllocError>
     requires { length sources.now.types.now.strings < 2 ^ 32 }
-    ensures { IfOk result (λ part. part.items ≡ all_types (given_of sources.now) standins words.now) }
+    ensures { IfOk result (λ part.
+        part.items ≡ all_types (given_of sources.now) standins words.now) }
 {
     let mut part = Vec::from_slice(alloc, sources.part)?;
     write_words(sources.order, &mut part, words);
@@ -177,7 +181,8 @@ fn written_types(
     words: &[WrittenWord],
 ) -> Result<Items<u8>, KernelTypesError>
     requires { length sources.now.types.now.strings < 2 ^ 32 }
-    ensures { Gives is_kernel_types_memory result (written_types (given_of sources.now) standins words.now) }
+    ensures { Gives is_kernel_types_memory result
+        (written_types (given_of sources.now) standins words.now) }
 {
     let part = all_types(alloc, sources, standins, words)?;
     let strings = all_strings(alloc, sources.types, standins)?;
@@ -302,7 +307,8 @@ fn types_in(alloc: Global, file: &[u8]) -> Result<Option<Items<u8>>, KernelTypes
 /// a VAR nor a FUNC; of `.kconfig` `NotAVariable`, `UnsupportedExtern`, and `TooLarge` where the value passes 32 bits. At
 /// last `TooLarge` where types or strings take 2^32 bytes. `OutOfMemory` only where memory was refused.
 pub fn kernel_types(alloc: Global, file: &[u8]) -> Result<Option<Vec<u8>>, KernelTypesError>
-    ensures types { IfOk result (λ types. kernel_types_of file.now ≡ Ok (option_map (λ bytes. bytes.items) types)) }
+    ensures types { IfOk result (λ types.
+        kernel_types_of file.now ≡ Ok (option_map (λ bytes. bytes.items) types)) }
     ensures fault { Refuses is_kernel_types_memory result (fault_of (kernel_types_of file.now)) }
 {
     match types_in(alloc, file)? {

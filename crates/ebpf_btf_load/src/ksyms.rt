@@ -191,7 +191,8 @@ pub fn append_types(
     standins: Standins,
     part: &mut Vec<u8>,
 ) -> Result<(), AllocError>
-    ensures { OnOk result (part.new.items ≡ part.old.items ++ standin_bytes order int_name standins) }
+    ensures { OnOk result
+        (part.new.items ≡ part.old.items ++ standin_bytes order int_name standins) }
 {
     if standins.adds_int {
         append_words(order, part, &[int_name, 0x0100_0000, 4, 0x0100_0020])?;
@@ -263,7 +264,8 @@ fn params_or_fault(
     proto: u32,
     ty: &BtfType<'_>,
 ) -> Result<Items<WrittenWord>, KernelTypesError>
-    ensures { Gives is_kernel_types_memory result (params_or_fault (given_of sources.now) name_offset proto ty.now) }
+    ensures { Gives is_kernel_types_memory result
+        (params_or_fault (given_of sources.now) name_offset proto ty.now) }
 {
     match ty {
         BtfType::FuncProto { params, .. } => {
@@ -284,7 +286,8 @@ fn proto_words(
     name_offset: u32,
     proto: u32,
 ) -> Result<Items<WrittenWord>, KernelTypesError>
-    ensures { Gives is_kernel_types_memory result (proto_words (given_of sources.now) name_offset proto) }
+    ensures { Gives is_kernel_types_memory result
+        (proto_words (given_of sources.now) name_offset proto) }
 {
     match sources.types.get(proto as usize) {
         Some(ty) => params_or_fault(alloc, sources, name_offset, proto, &ty),
@@ -300,7 +303,8 @@ fn function_words(
     type_id: u32,
     proto: u32,
 ) -> Result<Items<WrittenWord>, KernelTypesError>
-    ensures { Gives is_kernel_types_memory result (extern_function_words (given_of sources.now) name_offset type_id proto) }
+    ensures { Gives is_kernel_types_memory result
+        (extern_function_words (given_of sources.now) name_offset type_id proto) }
 {
     let mut words = Items::new(alloc);
     words.push(WrittenWord {
@@ -319,7 +323,8 @@ fn variable_words(
     int_id: u32,
     type_id: u32,
 ) -> Result<Items<WrittenWord>, AllocError>
-    ensures { IfOk result (λ words. words ≡ extern_variable_words (given_of sources.now) int_id type_id) }
+    ensures { IfOk result (λ words.
+        words ≡ extern_variable_words (given_of sources.now) int_id type_id) }
 {
     let mut words = Items::new(alloc);
     words.push(WrittenWord {
@@ -341,7 +346,8 @@ fn extern_words(
     standins: Standins,
     type_id: u32,
 ) -> Result<Items<WrittenWord>, KernelTypesError>
-    ensures { Gives is_kernel_types_memory result (extern_words (given_of sources.now) standins type_id) }
+    ensures { Gives is_kernel_types_memory result
+        (extern_words (given_of sources.now) standins type_id) }
 {
     match sources.types.type_by_id(type_id) {
         Ok(BtfType::Func { btf_type, .. }) => {
@@ -359,8 +365,10 @@ fn externs_words(
     standins: Standins,
     rows: &Rows<'_, DataSecEntry>,
 ) -> Result<Items<WrittenWord>, KernelTypesError>
-    ensures words { IfOk result (λ words. words ≡ externs_words (given_of sources.now) standins rows.now) }
-    ensures fault { Refuses is_kernel_types_memory result (ksyms_fault (given_of sources.now) standins rows.now) }
+    ensures words { IfOk result (λ words.
+        words ≡ externs_words (given_of sources.now) standins rows.now) }
+    ensures fault { Refuses is_kernel_types_memory result
+        (ksyms_fault (given_of sources.now) standins rows.now) }
 {
     let mut words = Items::new(alloc);
     for row in rows.iter() {
@@ -413,7 +421,8 @@ pub fn ksyms_words(
     rows: &Rows<'_, DataSecEntry>,
 ) -> Result<Items<WrittenWord>, KernelTypesError>
     requires { length rows.now < 2 ^ 16 }
-    ensures { Gives is_kernel_types_memory result (ksyms_words (given_of sources.now) standins type_id rows.now) }
+    ensures { Gives is_kernel_types_memory result
+        (ksyms_words (given_of sources.now) standins type_id rows.now) }
 {
     let others = externs_words(alloc, sources, standins, rows)?;
     let placed = ksyms_rows(alloc, sources.types, standins, rows)?;

@@ -71,7 +71,9 @@ fn is_named(types: &Btf, name_offset: u32, section: &ElfSection<'_>) -> bool
 
 /// The first section with the name at an offset of the strings of types.
 fn section_named<'a>(file: &ElfFile<'a>, types: &Btf, name_offset: u32) -> Option<ElfSection<'a>>
-    ensures { result ≡ find (λ s. is_btf_name types.now.strings name_offset (section_name s)) (sections file.now) }
+    ensures { result
+        ≡ find (λ s. is_btf_name types.now.strings name_offset (section_name s))
+        (sections file.now) }
 {
     for section in file.sections() {
         if is_named(types, name_offset, &section) {

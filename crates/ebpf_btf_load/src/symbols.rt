@@ -223,7 +223,8 @@ fn hidden_words_in(
     sources: &Sources<'_>,
     text: usize,
 ) -> Result<Items<WrittenWord>, AllocError>
-    ensures { IfOk result (λ words. words ≡ hidden_words_in (given_of sources.now) text (symbols sources.now.file.now)) }
+    ensures { IfOk result (λ words.
+        words ≡ hidden_words_in (given_of sources.now) text (symbols sources.now.file.now)) }
 {
     let mut words = Items::new(alloc);
     for symbol in sources.file.symbols() {

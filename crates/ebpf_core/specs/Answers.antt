@@ -1,5 +1,24 @@
 -- Answers, and how they are stated: an error without the texts in it that are for people to read.
-use Rattle.std.specs.Prelude.{◌≡◌, ℕ, ◌<◌, true, List, [], ◌∷◌, ⊤, MatchBool, Some, Result, Ok, Err, is_ok, slice_get, if◌then◌else◌, Bool, false}
+use Rattle.std.specs.Prelude.{
+  ◌≡◌,
+  ℕ,
+  ◌<◌,
+  true,
+  List,
+  [],
+  ◌∷◌,
+  ⊤,
+  MatchBool,
+  Some,
+  Result,
+  Ok,
+  Err,
+  is_ok,
+  slice_get,
+  if◌then◌else◌,
+  Bool,
+  false,
+}
 use Rattle.ebpf_base.specs.Faults.{if_ok}
 use Rattle.ebpf_btf.specs.declared.error.BtfError.{BtfError}
 use Rattle.ebpf_btf.specs.Memory as types
@@ -13,9 +32,12 @@ is_record_memory _ = false
 
 -- an error with such texts empty
 abbrev pub without_texts : RelocationError → RelocationError
-without_texts (errors.InvalidAccessIndex path spec index len error) = errors.InvalidAccessIndex [] spec index len []
-without_texts (errors.InvalidRelocationKindForType number kind type_kind error) = errors.InvalidRelocationKindForType number [] [] []
-without_texts (errors.InvalidInstruction number index error) = errors.InvalidInstruction number index []
+without_texts (errors.InvalidAccessIndex path spec index len error) =
+    errors.InvalidAccessIndex [] spec index len []
+without_texts (errors.InvalidRelocationKindForType number kind type_kind error) =
+    errors.InvalidRelocationKindForType number [] [] []
+without_texts (errors.InvalidInstruction number index error) =
+    errors.InvalidInstruction number index []
 without_texts e = e
 
 -- The call answers as stated, such texts aside, or with a want of memory.
@@ -23,8 +45,10 @@ abbrev pub Tells : {X : Type 0} → Result X RelocationError → Result X Reloca
 Tells (Ok x) stated = stated ≡ Ok x
 Tells (Err e) stated = MatchBool (is_record_memory e) ⊤ (stated ≡ Err (without_texts e))
 
--- What holds of the stated answer holds of this one, such texts aside, unless it is a want of memory.
-abbrev pub TellsSo : {X : Type 0} → Result X RelocationError → (Result X RelocationError → Type 0) → Type 0
+-- What holds of the stated answer holds of this one, such texts aside, unless it is a want of
+-- memory.
+abbrev pub TellsSo : {X : Type 0} → Result X RelocationError → (Result X RelocationError → Type 0)
+    → Type 0
 TellsSo (Ok x) Holds = Holds (Ok x)
 TellsSo (Err e) Holds = MatchBool (is_record_memory e) ⊤ (Holds (Err (without_texts e)))
 

@@ -5,9 +5,9 @@ ghost use Rattle.ebpf_core.specs.Answers.{of_type_error, Tells};
 ghost use Rattle.ebpf_core.specs.declared.error.RelocationError.TheVariants.{OutOfMemory};
 ghost use Rattle.ebpf_core.specs.declared.error.RelocationError.TheVariants as errors;
 
+use crate::Step;
 use ebpf_base::{Items, Text};
 use ebpf_btf::{BtfError, BtfKind};
-use crate::Step;
 use ebpf_btf_ext::RelocationKind;
 use std::alloc::{AllocError, AllocFailed, Global};
 use std::fmt;

@@ -4,8 +4,8 @@ ghost use Rattle.std.specs.Prelude.{◌≡◌, ◌*◌, ◌<◌, ◌≤◌, ◌^
 ghost use Rattle.ebpf_btf.specs.Steps.{size_of};
 ghost use Rattle.ebpf_core.specs.Fields.{member_number, class_of, element_value, field_value, member_extent, loaded_field, member_with_index, member_field_value, shift, value_of_member, value_with, container_start, bit_field_extent, container, container_holds, is_container, plain_extent};
 
-use ebpf_btf::{Btf, BtfError, BtfMember, BtfType};
 use crate::{FieldPlace, PlaceEnd};
+use ebpf_btf::{Btf, BtfError, BtfMember, BtfType};
 use ebpf_btf_ext::RelocationKind;
 
 /// The class of a field, by which a load of the field may change its size.
@@ -105,7 +105,8 @@ fn member_extent(
     type_id: u32,
     ty: &BtfType<'_>,
 ) -> Result<(Extent, Option<LoadedField>), BtfError>
-    ensures value { result ≡ member_extent parent.now member.now bits ty.now (size_of btf.now.types type_id) }
+    ensures value { result
+        ≡ member_extent parent.now member.now bits ty.now (size_of btf.now.types type_id) }
     ensures low { IfOk result (λ place. place.0.start * 8 ≤ bits) }
     ensures narrow { IfOk result (λ place. place.0.width < 2 ^ 36) }
 {

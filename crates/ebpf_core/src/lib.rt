@@ -19,11 +19,11 @@ mod search;
 
 pub use error::RelocationError;
 pub use field::{FieldClass, LoadedField};
+pub use member_search::{FoundMember, find_member};
 pub use outcome::{Outcome, outcome_among};
 pub use paths::{LocalPath, NamedPath, local_path};
-pub use search::{CoreSearch, Question, question_of};
+pub use place_walk::place_in;
 pub use places::{
     FieldPlace, PlaceEnd, PlaceFault, Step, checked_place, element_place, is_last_of,
 };
-pub use member_search::{FoundMember, find_member};
-pub use place_walk::place_in;
+pub use search::{CoreSearch, Question, question_of};

@@ -9,9 +9,9 @@ use crate::error::{
     kind_words, path_words,
 };
 use crate::paths::NamedPath;
+use crate::{FieldPlace, PlaceEnd, Step, checked_place, element_place, is_last_of};
 use ebpf_base::{Items, Text};
 use ebpf_btf::{Btf, BtfArray, BtfMember, BtfType, Rows};
-use crate::{FieldPlace, PlaceEnd, Step, checked_place, element_place, is_last_of};
 use std::alloc::Global;
 
 /// The position of a path in a local type.
@@ -116,7 +116,8 @@ fn spot_at_member(
     index: usize,
     member: &BtfMember,
 ) -> Result<LocalSpot, RelocationError>
-    ensures { Tells result (spot_at_member local.now from parent.entry.id parent.entry.ty.now index member.now) }
+    ensures { Tells result
+        (spot_at_member local.now from parent.entry.id parent.entry.ty.now index member.now) }
 {
     let bits = u128::from(from.place.bits) + u128::from(parent.ty.member_bit_offset(member));
     if member.name_offset == 0 {
@@ -156,7 +157,9 @@ fn into_members(
     parent: ParentType<'_>,
     index: usize,
 ) -> Result<LocalSpot, RelocationError>
-    ensures { Tells result (into_members local.now request.entry.access.now from parent.entry.id parent.entry.ty.now parent.entry.members.now index) }
+    ensures { Tells result
+        (into_members local.now request.entry.access.now from parent.entry.id
+        parent.entry.ty.now parent.entry.members.now index) }
 {
     match parent.members.get(index) {
         Some(member) => spot_at_member(alloc, local, from, parent, index, &member),
@@ -177,7 +180,8 @@ fn part_step(
     from: LocalSpot,
     part: usize,
 ) -> Result<LocalSpot, RelocationError>
-    ensures { Tells result (part_step local.now request.entry.number request.entry.access.now from part) }
+    ensures { Tells result
+        (part_step local.now request.entry.number request.entry.access.now from part) }
 {
     let type_id = local.resolve_type(from.type_id)?;
     let ty = local.type_by_id(type_id)?;
@@ -211,7 +215,8 @@ fn walk(
     start: LocalSpot,
     parts: &[usize],
 ) -> Result<LocalSpot, RelocationError>
-    ensures { Tells result (spot_after local.now request.entry.number request.entry.access.now parts.now start) }
+    ensures { Tells result
+        (spot_after local.now request.entry.number request.entry.access.now parts.now start) }
 {
     let mut from = start;
     for part in parts {
@@ -231,7 +236,8 @@ pub fn field_path(
     type_id: u32,
     parts: &[usize],
 ) -> Result<NamedPath, RelocationError>
-    ensures { Tells result (field_path local.now request.entry.number request.entry.access.now type_id parts.now) }
+    ensures { Tells result
+        (field_path local.now request.entry.number request.entry.access.now type_id parts.now) }
 {
     let Some((root, parts)) = parts.split_first() else {
         return invalid_access_string(alloc, request.access);

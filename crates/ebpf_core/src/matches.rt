@@ -12,11 +12,11 @@ ghost use Rattle.ebpf_core.specs.Fields.{field_value};
 use crate::error::{RelocationError, too_nested};
 use crate::field::{LoadedField, field_value};
 use crate::paths::NamedPath;
+use crate::{FieldPlace, PlaceFault, Step, place_in};
 use ebpf_base::{Items, Text};
 use ebpf_btf::{Btf, BtfError, BtfType};
-use ebpf_core_candidates::types_are_compatible;
-use crate::{FieldPlace, PlaceFault, Step, place_in};
 use ebpf_btf_ext::RelocationKind;
+use ebpf_core_candidates::types_are_compatible;
 use std::alloc::Global;
 
 /// The end of a path in a type that matches.
@@ -93,7 +93,8 @@ fn field_found(
     candidate: u32,
     steps: &[Step],
 ) -> Result<Option<FoundMatch>, RelocationError>
-    ensures { Tells result (by_place target.now candidate (place_of local.now target.now candidate steps.now)) }
+    ensures { Tells result
+        (by_place target.now candidate (place_of local.now target.now candidate steps.now)) }
 {
     match place_in(local, target, candidate, steps) {
         Ok(Some(place)) => Ok(Some(FoundMatch::Field { place })),
@@ -206,7 +207,8 @@ fn variant_value(kind: RelocationKind, value: u64) -> u64
 
 /// The value of a field that a kind asks for, where there is one.
 fn field_in(target: &Btf, kind: RelocationKind, candidate: u32, place: FieldPlace) -> MatchValue
-    ensures { result ≡ field_in candidate place.bits (result_ok (field_value target.now kind place)) }
+    ensures { result
+        ≡ field_in candidate place.bits (result_ok (field_value target.now kind place)) }
 {
     let value = field_value(target, kind, place).ok();
     MatchValue {

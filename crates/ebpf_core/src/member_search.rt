@@ -69,7 +69,11 @@ fn search(
 ) -> Result<Answer, PlaceFault>
     requires depth { inside ≤ 64 }
     requires room { bits ≤ inside * 2 ^ 32 }
-    ensures gives { let name_search = member_search wanted.entry.local.now wanted.entry.target.now wanted.entry.name.now wanted.entry.local_type in Gives is_place_memory result (run_search name_search entries (view name_search (64 - inside) inside bits (members_in wanted.entry.target.now.types parent))) }
+    ensures gives { let name_search = member_search wanted.entry.local.now wanted.entry.target.now
+        wanted.entry.name.now wanted.entry.local_type in Gives is_place_memory result
+        (run_search name_search entries
+        (view name_search (64 - inside) inside bits
+        (members_in wanted.entry.target.now.types parent))) }
     ensures small { IsSmall result }
 {
     let Some(ty) = type_at(wanted.target, parent) else {
@@ -114,7 +118,10 @@ fn search(
 /// Looks through all members of a type.
 #[tactic(auto, unfolding(crate::specs::Members::first_fitting))]
 fn find(wanted: WantedMember<'_>, parent: u32) -> Result<Option<FoundMember>, PlaceFault>
-    ensures same { let name_search = member_search wanted.entry.local.now wanted.entry.target.now wanted.entry.name.now wanted.entry.local_type in Gives is_place_memory result (first_fitting name_search search_entries (members_in wanted.entry.target.now.types parent)) }
+    ensures same { let name_search = member_search wanted.entry.local.now wanted.entry.target.now
+        wanted.entry.name.now wanted.entry.local_type in Gives is_place_memory result
+        (first_fitting name_search search_entries
+        (members_in wanted.entry.target.now.types parent)) }
     ensures small { IsFoundSmall result }
 {
     match search(wanted, parent, 0, 0, SEARCH_ENTRIES)? {
@@ -144,8 +151,11 @@ pub fn find_member(
     name: &str,
     local_type: u32,
 ) -> Result<Option<FoundMember>, PlaceFault>
-    ensures first { MemoryAside result (λ answer. IsFirstMember local.now target.now name.now local_type parent answer) }
-    ensures same { Gives is_place_memory result (first_fitting (member_search local.now target.now name.now local_type) search_entries (members_in target.now.types parent)) }
+    ensures first { MemoryAside result (λ answer.
+        IsFirstMember local.now target.now name.now local_type parent answer) }
+    ensures same { Gives is_place_memory result
+        (first_fitting (member_search local.now target.now name.now local_type) search_entries
+        (members_in target.now.types parent)) }
     ensures small { IsFoundSmall result }
 {
     let wanted = WantedMember {
@@ -170,7 +180,9 @@ fn anonymous_role(target: &Btf, inside: u32, member: &BtfMember) -> Result<Role,
 
 /// The role of a member with a name.
 fn named_role(wanted: WantedMember<'_>, member: &BtfMember) -> Result<Role, PlaceFault>
-    ensures { Gives is_place_memory result (named_role wanted.entry.local.now wanted.entry.target.now wanted.entry.name.now wanted.entry.local_type member.now.name_offset member.now.btf_type) }
+    ensures { Gives is_place_memory result
+        (named_role wanted.entry.local.now wanted.entry.target.now wanted.entry.name.now
+        wanted.entry.local_type member.now.name_offset member.now.btf_type) }
 {
     if !wanted.target.is_name_at(member.name_offset, wanted.name)? {
         return Ok(Role::Other);
@@ -192,7 +204,9 @@ pub fn role_of(
     inside: u32,
     member: &BtfMember,
 ) -> Result<Role, PlaceFault>
-    ensures { Gives is_place_memory result (role wanted.entry.local.now wanted.entry.target.now wanted.entry.name.now wanted.entry.local_type inside member.now.name_offset member.now.btf_type) }
+    ensures { Gives is_place_memory result
+        (role wanted.entry.local.now wanted.entry.target.now wanted.entry.name.now
+        wanted.entry.local_type inside member.now.name_offset member.now.btf_type) }
 {
     if member.name_offset == 0 {
         return anonymous_role(wanted.target, inside, member);

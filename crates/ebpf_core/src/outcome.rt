@@ -11,9 +11,9 @@ use crate::error::{RelocationError, invalid_kind, path_words};
 use crate::field::{FieldFault, LoadedField, field_value};
 use crate::matches::{MatchValue, match_values, matches_among, type_name_at};
 use crate::paths::{LocalPath, NamedPath};
+use crate::{FieldPlace, Step};
 use ebpf_base::{Items, Text};
 use ebpf_btf::Btf;
-use crate::{FieldPlace, Step};
 use ebpf_btf_ext::{Relocation, RelocationKind};
 use std::alloc::Global;
 
@@ -50,7 +50,8 @@ fn field_loaded(
     steps: &[Step],
     place: FieldPlace,
 ) -> Result<Option<LoadedField>, RelocationError>
-    ensures { Tells result (loaded_by relocation.now.number (field_value local.now relocation.now.kind place)) }
+    ensures { Tells result
+        (loaded_by relocation.now.number (field_value local.now relocation.now.kind place)) }
 {
     match field_value(local, relocation.kind, place) {
         Ok(value) => Ok(value.loaded),
@@ -170,7 +171,8 @@ fn outcome_by_matches(
     path: &LocalPath,
     candidates: &[u32],
 ) -> Result<Outcome, RelocationError>
-    ensures { Tells result (outcome_among local.now target.now relocation.now path.now candidates.now) }
+    ensures { Tells result
+        (outcome_among local.now target.now relocation.now path.now candidates.now) }
 {
     let matches = matches_among(
         alloc,
@@ -215,8 +217,12 @@ pub fn outcome_among(
     path: &LocalPath,
     candidates: &[u32],
 ) -> Result<Outcome, RelocationError>
-    ensures outcome { Tells result (outcome_among local.now target.now relocation.now path.now candidates.now) }
-    ensures refused { IfErr result (λ e. MatchBool (is_record_memory e) ⊤ (AmongIsRefused local.now target.now relocation.now path.now candidates.now (without_texts e))) }
+    ensures outcome { Tells result
+        (outcome_among local.now target.now relocation.now path.now candidates.now) }
+    ensures refused { IfErr result (λ e.
+        MatchBool (is_record_memory e) ⊤
+        (AmongIsRefused local.now target.now relocation.now path.now candidates.now
+        (without_texts e))) }
 {
     outcome_by_matches(alloc, local, target, relocation, path, candidates)
 }

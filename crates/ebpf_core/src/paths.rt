@@ -10,9 +10,9 @@ use crate::error::{
     kind_words, too_nested,
 };
 use crate::local_walk::field_path;
+use crate::{FieldPlace, Step};
 use ebpf_base::{Items, Text};
 use ebpf_btf::{Btf, BtfType, BtfVariant};
-use crate::{FieldPlace, Step};
 use ebpf_btf_ext::{Relocation, RelocationKind};
 use std::alloc::{AllocError, Global};
 
@@ -95,7 +95,9 @@ fn variant_path(
     ty: &BtfType<'_>,
     parts: &[usize],
 ) -> Result<NamedPath, RelocationError>
-    ensures { Tells result (variant_path local.now request.entry.number request.entry.access.now ty.now parts.now) }
+    ensures { Tells result
+        (variant_path local.now request.entry.number request.entry.access.now ty.now
+        parts.now) }
 {
     let Some(count) = ty.variant_count() else {
         let place = Text::from_str(alloc, request.type_name)?;
@@ -127,7 +129,9 @@ fn path_for(
     type_id: u32,
     parts: &[usize],
 ) -> Result<NamedPath, RelocationError>
-    ensures { Tells result (path_for local.now request.entry.number request.entry.access.now type_id parts.now (basis_of request.entry.kind)) }
+    ensures { Tells result
+        (path_for local.now request.entry.number request.entry.access.now type_id parts.now
+        (basis_of request.entry.kind)) }
 {
     match basis_of(request.kind) {
         RelocationBasis::WholeType => type_path(alloc, request.access, parts),
@@ -206,7 +210,8 @@ fn accessor_of(piece: &str) -> Option<usize>
 
 /// The pieces between the colons of an access string.
 fn pieces_of(alloc: Global, access: &str) -> Result<Vec<&str>, AllocError>
-    ensures { IfOk result (λ pieces. map (λ piece. piece.now) pieces.items ≡ slice_split (λ b. b == 58) access.now) }
+    ensures { IfOk result (λ pieces.
+        map (λ piece. piece.now) pieces.items ≡ slice_split (λ b. b == 58) access.now) }
 {
     let mut pieces = Vec::new(alloc);
     for piece in access.split(':') {
@@ -218,7 +223,8 @@ fn pieces_of(alloc: Global, access: &str) -> Result<Vec<&str>, AllocError>
 /// The accessors that pieces write, where each writes one.
 #[tactic(auto, using(crate::proofs::LocalSides::all_more, crate::proofs::LocalSides::all_missing, crate::proofs::LocalSides::all_end))]
 fn all_parts(alloc: Global, pieces: &[&str]) -> Result<Option<Items<usize>>, AllocError>
-    ensures { IfOk result (λ parts. parts ≡ all_of (map (λ piece. accessor_of piece.now) pieces.now)) }
+    ensures { IfOk result (λ parts.
+        parts ≡ all_of (map (λ piece. accessor_of piece.now) pieces.now)) }
 {
     let mut parts = Items::new(alloc);
     for piece in pieces {

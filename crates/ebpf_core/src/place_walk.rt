@@ -4,10 +4,10 @@ ghost use Rattle.std.specs.Prelude.{◌≡◌, ◌<◌, ◌≤◌};
 ghost use Rattle.ebpf_base.specs.Faults.{Gives};
 ghost use Rattle.ebpf_core.specs.Places.{MemoryAside, is_place_memory, PathLeads, root_spot, by_index, by_name, place_after, is_accepted, ends_in_last_member, place_of, next_spot, element_spot, member_spot};
 
+use crate::member_search::{FoundMember, find_member};
 use crate::places::{
     FieldPlace, PlaceEnd, PlaceFault, Step, checked_place, element_place, is_last_of, type_at,
 };
-use crate::member_search::{FoundMember, find_member};
 use ebpf_btf::Btf;
 
 /// The maximum number of parts of a path before a step.
@@ -116,7 +116,8 @@ fn by_name(
     local_type: u32,
 ) -> Result<Option<TargetSpot>, PlaceFault>
     requires { from.parts < 64 }
-    ensures { Gives is_place_memory result (by_name local.now target.now from type_id name.now local_type) }
+    ensures { Gives is_place_memory result
+        (by_name local.now target.now from type_id name.now local_type) }
 {
     match find_member(local, target, type_id, name, local_type)? {
         Some(member) => Ok(Some(member_spot(from, member)?)),

@@ -15,8 +15,8 @@ use crate::outcome::{Outcome, outcome_among};
 use crate::paths::{LocalPath, local_path};
 use ebpf_base::Items;
 use ebpf_btf::{Btf, BtfError, BtfKind, BtfType};
-use ebpf_core_candidates::{KindsIndex, TypeIndex};
 use ebpf_btf_ext::{Relocation, RelocationKind};
+use ebpf_core_candidates::{KindsIndex, TypeIndex};
 use std::alloc::{AllocError, Global};
 use std::collections::BTreeMap;
 use std::marker::Model;
@@ -82,8 +82,10 @@ fn ids_of_both(
 ) -> Result<Vec<u32>, BtfError>
     requires first { has_named index.now first name.now ≡ true }
     requires second { has_named index.now second name.now ≡ true }
-    ensures ids { IfOk result (λ ids. ids.items ≡ candidates_of_both index.now.info first second name.now) }
-    ensures fault { Refuses is_btf_memory result (candidates_of_both_fault index.now.info first second) }
+    ensures ids { IfOk result (λ ids.
+        ids.items ≡ candidates_of_both index.now.info first second name.now) }
+    ensures fault { Refuses is_btf_memory result
+        (candidates_of_both_fault index.now.info first second) }
 {
     match index.candidates_of_both(alloc, first, second, name) {
         Some(found) => found,
@@ -102,9 +104,18 @@ fn outcome_named(
     path: &LocalPath,
     searched: NamedType<'_>,
 ) -> Result<Outcome, RelocationError>
-    requires first { has_named index.now (searched_kinds searched.entry.ty.now).0 searched.entry.name.now ≡ true }
-    requires second { has_named index.now (searched_kinds searched.entry.ty.now).1 searched.entry.name.now ≡ true }
-    ensures { Tells result (if_ok (of_types (candidates_named index.now.info searched.entry.ty.now searched.entry.name.now)) (outcome_among local.now index.now.info relocation.now path.now)) }
+    requires first { has_named index.now (searched_kinds searched.entry.ty.now).0
+        searched.entry.name.now
+        ≡ true }
+    requires second { has_named index.now (searched_kinds searched.entry.ty.now).1
+        searched.entry.name.now
+        ≡ true }
+    ensures { Tells result
+        (if_ok
+        (of_types
+        (candidates_named index.now.info searched.entry.ty.now
+        searched.entry.name.now))
+        (outcome_among local.now index.now.info relocation.now path.now)) }
 {
     if was_enum64(searched.ty) {
         let ids = ids_of_both(alloc, index, BtfKind::Union, BtfKind::Enum64, searched.name)?;
@@ -121,9 +132,14 @@ fn ids_named(
     index: &KindsIndex<'_>,
     searched: NamedType<'_>,
 ) -> Result<Items<u32>, BtfError>
-    requires first { has_named index.now (searched_kinds searched.entry.ty.now).0 searched.entry.name.now ≡ true }
-    requires second { has_named index.now (searched_kinds searched.entry.ty.now).1 searched.entry.name.now ≡ true }
-    ensures { Gives is_btf_memory result (candidates_named index.now.info searched.entry.ty.now searched.entry.name.now) }
+    requires first { has_named index.now (searched_kinds searched.entry.ty.now).0
+        searched.entry.name.now
+        ≡ true }
+    requires second { has_named index.now (searched_kinds searched.entry.ty.now).1
+        searched.entry.name.now
+        ≡ true }
+    ensures { Gives is_btf_memory result
+        (candidates_named index.now.info searched.entry.ty.now searched.entry.name.now) }
 {
     if was_enum64(searched.ty) {
         let ids = ids_of_both(alloc, index, BtfKind::Union, BtfKind::Enum64, searched.name)?;
@@ -179,7 +195,9 @@ fn index_for<'a>(
     requires named { IsLocalType local.now searched.entry.ty.now searched.entry.name.now }
     ensures types { All (λ index. index.info ≡ target.now) indices.new.items }
     ensures place { IfOk result (λ n. n < length indices.new.items) }
-    ensures names { IfOk result (λ n. HasNameAt indices.new.items n (searched_kinds searched.entry.ty.now).0 (searched_kinds searched.entry.ty.now).1 searched.entry.name.now) }
+    ensures names { IfOk result (λ n.
+        HasNameAt indices.new.items n (searched_kinds searched.entry.ty.now).0
+        (searched_kinds searched.entry.ty.now).1 searched.entry.name.now) }
     ensures memory { IfErr result (λ e. e ≡ OutOfMemory) }
 {
     let (first, second) = searched_kinds(searched.ty);
@@ -214,7 +232,9 @@ impl<'a> Model for CoreSearch<'a> {
 
     ghost view = { λ s. record { local = s.local.now; target = s.target.now } };
 
-    ghost invariant = { λ s. All (λ index. index.info ≡ s.target.now) s.indices.items × OutcomesAreCached s.local.now s.target.now s.cached };
+    ghost invariant = { λ s.
+        All (λ index. index.info ≡ s.target.now) s.indices.items
+        × OutcomesAreCached s.local.now s.target.now s.cached };
 }
 
 impl<'a> CoreSearch<'a> {
@@ -253,7 +273,8 @@ impl<'a> CoreSearch<'a> {
     /// - `InvalidStringOffset`: its name, or that of a kernel's type of its kind, can't be read.
     /// - `OutOfMemory`: memory is refused.
     pub fn candidates(&mut self, alloc: Global, type_id: u32) -> Result<Items<u32>, BtfError>
-        ensures ids { Gives is_btf_memory result (candidates_for self.old.local self.old.target type_id) }
+        ensures ids { Gives is_btf_memory result
+            (candidates_for self.old.local self.old.target type_id) }
         ensures stays { self.new ≡ self.old }
     {
         let (local, target) = (self.local, self.target);
@@ -274,7 +295,11 @@ impl<'a> CoreSearch<'a> {
         relocation: &Relocation,
         path: &LocalPath,
     ) -> Result<Outcome, RelocationError>
-        ensures outcome { Tells result (if_ok (of_types (candidates_for self.old.local self.old.target relocation.now.type_id)) (outcome_among self.old.local self.old.target relocation.now path.now)) }
+        ensures outcome { Tells result
+            (if_ok
+            (of_types
+            (candidates_for self.old.local self.old.target relocation.now.type_id))
+            (outcome_among self.old.local self.old.target relocation.now path.now)) }
         ensures stays { self.new ≡ self.old }
     {
         let (local, target) = (self.local, self.target);
@@ -337,7 +362,10 @@ impl<'a> CoreSearch<'a> {
         relocation: &Relocation,
     ) -> Result<Outcome, RelocationError>
         ensures outcome { Tells result (outcome_of self.old.local self.old.target relocation.now) }
-        ensures refused { IfErr result (λ e. MatchBool (is_record_memory e) ⊤ (OutcomeIsRefused self.old.local self.old.target relocation.now (without_texts e))) }
+        ensures refused { IfErr result (λ e.
+            MatchBool (is_record_memory e) ⊤
+            (OutcomeIsRefused self.old.local self.old.target relocation.now
+            (without_texts e))) }
         ensures stays { self.new ≡ self.old }
     {
         self.cached_outcome(alloc, relocation)

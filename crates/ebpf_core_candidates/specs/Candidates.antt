@@ -1,6 +1,34 @@
--- The types that a local type may stand for, by kind and name (CO-RE, "Compile Once, Run Everywhere": the kernel's
--- tools/lib/bpf, bpf_core_find_cands), and what an index of types was made for.
-use Rattle.std.specs.Prelude.{◌≡◌, ℕ, ◌<◌, Bool, true, false, All, List, length, map, filter, slice_get, Option, Some, None, Result, Ok, Err, ◌&&◌, ◌||◌, if◌then◌else◌, ◌/◌, ◌%◌, ◌^◌, slice_index_or, ◌==◌}
+-- The types that a local type may stand for, by kind and name (CO-RE, "Compile Once, Run
+-- Everywhere": the kernel's tools/lib/bpf, bpf_core_find_cands), and what an index of types was
+-- made for.
+use Rattle.std.specs.Prelude.{
+  ◌≡◌,
+  ℕ,
+  ◌<◌,
+  Bool,
+  true,
+  false,
+  All,
+  List,
+  length,
+  map,
+  filter,
+  slice_get,
+  Option,
+  Some,
+  None,
+  Result,
+  Ok,
+  Err,
+  ◌&&◌,
+  ◌||◌,
+  if◌then◌else◌,
+  ◌/◌,
+  ◌%◌,
+  ◌^◌,
+  slice_index_or,
+  ◌==◌,
+}
 use Rattle.std.specs.List.{enumerate_from, list_any}
 use Rattle.std.specs.List.Sorted.{IsStrictlyIncreasing}
 use Rattle.std.specs.Str.{bytes_eq}
@@ -43,11 +71,14 @@ candidates_fault info kind = first_some (type_name_fault info kind) info.types
 
 -- the ids of the types of either kind in increasing order
 abbrev pub candidates_of_both : TypeInfo → BtfKind → BtfKind → List ℕ → List ℕ
-candidates_of_both info first second name = ids_from (λ t. is_candidate info first name t || is_candidate info second name t) 0 info.types
+candidates_of_both info first second name =
+    ids_from (λ t. is_candidate info first name t || is_candidate info second name t) 0 info.types
 
 -- the name fault of the lowest id of either kind whose name can't be read
 abbrev pub candidates_of_both_fault : TypeInfo → BtfKind → BtfKind → Option BtfError
-candidates_of_both_fault info first second = first_some (λ t. or_else (type_name_fault info first t) (type_name_fault info second t)) info.types
+candidates_of_both_fault info first second =
+    first_some (λ t. or_else (type_name_fault info first t) (type_name_fault info second t))
+    info.types
 
 -- ---- what holds of them
 
@@ -58,18 +89,25 @@ pub record IsTypeWith (test : BtfType → Bool) (types : List BtfType) (id : ℕ
 
 -- each candidate is a type of the kind
 abbrev pub CandidatesAreOfKind : Type 0
-CandidatesAreOfKind = (info : TypeInfo) (kind : BtfKind) (name : List ℕ) → All (IsTypeWith (is_kind kind) info.types) (candidates info kind name)
+CandidatesAreOfKind =
+    (info : TypeInfo) (kind : BtfKind) (name : List ℕ)
+    → All (IsTypeWith (is_kind kind) info.types) (candidates info kind name)
 
 abbrev pub CandidatesIncrease : Type 0
-CandidatesIncrease = (info : TypeInfo) (kind : BtfKind) (name : List ℕ) → IsStrictlyIncreasing (candidates info kind name)
+CandidatesIncrease =
+    (info : TypeInfo) (kind : BtfKind) (name : List ℕ)
+    → IsStrictlyIncreasing (candidates info kind name)
 
 -- each candidate of two kinds is a type of either
 abbrev pub CandidatesAreOfEither : Type 0
 CandidatesAreOfEither = (info : TypeInfo) (first second : BtfKind) (name : List ℕ)
-    → All (IsTypeWith (λ t. is_kind first t || is_kind second t) info.types) (candidates_of_both info first second name)
+    → All (IsTypeWith (λ t. is_kind first t || is_kind second t) info.types)
+    (candidates_of_both info first second name)
 
 abbrev pub CandidatesOfBothIncrease : Type 0
-CandidatesOfBothIncrease = (info : TypeInfo) (first second : BtfKind) (name : List ℕ) → IsStrictlyIncreasing (candidates_of_both info first second name)
+CandidatesOfBothIncrease =
+    (info : TypeInfo) (first second : BtfKind) (name : List ℕ)
+    → IsStrictlyIncreasing (candidates_of_both info first second name)
 
 -- ---- some kinds of types
 
@@ -77,7 +115,8 @@ CandidatesOfBothIncrease = (info : TypeInfo) (first second : BtfKind) (name : Li
 abbrev pub is_among_kinds : List BtfKind → BtfKind → Bool
 is_among_kinds kinds kind = list_any (λ k. kind_number k == kind_number kind) kinds
 
--- the same of kinds that are given as a list which tells, at each kind's number, whether it is one of them
+-- the same of kinds that are given as a list which tells, at each kind's number, whether it is one
+-- of them
 abbrev pub has_kind : List Bool → BtfKind → Bool
 has_kind kinds kind = slice_index_or kinds (kind_number kind) false
 
@@ -87,8 +126,8 @@ has_kind kinds kind = slice_index_or kinds (kind_number kind) false
 unfoldable pub name_hash : List ℕ → ℕ
 name_hash name = fold_hasher.finish (fold_hasher.write fold_hasher.initial name) / 2 ^ 32
 
--- whether a hash is marked: its mark stands at its remainder by 16384, so that hashes of one remainder share it, and past
--- the end all are marked
+-- whether a hash is marked: its mark stands at its remainder by 16384, so that hashes of one
+-- remainder share it, and past the end all are marked
 abbrev pub is_hash_marked : List Bool → ℕ → Bool
 is_hash_marked marks hash = slice_index_or marks (hash % 16384) true
 
@@ -98,13 +137,17 @@ is_name_marked marks name = is_hash_marked marks (name_hash (essential_name name
 
 -- so are those of the types of some kinds that have ids below a number
 abbrev pub NamesBelowAreMarked : List Bool → List Bool → TypeInfo → ℕ → Type 0
-NamesBelowAreMarked marks kinds info n = (id : ℕ) (t : BtfType) (name : List ℕ) → id < n → slice_get info.types id ≡ Some t
-    → has_kind kinds (kind_of t) ≡ true → type_name info t ≡ Ok name → is_name_marked marks name ≡ true
+NamesBelowAreMarked marks kinds info n =
+    (id : ℕ) (t : BtfType) (name : List ℕ) → id < n → slice_get info.types id ≡ Some t
+    → has_kind kinds (kind_of t) ≡ true → type_name info t ≡ Ok name
+    → is_name_marked marks name ≡ true
 
 -- and of all of them
 abbrev pub NamesAreMarked : List Bool → List Bool → TypeInfo → Type 0
-NamesAreMarked marks kinds info = (id : ℕ) (t : BtfType) (name : List ℕ) → slice_get info.types id ≡ Some t
-    → has_kind kinds (kind_of t) ≡ true → type_name info t ≡ Ok name → is_name_marked marks name ≡ true
+NamesAreMarked marks kinds info =
+    (id : ℕ) (t : BtfType) (name : List ℕ) → slice_get info.types id ≡ Some t
+    → has_kind kinds (kind_of t) ≡ true → type_name info t ≡ Ok name
+    → is_name_marked marks name ≡ true
 
 -- the types, the kinds of which it has them, and the marks of the names that it has
 pub record IndexedTypes : Type 0 where

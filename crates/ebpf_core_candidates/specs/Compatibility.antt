@@ -1,6 +1,36 @@
 -- Which types of an object fit which of a kernel. These are definitions of this library, after what
--- bpf_core_fields_are_compat and bpf_core_types_are_compat of the kernel's tools/lib/bpf/relo_core.c decide.
-use Rattle.std.specs.Prelude.{ℕ, zero, suc, ◌/◌, ◌%◌, ◌^◌, Bool, true, false, List, [], ◌∷◌, ◌++◌, length, map, take, drop, unwrap_or, Option, Some, None, Result, Ok, Err, ◌==◌, ◌&&◌, ◌||◌, if◌then◌else◌}
+-- bpf_core_fields_are_compat and bpf_core_types_are_compat of the kernel's
+-- tools/lib/bpf/relo_core.c decide.
+use Rattle.std.specs.Prelude.{
+  ℕ,
+  zero,
+  suc,
+  ◌/◌,
+  ◌%◌,
+  ◌^◌,
+  Bool,
+  true,
+  false,
+  List,
+  [],
+  ◌∷◌,
+  ◌++◌,
+  length,
+  map,
+  take,
+  drop,
+  unwrap_or,
+  Option,
+  Some,
+  None,
+  Result,
+  Ok,
+  Err,
+  ◌==◌,
+  ◌&&◌,
+  ◌||◌,
+  if◌then◌else◌,
+}
 use Rattle.std.specs.List.{zip, flat_map}
 use Rattle.std.specs.Str.{bytes_eq}
 use Rattle.ebpf_base.specs.Faults.{first_some, if_ok}
@@ -32,15 +62,17 @@ both (Some i) (Some j) = Some (pair_of i j)
 both _ _ = None
 
 -- what follows for the two types that a pair leads to, the local one first
-abbrev pub if_resolved : {X : Type 0} → List BtfType → List BtfType → Pair → (BtfType → BtfType → Result X BtfError) → Result X BtfError
+abbrev pub if_resolved : {X : Type 0} → List BtfType → List BtfType → Pair
+    → (BtfType → BtfType → Result X BtfError) → Result X BtfError
 if_resolved local target pair next =
-    if_ok (resolved_type local pair.local) (λ a. if_ok (resolved_type target pair.target) (λ b. next a b))
+    if_ok (resolved_type local pair.local) (λ a.
+    if_ok (resolved_type target pair.target) (λ b. next a b))
 
 abbrev pub same_kind : BtfType → BtfType → Bool
 same_kind a b = kind_number (kind_of a) == kind_number (kind_of b)
 
--- the bit of its bytes at which an INT begins (the kernel's Documentation/bpf/btf.rst, BTF_INT_OFFSET); others begin
--- at 0
+-- the bit of its bytes at which an INT begins (the kernel's Documentation/bpf/btf.rst,
+-- BTF_INT_OFFSET); others begin at 0
 unfoldable pub first_bit : BtfType → ℕ
 first_bit (Int _ _ bits) = bits / 2 ^ 16 % 2 ^ 8
 first_bit _ = 0
@@ -75,7 +107,8 @@ names_fit a b = bytes_eq b a || bytes_eq b [] || bytes_eq a []
 -- whether two types have such names, their flavors aside
 abbrev pub are_named_alike : TypeInfo → TypeInfo → BtfType → BtfType → Result Bool BtfError
 are_named_alike local target a b =
-    if_ok (type_name local a) (λ n. if_ok (type_name target b) (λ m. Ok (names_fit (essential_name n) (essential_name m))))
+    if_ok (type_name local a) (λ n.
+    if_ok (type_name target b) (λ m. Ok (names_fit (essential_name n) (essential_name m))))
 
 -- what decides over two types of a kind that is not ARRAY: nothing, their names, where they begin
 unfoldable pub decided_by : BtfKind → Result Bool BtfError → Bool → Result Bool BtfError
@@ -91,7 +124,8 @@ decided_by _ names begins = Ok false
 abbrev pub types_fit : TypeInfo → TypeInfo → BtfType → BtfType → Result Bool BtfError
 types_fit local target a b =
     if is_composite (kind_of a) && is_composite (kind_of b) then Ok true
-    else if same_kind a b then decided_by (kind_of a) (are_named_alike local target a b) (both_begin_at_0 a b)
+    else if same_kind a b
+    then decided_by (kind_of a) (are_named_alike local target a b) (both_begin_at_0 a b)
     else Ok false
 
 -- ARRAYs fit where their elements do. So many pairs may be met.
@@ -99,7 +133,8 @@ unfoldable pub fields_fit : ℕ → TypeInfo → TypeInfo → ℕ → Pair → R
 fields_fit zero local target root pair = Err (MaximumTypeDepth root)
 fields_fit (suc levels) local target root pair =
     if_resolved local.types target.types pair (λ a b.
-    if_some (elements a b) (λ next. fields_fit levels local target root next) (types_fit local target a b))
+    if_some (elements a b) (λ next. fields_fit levels local target root next) (types_fit local
+    target a b))
 
 -- whether a field of the one type is found in a field of the other
 abbrev pub fields_compatible : TypeInfo → ℕ → TypeInfo → ℕ → Result Bool BtfError
@@ -144,7 +179,11 @@ inner_pair a b = both (inner_type_id a) (inner_type_id b)
 
 -- whether two types are alike, their inner types aside
 abbrev pub shallow_alike : BtfType → BtfType → Bool
-shallow_alike a b = same_kind a b && is_compared (kind_of a) && both_begin_at_0 a b && length (params_of a) == length (params_of b)
+shallow_alike a b =
+    same_kind a b
+    && is_compared (kind_of a)
+    && both_begin_at_0 a b
+    && length (params_of a) == length (params_of b)
 
 -- whether the two types of a pair are alike, their inner types aside
 abbrev pub alike_at : List BtfType → List BtfType → Pair → Result Bool BtfError
@@ -153,7 +192,8 @@ alike_at local target pair = if_resolved local target pair (λ a b. Ok (shallow_
 -- the pairs inside two types: of their parameters in order, and then of their inner types
 abbrev pub inner_pairs : BtfType → BtfType → List Pair
 inner_pairs a b =
-    map (λ (p : BtfParam × BtfParam). pair_of p.0.btf_type p.1.btf_type) (zip (params_of a) (params_of b))
+    map (λ (p : BtfParam × BtfParam). pair_of p.0.btf_type p.1.btf_type)
+    (zip (params_of a) (params_of b))
     ++ if_some (inner_pair a b) (λ pair. pair ∷ []) []
 
 abbrev pub pairs_or_none : Result (List Pair) BtfError → List Pair
@@ -162,13 +202,15 @@ pairs_or_none (Err e) = []
 
 -- the pairs that a pair leads to
 abbrev pub pairs_below : List BtfType → List BtfType → Pair → List Pair
-pairs_below local target pair = pairs_or_none (if_resolved local target pair (λ a b. Ok (inner_pairs a b)))
+pairs_below local target pair =
+    pairs_or_none (if_resolved local target pair (λ a b. Ok (inner_pairs a b)))
 
 -- What is found at a pair and at all below it, in depth-first order. There may be so many levels.
 unfoldable pub found_from : ℕ → List BtfType → List BtfType → ℕ → Pair → List (Result Bool BtfError)
 found_from zero local target root pair = Err (MaximumTypeDepth root) ∷ []
 found_from (suc levels) local target root pair =
-    alike_at local target pair ∷ flat_map (found_from levels local target root) (pairs_below local target pair)
+    alike_at local target pair
+    ∷ flat_map (found_from levels local target root) (pairs_below local target pair)
 
 -- what ends a comparison: a difference, or a fault
 abbrev pub ends : Result Bool BtfError → Option (Result Bool BtfError)
@@ -182,20 +224,25 @@ all_alike past (answer ∷ more) = Err past
 
 -- the first that ends a comparison, where so many may be met
 unfoldable pub first_end : ℕ → BtfError → List (Result Bool BtfError) → Result Bool BtfError
-first_end pairs past found = unwrap_or (first_some ends (take pairs found)) (all_alike past (drop pairs found))
+first_end pairs past found =
+    unwrap_or (first_some ends (take pairs found)) (all_alike past (drop pairs found))
 
--- whether a type stands for another: their kinds, as they stand, are the same, and all below them is alike
+-- whether a type stands for another: their kinds, as they stand, are the same, and all below them
+-- is alike
 abbrev pub types_compatible : TypeInfo → ℕ → TypeInfo → ℕ → Result Bool BtfError
 types_compatible local id target other =
     if_ok (type_at local.types id) (λ a. if_ok (type_at target.types other) (λ b.
     if same_kind a b
-    then first_end type_pairs (MaximumTypeDepth id) (found_from type_levels local.types target.types id (pair_of id other))
+    then first_end type_pairs (MaximumTypeDepth id)
+    (found_from type_levels local.types target.types id (pair_of id other))
     else Ok false))
 
--- ---- a comparison of types as it goes, pair by pair. What it comes to is stated in `Compatibility.antt`
+-- ---- a comparison of types as it goes, pair by pair. What it comes to is stated in
+-- `Compatibility.antt`
 
 -- what follows where types are alike, with the number of pairs that may still be met
-abbrev pub if_alike : Result Verdict BtfError → (ℕ → Result Verdict BtfError) → Result Verdict BtfError
+abbrev pub if_alike : Result Verdict BtfError → (ℕ → Result Verdict BtfError)
+    → Result Verdict BtfError
 if_alike (Ok (Alike left)) next = next left
 if_alike (Ok Different) next = Ok Different
 if_alike (Err e) next = Err e
@@ -208,7 +255,8 @@ Comparison = ℕ → Pair → Result Verdict BtfError
 abbrev pub params_alike : Comparison → ℕ → List (BtfParam × BtfParam) → Result Verdict BtfError
 params_alike compare left [] = Ok (Alike left)
 params_alike compare left (p ∷ ps) =
-    if_alike (compare left (pair_of p.0.btf_type p.1.btf_type)) (λ rest. params_alike compare rest ps)
+    if_alike (compare left (pair_of p.0.btf_type p.1.btf_type)) (λ rest.
+    params_alike compare rest ps)
 
 -- the inner types of two types
 abbrev pub inner_alike : Comparison → ℕ → BtfType → BtfType → Result Verdict BtfError
@@ -218,15 +266,18 @@ inner_alike compare left a b =
 -- all types below two types that agree: the parameters first
 abbrev pub parts_alike : Comparison → ℕ → BtfType → BtfType → Result Verdict BtfError
 parts_alike compare left a b =
-    if_alike (params_alike compare left (zip (params_of a) (params_of b))) (λ rest. inner_alike compare rest a b)
+    if_alike (params_alike compare left (zip (params_of a) (params_of b))) (λ rest.
+    inner_alike compare rest a b)
 
--- A pair and all below it, depth first, up to the first that differs. There may be so many levels and so many pairs.
+-- A pair and all below it, depth first, up to the first that differs. There may be so many levels
+-- and so many pairs.
 unfoldable pub compared_from : ℕ → List BtfType → List BtfType → ℕ → Comparison
 compared_from zero local target root left pair = Err (MaximumTypeDepth root)
 compared_from (suc levels) local target root zero pair = Err (MaximumTypeDepth root)
 compared_from (suc levels) local target root (suc left) pair =
     if_resolved local target pair (λ a b.
-    if shallow_alike a b then parts_alike (compared_from levels local target root) left a b else Ok Different)
+    if shallow_alike a b then parts_alike (compared_from levels local target root) left a b else Ok
+    Different)
 
 -- whether a comparison found no difference
 abbrev pub is_alike : Result Verdict BtfError → Result Bool BtfError

@@ -77,7 +77,9 @@ fn element(ty: &BtfType<'_>) -> Option<u32>
 /// Whether the name of a type, its flavor aside, is a text, its flavor aside, or one of the two is empty.
 #[tactic(auto, using(crate::proofs::Comparisons::no_flavor))]
 fn is_named_alike(btf: &Btf, ty: &BtfType<'_>, name: &str) -> Result<bool, BtfError>
-    ensures { result ≡ if_ok (type_name btf.now ty.now) (λ read. Ok (names_fit (essential_name name.now) (essential_name read))) }
+    ensures { result
+        ≡ if_ok (type_name btf.now ty.now) (λ read.
+        Ok (names_fit (essential_name name.now) (essential_name read))) }
 {
     let offset = ty.name_offset();
     if btf.is_essential_name_at(offset, name)? || btf.is_essential_name_at(offset, "")? {
@@ -93,7 +95,8 @@ fn are_named_alike(
     target: &Btf,
     target_type: &BtfType<'_>,
 ) -> Result<bool, BtfError>
-    ensures { Gives is_btf_memory result (are_named_alike local.now target.now local_type.now target_type.now) }
+    ensures { Gives is_btf_memory result
+        (are_named_alike local.now target.now local_type.now target_type.now) }
 {
     let name = local.type_name(local_type)?;
     is_named_alike(target, target_type, name.as_str())
@@ -107,7 +110,8 @@ fn types_fit(
     target: &Btf,
     target_type: &BtfType<'_>,
 ) -> Result<bool, BtfError>
-    ensures { Gives is_btf_memory result (types_fit local.now target.now local_type.now target_type.now) }
+    ensures { Gives is_btf_memory result
+        (types_fit local.now target.now local_type.now target_type.now) }
 {
     if is_composite(local_type.kind()) && is_composite(target_type.kind()) {
         return Ok(true);
@@ -146,7 +150,8 @@ pub fn fields_are_compatible(
     target: &Btf,
     target_id: u32,
 ) -> Result<bool, BtfError>
-    ensures { Gives is_btf_memory result (fields_compatible local.now local_id target.now target_id) }
+    ensures { Gives is_btf_memory result
+        (fields_compatible local.now local_id target.now target_id) }
 {
     let mut pair = Pair {
         local: local_id,
@@ -240,7 +245,9 @@ fn shallow_alike(local: &BtfType<'_>, target: &BtfType<'_>) -> bool
 /// Compares a pair and all below it, depth first, up to the first that differs. So many levels there may be, and so
 /// many pairs be met.
 fn compare(sides: Sides<'_>, levels: u32, left: u32, pair: Pair) -> Result<Verdict, BtfError>
-    ensures { result ≡ compared_from levels sides.entry.local.now.types sides.entry.target.now.types sides.entry.root left pair }
+    ensures { result
+        ≡ compared_from levels sides.entry.local.now.types sides.entry.target.now.types
+        sides.entry.root left pair }
 {
     if levels == 0 || left == 0 {
         return Err(BtfError::MaximumTypeDepth {
@@ -284,7 +291,10 @@ fn is_alike(found: Result<Verdict, BtfError>) -> Result<bool, BtfError>
 /// Whether the types of a pair and all below them are alike.
 #[tactic(auto, using(crate::proofs::Comparisons::compared_found))]
 fn all_alike(sides: Sides<'_>, pair: Pair) -> Result<bool, BtfError>
-    ensures { result ≡ first_end type_pairs (MaximumTypeDepth sides.entry.root) (found_from type_levels sides.entry.local.now.types sides.entry.target.now.types sides.entry.root pair) }
+    ensures { result
+        ≡ first_end type_pairs (MaximumTypeDepth sides.entry.root)
+        (found_from type_levels sides.entry.local.now.types sides.entry.target.now.types
+        sides.entry.root pair) }
 {
     is_alike(compare(sides, TYPE_LEVELS, TYPE_PAIRS, pair))
 }

@@ -61,7 +61,8 @@ pub type AnonymousTypes = Vec<Items<u32>>;
 /// The empty lists of anonymous types.
 pub fn no_anonymous_types(alloc: Global) -> Result<AnonymousTypes, AllocError>
     ensures kinds { IfOk result (λ lists. length lists.items ≡ 20) }
-    ensures empty { IfOk result (λ lists. (k : BtfKind) → slice_index_or lists.items (kind_number k) [] ≡ []) }
+    ensures empty { IfOk result (λ lists.
+        (k : BtfKind) → slice_index_or lists.items (kind_number k) [] ≡ []) }
 {
     let mut lists = Vec::with_capacity(alloc, KINDS)?;
     for _kind in 0..KINDS {
@@ -74,7 +75,11 @@ pub fn no_anonymous_types(alloc: Global) -> Result<AnonymousTypes, AllocError>
 pub fn add_anonymous(lists: &mut AnonymousTypes, kind: BtfKind, id: u32) -> Result<(), AllocError>
     requires { length lists.old.items ≡ 20 }
     ensures kinds { OnOk result (length lists.new.items ≡ 20) }
-    ensures added { OnOk result ((k : BtfKind) → slice_index_or lists.new.items (kind_number k) [] ≡ slice_index_or lists.old.items (kind_number k) [] ++ (if kind_number kind == kind_number k then id ∷ [] else [])) }
+    ensures added { OnOk result
+        ((k : BtfKind)
+        → slice_index_or lists.new.items (kind_number k) []
+        ≡ slice_index_or lists.old.items (kind_number k) []
+        ++ (if kind_number kind == kind_number k then id ∷ [] else [])) }
 {
     lists[kind_number(kind) as usize].push(id)?;
     Ok(())
@@ -107,7 +112,10 @@ pub type UnreadableNames = [Option<UnreadableName>; KINDS];
 pub fn keep_first(names: &mut UnreadableNames, kind: BtfKind, name: UnreadableName)
     requires { length names.old ≡ 20 }
     ensures kinds { length names.new ≡ 20 }
-    ensures first { (k : BtfKind) → slice_index_or names.new (kind_number k) None ≡ or_else (slice_index_or names.old (kind_number k) None) (if kind_number kind == kind_number k then Some name else None) }
+    ensures first { (k : BtfKind)
+        → slice_index_or names.new (kind_number k) None
+        ≡ or_else (slice_index_or names.old (kind_number k) None)
+        (if kind_number kind == kind_number k then Some name else None) }
 {
     let index = kind_number(kind) as usize;
     if names[index].is_none() {

@@ -44,7 +44,8 @@ pub fn is_hash_marked(marks: &[bool], hash: u32) -> bool
 /// Marks a hash.
 pub fn mark(marks: &mut [bool], hash: u32)
     ensures marked { is_hash_marked marks.new hash ≡ true }
-    ensures others { (h : ℕ) → is_hash_marked marks.old h ≡ true → is_hash_marked marks.new h ≡ true }
+    ensures others { (h : ℕ) → is_hash_marked marks.old h ≡ true
+        → is_hash_marked marks.new h ≡ true }
 {
     let at = hash as usize % MARKS;
     if at < marks.len() {

@@ -42,9 +42,18 @@ fn read_rows(
 ) -> Result<FoundTypes, AllocError>
     requires kinds { length kinds.now ≡ 20 }
     ensures rows { IfOk result (λ found. found.rows.items ≡ rows kinds.now marks.now names.now) }
-    ensures anonymous { IfOk result (λ found. (kind : BtfKind) → has_kind kinds.now kind ≡ true → slice_index_or found.anonymous.items (kind_number kind) [] ≡ candidates names.now kind []) }
-    ensures unread { IfOk result (λ found. (kind : BtfKind) → has_kind kinds.now kind ≡ true → slice_index_or found.unreadable (kind_number kind) None ≡ unreadable_from names.now kind 0 names.now.types) }
-    ensures kinds { IfOk result (λ found. (length found.anonymous.items ≡ 20) × (length found.unreadable ≡ 20)) }
+    ensures anonymous { IfOk result (λ found.
+        (kind : BtfKind)
+        → has_kind kinds.now kind ≡ true
+        → slice_index_or found.anonymous.items (kind_number kind) []
+        ≡ candidates names.now kind []) }
+    ensures unread { IfOk result (λ found.
+        (kind : BtfKind)
+        → has_kind kinds.now kind ≡ true
+        → slice_index_or found.unreadable (kind_number kind) None
+        ≡ unreadable_from names.now kind 0 names.now.types) }
+    ensures kinds { IfOk result (λ found.
+        (length found.anonymous.items ≡ 20) × (length found.unreadable ≡ 20)) }
 {
     let mut rows = Vec::new(alloc);
     let mut anonymous = no_anonymous_types(alloc)?;
@@ -129,7 +138,9 @@ impl<'a> Model for KindsIndex<'a> {
 
     ghost view = { λ x. record { info = x.names; kinds = x.kinds; marks = x.marks.items } };
 
-    ghost invariant = { λ x. IsIndex x.kinds x.marks.items x.names x.rows.items x.ids.items x.anonymous.items x.unreadable };
+    ghost invariant = { λ x.
+        IsIndex x.kinds x.marks.items x.names x.rows.items x.ids.items x.anonymous.items
+        x.unreadable };
 }
 
 impl<'a> KindsIndex<'a> {
@@ -194,8 +205,10 @@ impl<'a> KindsIndex<'a> {
     ) -> Result<Vec<u32>, BtfError>
         requires first { has_named self.now first name.now ≡ true }
         requires second { has_named self.now second name.now ≡ true }
-        ensures ids { IfOk result (λ ids. ids.items ≡ candidates_of_both self.now.info first second name.now) }
-        ensures fault { Refuses is_btf_memory result (candidates_of_both_fault self.now.info first second) }
+        ensures ids { IfOk result (λ ids.
+            ids.items ≡ candidates_of_both self.now.info first second name.now) }
+        ensures fault { Refuses is_btf_memory result
+            (candidates_of_both_fault self.now.info first second) }
     {
         match lower(self.unreadable_of(first), self.unreadable_of(second)) {
             Some(unreadable) => Err(unreadable.fault()),
@@ -206,8 +219,10 @@ impl<'a> KindsIndex<'a> {
     /// As `TypeIndex::candidates`. None of a kind or a name that the index lacks.
     pub fn candidates(&self, kind: BtfKind, name: &str) -> Option<Result<&[u32], BtfError>>
         ensures has { is_some result ≡ has_named self.now kind name.now }
-        ensures ids { ForSome result (λ found. IfOk found (λ ids. ids.now ≡ candidates self.now.info kind name.now)) }
-        ensures fault { ForSome result (λ found. fault_of found ≡ candidates_fault self.now.info kind) }
+        ensures ids { ForSome result (λ found.
+            IfOk found (λ ids. ids.now ≡ candidates self.now.info kind name.now)) }
+        ensures fault { ForSome result (λ found.
+            fault_of found ≡ candidates_fault self.now.info kind) }
     {
         if !self.has(kind, name) {
             return None;
@@ -223,9 +238,13 @@ impl<'a> KindsIndex<'a> {
         second: BtfKind,
         name: &str,
     ) -> Option<Result<Vec<u32>, BtfError>>
-        ensures has { is_some result ≡ (has_named self.now first name.now && has_named self.now second name.now) }
-        ensures ids { ForSome result (λ found. IfOk found (λ ids. ids.items ≡ candidates_of_both self.now.info first second name.now)) }
-        ensures fault { ForSome result (λ found. Refuses is_btf_memory found (candidates_of_both_fault self.now.info first second)) }
+        ensures has { is_some result
+            ≡ (has_named self.now first name.now && has_named self.now second name.now) }
+        ensures ids { ForSome result (λ found.
+            IfOk found (λ ids.
+            ids.items ≡ candidates_of_both self.now.info first second name.now)) }
+        ensures fault { ForSome result (λ found.
+            Refuses is_btf_memory found (candidates_of_both_fault self.now.info first second)) }
     {
         if !self.has(first, name) || !self.has(second, name) {
             return None;
@@ -284,7 +303,8 @@ impl<'a> Model for TypeIndex<'a> {
 
     ghost view = { λ x. x.index.info };
 
-    ghost invariant = { λ x. (kind : BtfKind) (name : List ℕ) → has_named x.index kind name ≡ true };
+    ghost invariant = { λ x.
+        (kind : BtfKind) (name : List ℕ) → has_named x.index kind name ≡ true };
 }
 
 impl<'a> TypeIndex<'a> {
@@ -311,8 +331,16 @@ impl<'a> TypeIndex<'a> {
         local: &Btf,
     ) -> Result<KindsIndex<'a>, BtfError>
         ensures types { IfOk result (λ index. index.info ≡ btf.now) }
-        ensures names { IfOk result (λ index. (kind : BtfKind) (id : ℕ) (t : BtfType) (name : List ℕ) → is_among_kinds kinds.now kind ≡ true → slice_get local.now.types id ≡ Some t → is_among_kinds kinds.now (kind_of t) ≡ true → type_name local.now t ≡ Ok name → has_named index kind name ≡ true) }
-        ensures kinds { IfOk result (λ index. (kind : BtfKind) (name : List ℕ) → has_named index kind name ≡ true → is_among_kinds kinds.now kind ≡ true) }
+        ensures names { IfOk result (λ index.
+            (kind : BtfKind) (id : ℕ) (t : BtfType) (name : List ℕ)
+            → is_among_kinds kinds.now kind ≡ true
+            → slice_get local.now.types id ≡ Some t
+            → is_among_kinds kinds.now (kind_of t) ≡ true
+            → type_name local.now t ≡ Ok name
+            → has_named index kind name ≡ true) }
+        ensures kinds { IfOk result (λ index.
+            (kind : BtfKind) (name : List ℕ) → has_named index kind name ≡ true
+            → is_among_kinds kinds.now kind ≡ true) }
         ensures memory { IfErr result (λ e. e ≡ OutOfMemory) }
     {
         let kinds = kinds_of(kinds);
@@ -350,8 +378,10 @@ impl<'a> TypeIndex<'a> {
         second: BtfKind,
         name: &str,
     ) -> Result<Vec<u32>, BtfError>
-        ensures ids { IfOk result (λ ids. ids.items ≡ candidates_of_both self.now first second name.now) }
-        ensures fault { Refuses is_btf_memory result (candidates_of_both_fault self.now first second) }
+        ensures ids { IfOk result (λ ids.
+            ids.items ≡ candidates_of_both self.now first second name.now) }
+        ensures fault { Refuses is_btf_memory result
+            (candidates_of_both_fault self.now first second) }
     {
         self.index.candidates_of_two(alloc, first, second, name)
     }

@@ -162,7 +162,12 @@ impl<'a> TypeNames<'a> {
     #[tactic(auto, using(crate::proofs::Names::same_key))]
     pub fn is_one_name(&self, left: u32, right: u32) -> bool
         ensures one { OnTrue result (type_key_at self.now left ≡ type_key_at self.now right) }
-        ensures told { (one other : BtfType) → slice_get self.now.types left ≡ Some one → slice_get self.now.types right ≡ Some other → kind_of one ≡ kind_of other → name_off one ≡ name_off other → result ≡ true }
+        ensures told { (one other : BtfType)
+            → slice_get self.now.types left ≡ Some one
+            → slice_get self.now.types right ≡ Some other
+            → kind_of one ≡ kind_of other
+            → name_off one ≡ name_off other
+            → result ≡ true }
     {
         let (left, right) = (self.btf.head(left as usize), self.btf.head(right as usize));
         let (Some(left), Some(right)) = (left, right) else {
@@ -191,7 +196,8 @@ fn marks_after(marks: usize, byte: u8) -> usize
 fn before_marks(bytes: &[u8], index: usize) -> Option<&[u8]>
     requires third { 2 ≤ index }
     requires inside { index < length bytes.now }
-    ensures { option_copied result ≡ option_map (λ _. take (index - 2) bytes.now) (before_zero (drop (index + 1) bytes.now)) }
+    ensures { option_copied result
+        ≡ option_map (λ _. take (index - 2) bytes.now) (before_zero (drop (index + 1) bytes.now)) }
 {
     match first_zero(&bytes[index + 1..]) {
         Some(_) => Some(&bytes[..index - 2]),
@@ -219,7 +225,8 @@ fn essential_before_zero(bytes: &[u8]) -> Option<&[u8]>
 
 /// The essential part of the name at an offset of the strings.
 pub fn essential_at(strings: &[u8], offset: u32) -> Option<&[u8]>
-    ensures { option_copied result ≡ option_map essential_name (before_zero (drop offset strings.now)) }
+    ensures { option_copied result
+        ≡ option_map essential_name (before_zero (drop offset strings.now)) }
 {
     let index = offset as usize;
     if index > strings.len() {

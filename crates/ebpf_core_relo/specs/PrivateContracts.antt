@@ -1,5 +1,26 @@
 -- What contracts of private functions name and no public one.
-use Rattle.std.specs.Prelude.{◌≡◌, ⊤, [], MatchBool, Result, Ok, Err, ℕ, List, ◌∷◌, ◌++◌, Option, Some, None, nat_le, if◌then◌else◌, ◌+◌, ◌<◌, length, slice_set}
+use Rattle.std.specs.Prelude.{
+  ◌≡◌,
+  ⊤,
+  [],
+  MatchBool,
+  Result,
+  Ok,
+  Err,
+  ℕ,
+  List,
+  ◌∷◌,
+  ◌++◌,
+  Option,
+  Some,
+  None,
+  nat_le,
+  if◌then◌else◌,
+  ◌+◌,
+  ◌<◌,
+  length,
+  slice_set,
+}
 use Rattle.ebpf_core.specs.Answers.{without_texts, is_record_memory}
 use Rattle.ebpf_core.specs.declared.error.RelocationError.{RelocationError}
 use Rattle.ebpf_core_relo.specs.declared.error.BtfRelocationError.{BtfRelocationError}
@@ -17,10 +38,16 @@ use Rattle.ebpf_core_relo.specs.declared.carried.PatchedSlots.{PatchedSlots}
 use Rattle.ebpf_btf.specs.declared.error.BtfError.TheVariants.{InvalidStringOffset}
 use Rattle.ebpf_core.specs.declared.error.RelocationError.TheVariants.{BtfError, SectionNotFound}
 use Rattle.ebpf_core_relo.specs.declared.outcomes.FoundSection.{FoundSection}
-use Rattle.ebpf_core_relo.specs.declared.outcomes.FoundSection.TheVariants.{Number, NoName, NoSection}
+use Rattle.ebpf_core_relo.specs.declared.outcomes.FoundSection.TheVariants.{
+  Number,
+  NoName,
+  NoSection,
+}
 
--- The call leaves what is stated, or answers the stated fault, its texts for people aside, or a want of memory.
-abbrev pub Leaves : {X U : Type 0} → Result U RelocationError → X → Result X RelocationError → Type 0
+-- The call leaves what is stated, or answers the stated fault, its texts for people aside, or a
+-- want of memory.
+abbrev pub Leaves : {X U : Type 0} → Result U RelocationError → X → Result X RelocationError
+    → Type 0
 Leaves (Ok u) left stated = stated ≡ Ok left
 Leaves (Err e) left stated = MatchBool (is_record_memory e) ⊤ (stated ≡ Err (without_texts e))
 
@@ -30,13 +57,17 @@ StaysRefused (Ok u) before after = Unit {0}
 StaysRefused (Err e) before after = MatchBool (is_record_memory e) ⊤ (after ≡ before)
 
 -- what a call leaves, of faults with their sections; a want of memory has no section
-abbrev pub LeavesAt : {X U : Type 0} → Result U BtfRelocationError → X → Result X BtfRelocationError → Type 0
+abbrev pub LeavesAt : {X U : Type 0} → Result U BtfRelocationError → X
+    → Result X BtfRelocationError → Type 0
 LeavesAt (Ok u) left stated = stated ≡ Ok left
-LeavesAt (Err e) left stated = MatchBool (is_memory_in_section e) (e.section ≡ []) (stated ≡ Err (without_texts_at e))
+LeavesAt (Err e) left stated =
+    MatchBool (is_memory_in_section e) (e.section ≡ []) (stated ≡ Err (without_texts_at e))
 
--- The refusal is the stated one, its texts for people aside, or a want of memory, which has no section.
+-- The refusal is the stated one, its texts for people aside, or a want of memory, which has no
+-- section.
 abbrev pub IsStatedRefusal : BtfRelocationError → BtfRelocationError → Type 0
-IsStatedRefusal e stated = MatchBool (is_memory_in_section e) (e.section ≡ []) (stated ≡ without_texts_at e)
+IsStatedRefusal e stated =
+    MatchBool (is_memory_in_section e) (e.section ≡ []) (stated ≡ without_texts_at e)
 
 -- what a table has of a section
 abbrev pub spans_or_none : Option (List Span) → List Span
@@ -44,14 +75,17 @@ spans_or_none None = []
 spans_or_none (Some spans) = spans
 
 -- a table with one more span behind those of its section, by those that are there
-abbrev pub with_span : FinMap nat_cmp (List Span) → ℕ → Span → Option (List Span) → FinMap nat_cmp (List Span)
+abbrev pub with_span : FinMap nat_cmp (List Span) → ℕ → Span → Option (List Span)
+    → FinMap nat_cmp (List Span)
 with_span m section span None = insert m section (span ∷ [])
 with_span m section span (Some spans) = insert m section (spans ++ span ∷ [])
 
 -- functions of which the one at a key, if it is there, has these slots
-abbrev pub with_slots_at : FinMap key_cmp Function → FunctionKey → List bpf_insn → Option Function → FinMap key_cmp Function
+abbrev pub with_slots_at : FinMap key_cmp Function → FunctionKey → List bpf_insn → Option Function
+    → FinMap key_cmp Function
 with_slots_at functions key slots None = functions
-with_slots_at functions key slots (Some f) = insert functions key (record f { instructions = slots })
+with_slots_at functions key slots (Some f) =
+    insert functions key (record f { instructions = slots })
 
 -- the first span that holds an offset, list by list
 abbrev pub first_at : ℕ → List (List Span) → List Span → Option Span

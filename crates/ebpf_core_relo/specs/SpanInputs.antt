@@ -1,4 +1,5 @@
--- What records read, by the spans of functions. Only contracts of private functions and proofs name it.
+-- What records read, by the spans of functions. Only contracts of private functions and proofs name
+-- it.
 use Rattle.ebpf_core.specs.Searches.{Sides}
 use Rattle.ebpf_core_relo.specs.Records.{RelocationInputs, relocation_inputs}
 use Rattle.ebpf_core_relo.specs.declared.spans.FunctionSpans.{FunctionSpans}

@@ -1,6 +1,27 @@
--- Which function of a section a record is about, and which of its slots: the spans of functions in the data of their
--- section, and which of them holds an offset.
-use Rattle.std.specs.Prelude.{ℕ, ◌/◌, Bool, ◌&&◌, List, Option, find, nat_le, nat_lt, ◌+◌, nat_eq, length, map, filter, ◌≡◌, true, [], ◌∷◌, ◌++◌, max}
+-- Which function of a section a record is about, and which of its slots: the spans of functions in
+-- the data of their section, and which of them holds an offset.
+use Rattle.std.specs.Prelude.{
+  ℕ,
+  ◌/◌,
+  Bool,
+  ◌&&◌,
+  List,
+  Option,
+  find,
+  nat_le,
+  nat_lt,
+  ◌+◌,
+  nat_eq,
+  length,
+  map,
+  filter,
+  ◌≡◌,
+  true,
+  [],
+  ◌∷◌,
+  ◌++◌,
+  max,
+}
 use Rattle.ebpf_core_relo.specs.declared.spans.Span.{Span}
 use Rattle.std.specs.FinMap.{FinMap, entries}
 use Rattle.ebpf_base.specs.Maps.{key_cmp}
@@ -19,7 +40,12 @@ span_at offset spans = find (span_holds offset) spans
 
 -- what a function takes of its section's data
 abbrev pub span_of : FunctionKey × Function → Span
-span_of e = record { address = e.0.1; start = e.1.section_offset; end = e.1.section_offset / 8 + length e.1.instructions }
+span_of e =
+    record {
+      address = e.0.1;
+      start = e.1.section_offset;
+      end = e.1.section_offset / 8 + length e.1.instructions;
+    }
 
 -- the entries of one section
 abbrev pub entries_of_section : ℕ → List (FunctionKey × Function) → List (FunctionKey × Function)
@@ -32,7 +58,8 @@ spans_among section es = map span_of (entries_of_section section es)
 abbrev pub spans_of : FinMap key_cmp Function → ℕ → List Span
 spans_of functions section = spans_among section (entries functions)
 
--- ---- what stands beside a list of spans: the greatest end up to each, where they begin one behind the other; and lists of such spans as one
+-- ---- what stands beside a list of spans: the greatest end up to each, where they begin one behind
+-- the other; and lists of such spans as one
 
 -- the greatest end up to each span, and no less than one given
 abbrev pub tops : ℕ → List Span → List ℕ

@@ -7,8 +7,7 @@ ghost use Rattle.ebpf_core_relo.specs.Absences.{absence_among, field_absence, ha
 
 use crate::error::unless_memory_of_places;
 use ebpf_btf::{Btf, BtfMember, Rows};
-use ebpf_core::NamedPath;
-use ebpf_core::{PlaceEnd, Step, place_in};
+use ebpf_core::{NamedPath, PlaceEnd, Step, place_in};
 use std::alloc::AllocError;
 
 /// The maximum number of anonymous members around a name that is looked for.
@@ -112,7 +111,9 @@ fn name_absence(
     path: &[Step],
     name: &str,
 ) -> Result<Absence, AllocError>
-    ensures { IfOk result (λ absence. absence ≡ name_absence target.now name.now (place_of local.now target.now candidate path.now)) }
+    ensures { IfOk result (λ absence.
+        absence
+        ≡ name_absence target.now name.now (place_of local.now target.now candidate path.now)) }
 {
     let place = match place_in(local, target, candidate, path) {
         Ok(place) => place,
@@ -135,7 +136,8 @@ fn field_absence(
     path: &[Step],
     candidates: &[u32],
 ) -> Result<Absence, AllocError>
-    ensures { IfOk result (λ absence. absence ≡ field_absence local.now target.now path.now candidates.now) }
+    ensures { IfOk result (λ absence.
+        absence ≡ field_absence local.now target.now path.now candidates.now) }
 {
     let last = furthest_candidate(local, target, path, candidates)?;
     let Some(candidate) = last.candidate else {
@@ -161,7 +163,8 @@ pub fn absence_among(
     path: &NamedPath,
     candidates: &[u32],
 ) -> Result<Absence, AllocError>
-    ensures { IfOk result (λ absence. absence ≡ absence_among local.now target.now path.now candidates.now) }
+    ensures { IfOk result (λ absence.
+        absence ≡ absence_among local.now target.now path.now candidates.now) }
 {
     if candidates.is_empty() {
         return Ok(Absence::NoType);
@@ -205,7 +208,8 @@ fn reach_past(
     known: usize,
 ) -> Result<usize, AllocError>
     requires { known ≤ length path.now }
-    ensures { IfOk result (λ steps. steps ≡ max known (reach local.now target.now path.now candidate)) }
+    ensures { IfOk result (λ steps.
+        steps ≡ max known (reach local.now target.now path.now candidate)) }
 {
     for steps in known..path.len() {
         if !leads(local, target, candidate, path, steps + 1)? {

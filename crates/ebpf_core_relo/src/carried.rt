@@ -248,9 +248,13 @@ pub fn patched_slots(
     record_number: usize,
     outcome: &Outcome,
 ) -> Result<PatchedSlots, RelocationError>
-    ensures slots { IfOk result (λ patched. written record_number slots.now at outcome.now ≡ Ok (put_at slots.now at patched)) }
-    ensures there { IfOk result (λ patched. (at < length slots.now) × HasRoom slots.now at patched.next) }
-    ensures fault { IfErr result (λ e. MatchBool (is_record_memory e) ⊤ (written record_number slots.now at outcome.now ≡ Err (without_texts e))) }
+    ensures slots { IfOk result (λ patched.
+        written record_number slots.now at outcome.now ≡ Ok (put_at slots.now at patched)) }
+    ensures there { IfOk result (λ patched.
+        (at < length slots.now) × HasRoom slots.now at patched.next) }
+    ensures fault { IfErr result (λ e.
+        MatchBool (is_record_memory e) ⊤
+        (written record_number slots.now at outcome.now ≡ Err (without_texts e))) }
 {
     let Some(slot) = slots.get(at) else {
         return missing_slot(slots, at, record_number);

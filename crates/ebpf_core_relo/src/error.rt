@@ -8,8 +8,7 @@ ghost use Rattle.ebpf_core.specs.Places as places;
 
 use ebpf_base::Text;
 use ebpf_btf::BtfError;
-use ebpf_core::RelocationError;
-use ebpf_core::PlaceFault;
+use ebpf_core::{PlaceFault, RelocationError};
 use ebpf_parts::Within;
 use std::alloc::{AllocError, Global};
 use thiserror::Error;

@@ -14,9 +14,9 @@ use crate::record_search::RecordSearch;
 use crate::spans::{FunctionSpans, span_in};
 use ebpf_base::{ByKey, ByName, Items};
 use ebpf_btf::{Btf, BtfError};
+use ebpf_btf_ext::{BtfExt, Relocation};
 use ebpf_core::{Outcome, RelocationError};
 use ebpf_elf::SectionIndex;
-use ebpf_btf_ext::{BtfExt, Relocation};
 use ebpf_model::Function;
 use ebpf_parts::insn::bpf_insn;
 use std::alloc::{AllocError, Global};
@@ -88,7 +88,9 @@ fn section_number_at(
     local: &Btf,
     offset: u32,
 ) -> Result<FoundSection, AllocError>
-    ensures { IfOk result (λ found. found_number found ≡ section_number_at local.now function_spans.now.section_infos.now offset) }
+    ensures { IfOk result (λ found.
+        found_number found
+        ≡ section_number_at local.now function_spans.now.section_infos.now offset) }
 {
     let name = match local.string_at(offset) {
         Ok(name) => name,
@@ -109,7 +111,8 @@ fn slot_of_record(
     section: usize,
     relocation: &Relocation,
 ) -> Option<RecordSlot>
-    ensures { (sides : Sides) → result ≡ slot_of_record (inputs_of sides function_spans.now) (Ok section) relocation.now }
+    ensures { (sides : Sides)
+        → result ≡ slot_of_record (inputs_of sides function_spans.now) (Ok section) relocation.now }
 {
     let offset = relocation.insn_off as usize;
     let span = span_in(&function_spans.spans, section, offset)?;
@@ -125,7 +128,13 @@ fn outcome_without_section(
     relocation: &Relocation,
     fault: RelocationError,
 ) -> RecordOutcome
-    ensures { result ≡ record { section_name = name; number = relocation.now.number; slot = None; result = Refused fault } }
+    ensures { result
+        ≡ record {
+          section_name = name;
+          number = relocation.now.number;
+          slot = None;
+          result = Refused fault;
+        } }
 {
     RecordOutcome {
         section_name: name,
@@ -144,8 +153,15 @@ fn outcome_in(
     written: &mut ByKey<Items<bpf_insn>>,
     relocation: &Relocation,
 ) -> Result<RecordOutcome, AllocError>
-    ensures outcome { IfOk result (λ outcome. outcome_without_texts outcome ≡ outcome_in (inputs_of search.old function_spans.now) section.name (found_number section.found) written.old relocation.now) }
-    ensures written { OnOk result (written.new ≡ left_by written.old (applied (inputs_of search.old function_spans.now) (found_number section.found) written.old relocation.now)) }
+    ensures outcome { IfOk result (λ outcome.
+        outcome_without_texts outcome
+        ≡ outcome_in (inputs_of search.old function_spans.now) section.name
+        (found_number section.found) written.old relocation.now) }
+    ensures written { OnOk result
+        (written.new
+        ≡ left_by written.old
+        (applied (inputs_of search.old function_spans.now) (found_number section.found)
+        written.old relocation.now)) }
     ensures search { search.new ≡ search.old }
 {
     match section.found {
@@ -179,8 +195,17 @@ fn add_record(
     relocation: &Relocation,
     outcomes: &mut RecordOutcomes,
 ) -> Result<(), AllocError>
-    ensures records { OnOk result (map outcome_without_texts outcomes.new.records ≡ map outcome_without_texts outcomes.old.records ++ outcome_in (inputs_of search.old function_spans.now) section.name (found_number section.found) outcomes.old.written relocation.now ∷ []) }
-    ensures written { OnOk result (outcomes.new.written ≡ left_by outcomes.old.written (applied (inputs_of search.old function_spans.now) (found_number section.found) outcomes.old.written relocation.now)) }
+    ensures records { OnOk result
+        (map outcome_without_texts outcomes.new.records
+        ≡ map outcome_without_texts outcomes.old.records
+        ++ outcome_in (inputs_of search.old function_spans.now) section.name
+        (found_number section.found) outcomes.old.written relocation.now
+        ∷ []) }
+    ensures written { OnOk result
+        (outcomes.new.written
+        ≡ left_by outcomes.old.written
+        (applied (inputs_of search.old function_spans.now) (found_number section.found)
+        outcomes.old.written relocation.now)) }
     ensures search { search.new ≡ search.old }
 {
     let outcome = outcome_in(
@@ -204,9 +229,17 @@ fn add_records(
     relocations: &[Relocation],
     outcomes: &mut RecordOutcomes,
 ) -> Result<(), AllocError>
-    requires { found_number section.found ≡ section_number_at search.old.local function_spans.now.section_infos.now section.name }
-    ensures records { OnOk result (map outcome_without_texts outcomes.new.records ≡ map outcome_without_texts outcomes.old.records ++ outcomes_from (inputs_of search.old function_spans.now) outcomes.old.written (named_in section.name relocations.now)) }
-    ensures written { OnOk result (outcomes.new.written ≡ slots_left (inputs_of search.old function_spans.now) outcomes.old.written (named_in section.name relocations.now)) }
+    requires { found_number section.found
+        ≡ section_number_at search.old.local function_spans.now.section_infos.now section.name }
+    ensures records { OnOk result
+        (map outcome_without_texts outcomes.new.records
+        ≡ map outcome_without_texts outcomes.old.records
+        ++ outcomes_from (inputs_of search.old function_spans.now) outcomes.old.written
+        (named_in section.name relocations.now)) }
+    ensures written { OnOk result
+        (outcomes.new.written
+        ≡ slots_left (inputs_of search.old function_spans.now) outcomes.old.written
+        (named_in section.name relocations.now)) }
     ensures search { search.new ≡ search.old }
 {
     for relocation in relocations {
@@ -225,8 +258,15 @@ fn add_sections(
     outcomes: &mut RecordOutcomes,
 ) -> Result<(), AllocError>
     requires { search.old.local ≡ local.now }
-    ensures records { OnOk result (map outcome_without_texts outcomes.new.records ≡ map outcome_without_texts outcomes.old.records ++ outcomes_from (inputs_of search.old function_spans.now) outcomes.old.written (named_records sections.now)) }
-    ensures written { OnOk result (outcomes.new.written ≡ slots_left (inputs_of search.old function_spans.now) outcomes.old.written (named_records sections.now)) }
+    ensures records { OnOk result
+        (map outcome_without_texts outcomes.new.records
+        ≡ map outcome_without_texts outcomes.old.records
+        ++ outcomes_from (inputs_of search.old function_spans.now) outcomes.old.written
+        (named_records sections.now)) }
+    ensures written { OnOk result
+        (outcomes.new.written
+        ≡ slots_left (inputs_of search.old function_spans.now) outcomes.old.written
+        (named_records sections.now)) }
 {
     for part in sections {
         let section = NamedSection {
@@ -266,8 +306,16 @@ pub fn record_outcomes(
     relocations: &BtfExt,
     target: &Btf,
 ) -> Result<RecordOutcomes, AllocError>
-    ensures records { IfOk result (λ outcomes. map outcome_without_texts outcomes.records ≡ record_outcomes (relocation_inputs_between local.now target.now functions.now section_infos.now) relocations.now.relocations) }
-    ensures written { IfOk result (λ outcomes. outcomes.written ≡ record_slots (relocation_inputs_between local.now target.now functions.now section_infos.now) relocations.now.relocations) }
+    ensures records { IfOk result (λ outcomes.
+        map outcome_without_texts outcomes.records
+        ≡ record_outcomes
+        (relocation_inputs_between local.now target.now functions.now section_infos.now)
+        relocations.now.relocations) }
+    ensures written { IfOk result (λ outcomes.
+        outcomes.written
+        ≡ record_slots
+        (relocation_inputs_between local.now target.now functions.now section_infos.now)
+        relocations.now.relocations) }
 {
     let function_spans = FunctionSpans::new(alloc, functions, section_infos)?;
     let mut search = RecordSearch::new(alloc, local, target);

@@ -14,8 +14,8 @@ use crate::sections::apply_record;
 use crate::spans::FunctionSpans;
 use ebpf_base::{ByKey, Items};
 use ebpf_btf::Btf;
-use ebpf_core::{CoreSearch, NamedPath, Outcome, Question, local_path, question_of};
 use ebpf_btf_ext::Relocation;
+use ebpf_core::{CoreSearch, NamedPath, Outcome, Question, local_path, question_of};
 use ebpf_parts::insn::bpf_insn;
 use std::alloc::{AllocError, Global};
 use std::collections::BTreeMap;
@@ -52,7 +52,9 @@ impl<'a> Model for RecordSearch<'a> {
 
     ghost view = { λ s. s.search };
 
-    ghost invariant = { λ s. AreCached (λ r absence. absence_of s.search.local s.search.target r ≡ absence) s.cached };
+    ghost invariant = { λ s.
+        AreCached (λ r absence. absence_of s.search.local s.search.target r ≡ absence)
+        s.cached };
 }
 
 impl<'a> RecordSearch<'a> {
@@ -74,7 +76,10 @@ impl<'a> RecordSearch<'a> {
         path: &NamedPath,
         type_id: u32,
     ) -> Result<Absence, AllocError>
-        ensures absence { IfOk result (λ absence. absence ≡ absence_in self.old.local self.old.target path.now (candidates_for self.old.local self.old.target type_id)) }
+        ensures absence { IfOk result (λ absence.
+            absence
+            ≡ absence_in self.old.local self.old.target path.now
+            (candidates_for self.old.local self.old.target type_id)) }
         ensures stays { self.new ≡ self.old }
     {
         match self.search.candidates(alloc, type_id) {
@@ -92,7 +97,8 @@ impl<'a> RecordSearch<'a> {
     /// The reason why a record has no value, whatever is cached.
     #[tactic(auto, unfolding(crate::specs::Absences::absence_of))]
     fn find(&mut self, alloc: Global, relocation: &Relocation) -> Result<Absence, AllocError>
-        ensures absence { IfOk result (λ absence. absence ≡ absence_of self.old.local self.old.target relocation.now) }
+        ensures absence { IfOk result (λ absence.
+            absence ≡ absence_of self.old.local self.old.target relocation.now) }
         ensures stays { self.new ≡ self.old }
     {
         let question = without_position(relocation);
@@ -117,7 +123,8 @@ impl<'a> RecordSearch<'a> {
 
     /// The reason why a record has no value.
     pub fn absence(&mut self, alloc: Global, relocation: &Relocation) -> Result<Absence, AllocError>
-        ensures absence { IfOk result (λ absence. absence ≡ absence_of self.old.local self.old.target relocation.now) }
+        ensures absence { IfOk result (λ absence.
+            absence ≡ absence_of self.old.local self.old.target relocation.now) }
         ensures stays { self.new ≡ self.old }
     {
         if let Some(absence) = self.cached.get(&question_of(relocation)) {
@@ -135,7 +142,8 @@ impl<'a> RecordSearch<'a> {
         relocation: &Relocation,
         outcome: Outcome,
     ) -> Result<RecordResult, AllocError>
-        ensures outcome_result { IfOk result (λ answer. answer ≡ outcome_result self.old relocation.now outcome) }
+        ensures outcome_result { IfOk result (λ answer.
+            answer ≡ outcome_result self.old relocation.now outcome) }
         ensures stays { self.new ≡ self.old }
     {
         if outcome.value.is_some() {
@@ -155,8 +163,15 @@ impl<'a> RecordSearch<'a> {
         written: &mut ByKey<Items<bpf_insn>>,
         relocation: &Relocation,
     ) -> Result<RecordResult, AllocError>
-        ensures outcome_result { IfOk result (λ answer. result_without_texts answer ≡ result_in (inputs_of self.old function_spans.now) (Ok section) written.old relocation.now) }
-        ensures written { OnOk result (written.new ≡ left_by written.old (applied (inputs_of self.old function_spans.now) (Ok section) written.old relocation.now)) }
+        ensures outcome_result { IfOk result (λ answer.
+            result_without_texts answer
+            ≡ result_in (inputs_of self.old function_spans.now) (Ok section) written.old
+            relocation.now) }
+        ensures written { OnOk result
+            (written.new
+            ≡ left_by written.old
+            (applied (inputs_of self.old function_spans.now) (Ok section) written.old
+            relocation.now)) }
         ensures stays { self.new ≡ self.old }
     {
         let applied = apply_record(

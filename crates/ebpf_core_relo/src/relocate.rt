@@ -11,9 +11,9 @@ use crate::sections::apply_all;
 use crate::spans::FunctionSpans;
 use ebpf_base::{ByKey, ByName, Items};
 use ebpf_btf::Btf;
+use ebpf_btf_ext::BtfExt;
 use ebpf_core::CoreSearch;
 use ebpf_elf::SectionIndex;
-use ebpf_btf_ext::BtfExt;
 use ebpf_model::Function;
 use ebpf_parts::insn::bpf_insn;
 use std::alloc::Global;
@@ -27,8 +27,17 @@ fn written_slots(
     relocations: &BtfExt,
     target: &Btf,
 ) -> Result<ByKey<Items<bpf_insn>>, BtfRelocationError>
-    ensures slots { IfOk result (λ slots. slots_written (relocation_inputs_between local.now target.now functions.now section_infos.now) relocations.now.relocations ≡ Ok slots) }
-    ensures fault { IfErr result (λ e. MatchBool (is_memory_in_section e) (e.section ≡ []) (slots_written (relocation_inputs_between local.now target.now functions.now section_infos.now) relocations.now.relocations ≡ Err (without_texts_at e))) }
+    ensures slots { IfOk result (λ slots.
+        slots_written
+        (relocation_inputs_between local.now target.now functions.now section_infos.now)
+        relocations.now.relocations
+        ≡ Ok slots) }
+    ensures fault { IfErr result (λ e.
+        MatchBool (is_memory_in_section e) (e.section ≡ [])
+        (slots_written
+        (relocation_inputs_between local.now target.now functions.now
+        section_infos.now) relocations.now.relocations
+        ≡ Err (without_texts_at e))) }
 {
     let Ok(function_spans) = FunctionSpans::new(alloc, functions, section_infos) else {
         return Err(BtfRelocationError::memory(alloc));
@@ -67,9 +76,22 @@ pub fn relocate_slots(
     relocations: &BtfExt,
     target: &Btf,
 ) -> Result<ByKey<Items<bpf_insn>>, BtfRelocationError>
-    ensures slots { IfOk result (λ slots. slots_written (relocation_inputs_between local.now target.now functions.now section_infos.now) relocations.now.relocations ≡ Ok slots) }
-    ensures fault { IfErr result (λ e. MatchBool (is_memory_in_section e) (e.section ≡ []) (slots_written (relocation_inputs_between local.now target.now functions.now section_infos.now) relocations.now.relocations ≡ Err (without_texts_at e))) }
-    ensures refused { IfErr result (λ e. MatchBool (is_memory_in_section e) (e.section ≡ []) (RecordsAreRefused (relocation_inputs_between local.now target.now functions.now section_infos.now) relocations.now.relocations (without_texts_at e))) }
+    ensures slots { IfOk result (λ slots.
+        slots_written
+        (relocation_inputs_between local.now target.now functions.now section_infos.now)
+        relocations.now.relocations
+        ≡ Ok slots) }
+    ensures fault { IfErr result (λ e.
+        MatchBool (is_memory_in_section e) (e.section ≡ [])
+        (slots_written
+        (relocation_inputs_between local.now target.now functions.now
+        section_infos.now) relocations.now.relocations
+        ≡ Err (without_texts_at e))) }
+    ensures refused { IfErr result (λ e.
+        MatchBool (is_memory_in_section e) (e.section ≡ [])
+        (RecordsAreRefused
+        (relocation_inputs_between local.now target.now functions.now
+        section_infos.now) relocations.now.relocations (without_texts_at e))) }
 {
     written_slots(alloc, functions, section_infos, local, relocations, target)
 }
@@ -93,7 +115,8 @@ fn set_slots_at(functions: &mut ByKey<Function>, key: (usize, u64), slots: Items
 
 /// Replaces the slots of functions by those at their keys. No memory is taken.
 pub fn put_slots(functions: &mut ByKey<Function>, written: ByKey<Items<bpf_insn>>)
-    ensures { (q : FunctionKey) → map.get functions.new q ≡ with_slots (map.get written q) (map.get functions.old q) }
+    ensures { (q : FunctionKey)
+        → map.get functions.new q ≡ with_slots (map.get written q) (map.get functions.old q) }
 {
     for (key, slots) in written.into_map() {
         set_slots_at(functions, key, slots);

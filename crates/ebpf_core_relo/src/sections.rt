@@ -16,8 +16,8 @@ use crate::outcomes::RecordSlot;
 use crate::spans::{FunctionSpans, Span, span_in};
 use ebpf_base::{ByKey, Items, Text};
 use ebpf_btf::BtfError;
-use ebpf_core::{CoreSearch, Outcome, RelocationError};
 use ebpf_btf_ext::Relocation;
+use ebpf_core::{CoreSearch, Outcome, RelocationError};
 use ebpf_parts::insn::bpf_insn;
 use std::alloc::{AllocError, Global};
 
@@ -37,7 +37,9 @@ fn apply_section(
     name: &str,
     records: &[Relocation],
 ) -> Result<(), RelocationError>
-    ensures applied { Leaves result written.new (section_applied (inputs_of search.old function_spans.now) name.now records.now written.old) }
+    ensures applied { Leaves result written.new
+        (section_applied (inputs_of search.old function_spans.now) name.now records.now
+        written.old) }
     ensures search { search.new ≡ search.old }
 {
     let Some(section) = function_spans.section_infos.get(name) else {
@@ -61,7 +63,8 @@ fn answer_in_section(alloc: Global, name: &str, error: RelocationError) -> BtfRe
 
 /// The error of a section whose name can't be read.
 fn unnamed_section_error(alloc: Global, offset: u32, error: BtfError) -> BtfRelocationError
-    ensures { IsStatedRefusal result (error_in_section (unnamed_section offset) (of_type_error error)) }
+    ensures { IsStatedRefusal result
+        (error_in_section (unnamed_section offset) (of_type_error error)) }
 {
     let error = RelocationError::from(error);
     let Ok(name) = format!(in alloc; "section@{offset}") else {
@@ -79,7 +82,9 @@ fn apply_named(
     offset: u32,
     records: &[Relocation],
 ) -> Result<(), BtfRelocationError>
-    ensures applied { LeavesAt result written.new (named_applied (inputs_of search.old function_spans.now) (offset, records.now) written.old) }
+    ensures applied { LeavesAt result written.new
+        (named_applied (inputs_of search.old function_spans.now) (offset, records.now)
+        written.old) }
     ensures search { search.new ≡ search.old }
 {
     let local = search.local();
@@ -108,7 +113,8 @@ pub fn apply_all(
     written: &mut ByKey<Items<bpf_insn>>,
     sections: &[(u32, Items<Relocation>)],
 ) -> Result<(), BtfRelocationError>
-    ensures applied { LeavesAt result written.new (all_applied (inputs_of search.old function_spans.now) sections.now written.old) }
+    ensures applied { LeavesAt result written.new
+        (all_applied (inputs_of search.old function_spans.now) sections.now written.old) }
 {
     for section in sections {
         apply_named(
@@ -130,7 +136,8 @@ fn take_slots(
     written: &mut ByKey<Items<bpf_insn>>,
     key: (usize, u64),
 ) -> Result<Items<bpf_insn>, AllocError>
-    ensures slots { IfOk result (λ slots. slots ≡ slots_so_far function_spans.now.functions.now written.old key) }
+    ensures slots { IfOk result (λ slots.
+        slots ≡ slots_so_far function_spans.now.functions.now written.old key) }
     ensures taken { written.new ≡ map.remove written.old key }
 {
     if let Some(slots) = written.remove(key) {
@@ -151,9 +158,24 @@ fn patched_slots_in(
     record_number: usize,
     outcome: &Outcome,
 ) -> Result<PatchedSlots, RelocationError>
-    ensures slots { IfOk result (λ patched. carried.written record_number (slots_so_far function_spans.now.functions.now written.now at.function) at.slot outcome.now ≡ Ok (put_at (slots_so_far function_spans.now.functions.now written.now at.function) at.slot patched)) }
-    ensures there { IfOk result (λ patched. (at.slot < length (slots_so_far function_spans.now.functions.now written.now at.function)) × HasRoom (slots_so_far function_spans.now.functions.now written.now at.function) at.slot patched.next) }
-    ensures fault { IfErr result (λ e. MatchBool (is_record_memory e) ⊤ (carried.written record_number (slots_so_far function_spans.now.functions.now written.now at.function) at.slot outcome.now ≡ Err (without_texts e))) }
+    ensures slots { IfOk result (λ patched.
+        carried.written record_number
+        (slots_so_far function_spans.now.functions.now written.now at.function) at.slot
+        outcome.now
+        ≡ Ok
+        (put_at (slots_so_far function_spans.now.functions.now written.now at.function)
+        at.slot patched)) }
+    ensures there { IfOk result (λ patched.
+        (at.slot
+        < length (slots_so_far function_spans.now.functions.now written.now at.function))
+        × HasRoom (slots_so_far function_spans.now.functions.now written.now at.function)
+        at.slot patched.next) }
+    ensures fault { IfErr result (λ e.
+        MatchBool (is_record_memory e) ⊤
+        (carried.written record_number
+        (slots_so_far function_spans.now.functions.now written.now at.function) at.slot
+        outcome.now
+        ≡ Err (without_texts e))) }
 {
     if let Some(slots) = written.get(at.function) {
         return patched_slots(alloc, slots.as_slice(), at.slot, record_number, outcome);
@@ -191,8 +213,11 @@ fn put_outcome(
     relocation: &Relocation,
     located: SpanInSection,
 ) -> Result<Outcome, RelocationError>
-    ensures put { Leaves result written.new (put_outcome (inputs_of search.old function_spans.now) located.section written.old relocation.now located.span) }
-    ensures outcome { IfOk result (λ outcome. outcome_of search.old.local search.old.target relocation.now ≡ Ok outcome) }
+    ensures put { Leaves result written.new
+        (put_outcome (inputs_of search.old function_spans.now) located.section written.old
+        relocation.now located.span) }
+    ensures outcome { IfOk result (λ outcome.
+        outcome_of search.old.local search.old.target relocation.now ≡ Ok outcome) }
     ensures stays { StaysRefused result written.old written.new }
     ensures search { search.new ≡ search.old }
 {
@@ -226,8 +251,11 @@ pub fn apply_record(
     written: &mut ByKey<Items<bpf_insn>>,
     relocation: &Relocation,
 ) -> Result<Outcome, RelocationError>
-    ensures applied { Leaves result written.new (record_applied (inputs_of search.old function_spans.now) section written.old relocation.now) }
-    ensures outcome { IfOk result (λ outcome. outcome_of search.old.local search.old.target relocation.now ≡ Ok outcome) }
+    ensures applied { Leaves result written.new
+        (record_applied (inputs_of search.old function_spans.now) section written.old
+        relocation.now) }
+    ensures outcome { IfOk result (λ outcome.
+        outcome_of search.old.local search.old.target relocation.now ≡ Ok outcome) }
     ensures stays { StaysRefused result written.old written.new }
     ensures search { search.new ≡ search.old }
 {
@@ -247,7 +275,9 @@ pub fn apply_records(
     written: &mut ByKey<Items<bpf_insn>>,
     records: &[Relocation],
 ) -> Result<(), RelocationError>
-    ensures applied { Leaves result written.new (records_applied (inputs_of search.old function_spans.now) section records.now written.old) }
+    ensures applied { Leaves result written.new
+        (records_applied (inputs_of search.old function_spans.now) section records.now
+        written.old) }
     ensures search { search.new ≡ search.old }
 {
     for relocation in records {

@@ -125,7 +125,8 @@ impl Spans {
 /// The upper bound of a slot among ends: the number of those that are not past it, where these come first.
 fn upper_bound(ends: &[usize], slot: usize) -> usize
     requires { IsPartitionedBy (λ end. nat_le end slot) ends.now }
-    ensures { IsPartitionPoint (λ end. nat_le end slot ≡ true) (λ end. nat_le end slot ≡ false) ends.now result }
+    ensures { IsPartitionPoint (λ end. nat_le end slot ≡ true) (λ end. nat_le end slot ≡ false)
+        ends.now result }
 {
     ends.partition_point(|end| *end <= slot)
 }
@@ -202,7 +203,8 @@ fn add(
     section: usize,
     span: Span,
 ) -> Result<(), AllocError>
-    ensures { OnOk result (sections.new ≡ with_span sections.old section span (map.get sections.old section)) }
+    ensures { OnOk result
+        (sections.new ≡ with_span sections.old section span (map.get sections.old section)) }
 {
     match sections.get_mut(section as u64) {
         Some(spans) => {
@@ -223,7 +225,8 @@ pub fn section_spans(
     alloc: Global,
     functions: &ByKey<Function>,
 ) -> Result<BySection<Spans>, AllocError>
-    ensures { IfOk result (λ sections. (q : ℕ) → spans_or_none (map.get sections q) ≡ spans_of functions.now q) }
+    ensures { IfOk result (λ sections.
+        (q : ℕ) → spans_or_none (map.get sections q) ≡ spans_of functions.now q) }
 {
     let mut sections = BySection::new(alloc);
     for (key, function) in functions.iter() {

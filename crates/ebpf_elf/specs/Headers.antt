@@ -1,5 +1,20 @@
--- The header of a file and those of its sections, by index (ELF-64 gABI, 'ELF Header' and 'Sections').
-use Rattle.std.specs.Prelude.{ℕ, ◌+◌, ◌-◌, ◌*◌, Bool, ◌||◌, List, length, nat_le, ◌==◌, if◌then◌else◌, slice_index, slice_range}
+-- The header of a file and those of its sections, by index (ELF-64 gABI, 'ELF Header' and
+-- 'Sections').
+use Rattle.std.specs.Prelude.{
+  ℕ,
+  ◌+◌,
+  ◌-◌,
+  ◌*◌,
+  Bool,
+  ◌||◌,
+  List,
+  length,
+  nat_le,
+  ◌==◌,
+  if◌then◌else◌,
+  slice_index,
+  slice_range,
+}
 use Rattle.std.specs.List.{range_with_len}
 use Rattle.ebpf_base.specs.declared.endianness.Endianness.{Endianness}
 use Rattle.ebpf_base.specs.declared.endianness.Endianness.TheVariants.{Little, Big}
@@ -30,7 +45,8 @@ e_shstrndx bytes = number_at (ei_data bytes) 2 bytes 62
 abbrev pub section_count : List ℕ → ℕ
 section_count bytes = if e_shoff bytes == 0 then 0 else e_shnum bytes
 
--- a section header of 64 bytes (Elf64_Shdr); sh_addralign and sh_entsize, the last 16 bytes, are not read
+-- a section header of 64 bytes (Elf64_Shdr); sh_addralign and sh_entsize, the last 16 bytes, are
+-- not read
 unfoldable pub header_at : Endianness → List ℕ → ℕ → SectionHeader
 header_at order bytes offset = record {
   sh_name = number_at order 4 bytes offset;

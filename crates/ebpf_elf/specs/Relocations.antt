@@ -1,9 +1,36 @@
 -- The sections with relocations, and the relocations of a section (ELF-64 gABI, 'Relocation').
-use Rattle.std.specs.Prelude.{ℕ, ◌+◌, ◌-◌, ◌*◌, ◌/◌, ◌%◌, ◌^◌, Bool, not, ◌&&◌, ◌||◌, List, [], map, filter, Option, Some, None, nat_lt, ◌==◌, if◌then◌else◌}
+use Rattle.std.specs.Prelude.{
+  ℕ,
+  ◌+◌,
+  ◌-◌,
+  ◌*◌,
+  ◌/◌,
+  ◌%◌,
+  ◌^◌,
+  Bool,
+  not,
+  ◌&&◌,
+  ◌||◌,
+  List,
+  [],
+  map,
+  filter,
+  Option,
+  Some,
+  None,
+  nat_lt,
+  ◌==◌,
+  if◌then◌else◌,
+}
 use Rattle.std.specs.List.{flat_map, range_with_len}
 use Rattle.ebpf_base.specs.declared.endianness.Endianness.{Endianness}
 use Rattle.ebpf_base.specs.Numbers.{number_at}
-use Rattle.ebpf_elf.specs.declared.constants.TheConstants.{R_BPF_64_64, R_BPF_64_32, SHT_REL, SHT_RELA}
+use Rattle.ebpf_elf.specs.declared.constants.TheConstants.{
+  R_BPF_64_64,
+  R_BPF_64_32,
+  SHT_REL,
+  SHT_RELA,
+}
 use Rattle.ebpf_elf.specs.declared.relocation.ElfRelocation.{ElfRelocation}
 use Rattle.ebpf_elf.specs.declared.relocation.EntryExtent.{EntryExtent}
 use Rattle.ebpf_elf.specs.Headers.{ei_data, section, section_count, is_inside}
@@ -14,8 +41,9 @@ use Rattle.ebpf_elf.specs.Sections.{SectionOf, header, sections, sections_from}
 abbrev pub relocation_size : ℕ → ℕ
 relocation_size kind = if kind == SHT_REL then 16 else 24
 
--- The section j holds relocations against the symbol table in the section i: its kind is REL or RELA,
--- its link is i, and its info is the section that is patched (0, at dynamic relocations, is none).
+-- The section j holds relocations against the symbol table in the section i: its kind is REL or
+-- RELA, its link is i, and its info is the section that is patched (0, at dynamic relocations, is
+-- none).
 unfoldable pub holds_relocations : List ℕ → ℕ → ℕ → Bool
 holds_relocations bytes i j =
     ((section bytes j).sh_type == SHT_REL || (section bytes j).sh_type == SHT_RELA)
@@ -42,11 +70,13 @@ relocation_at order bytes offset = record {
 -- the sections with relocations against the symbol table, in order; there are none without one
 abbrev pub relocation_sections_in : List ℕ → Option ℕ → List SectionOf
 relocation_sections_in bytes None = []
-relocation_sections_in bytes (Some t) = filter (λ s. holds_relocations s.file t s.index) (sections bytes)
+relocation_sections_in bytes (Some t) =
+    filter (λ s. holds_relocations s.file t s.index) (sections bytes)
 
 -- those of the sections from index a up to n
 abbrev pub relocation_sections_from : List ℕ → ℕ → ℕ → ℕ → List SectionOf
-relocation_sections_from bytes t a n = filter (λ s. holds_relocations s.file t s.index) (sections_from bytes a n)
+relocation_sections_from bytes t a n =
+    filter (λ s. holds_relocations s.file t s.index) (sections_from bytes a n)
 
 abbrev pub relocation_sections : List ℕ → List SectionOf
 relocation_sections bytes = relocation_sections_in bytes (symbol_table_section bytes)
@@ -61,10 +91,17 @@ entry_count s = (header s).sh_size / relocation_size (header s).sh_type
 
 -- where they stand
 abbrev pub extent_of : SectionOf → EntryExtent
-extent_of s = record { offset = (header s).sh_offset; entry_size = relocation_size (header s).sh_type; count = entry_count s }
+extent_of s =
+    record {
+      offset = (header s).sh_offset;
+      entry_size = relocation_size (header s).sh_type;
+      count = entry_count s;
+    }
 
 unfoldable pub table_entry : SectionOf → ℕ → ElfRelocation
-table_entry s k = relocation_at (ei_data s.file) s.file ((header s).sh_offset + relocation_size (header s).sh_type * k)
+table_entry s k =
+    relocation_at (ei_data s.file) s.file
+    ((header s).sh_offset + relocation_size (header s).sh_type * k)
 
 abbrev pub table_entries : SectionOf → List ElfRelocation
 table_entries s = map (λ k. table_entry s k) (range_with_len 0 (entry_count s))

@@ -32,8 +32,11 @@ section_name s = string_table_name (section_names s.file) (header s).sh_name
 
 -- a section of kind NOBITS occupies no space in the file, whatever its size
 unfoldable pub data_faults : SectionOf → List (Row ElfReadError)
-data_faults s =
-    (not ((header s).sh_type == SHT_NOBITS) && not (is_inside s.file (header s).sh_offset (header s).sh_size), BadSectionRange)
+data_faults s = (
+  not ((header s).sh_type == SHT_NOBITS)
+      && not (is_inside s.file (header s).sh_offset (header s).sh_size),
+  BadSectionRange,
+)
     ∷ []
 
 unfoldable pub data_of : SectionOf → List ℕ

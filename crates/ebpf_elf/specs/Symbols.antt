@@ -1,18 +1,58 @@
 -- The symbol table of a file and its symbols (ELF-64 gABI, 'Symbol Table').
-use Rattle.std.specs.Prelude.{ℕ, ◌+◌, ◌-◌, ◌*◌, ◌/◌, ◌%◌, Bool, not, ◌&&◌, ◌||◌, List, [], map, Option, Some, None, nat_le, ◌==◌, if◌then◌else◌}
+use Rattle.std.specs.Prelude.{
+  ℕ,
+  ◌+◌,
+  ◌-◌,
+  ◌*◌,
+  ◌/◌,
+  ◌%◌,
+  Bool,
+  not,
+  ◌&&◌,
+  ◌||◌,
+  List,
+  [],
+  map,
+  Option,
+  Some,
+  None,
+  nat_le,
+  ◌==◌,
+  if◌then◌else◌,
+}
 use Rattle.std.specs.List.{find, range_with_len}
 use Rattle.ebpf_base.specs.declared.endianness.Endianness.{Endianness}
 use Rattle.ebpf_base.specs.Numbers.{number_at}
-use Rattle.ebpf_elf.specs.declared.constants.TheConstants.{SHN_LORESERVE, SHT_SYMTAB, STT_NOTYPE, STT_OBJECT, STT_FUNC, STT_SECTION, STT_FILE, STT_COMMON, STT_TLS, STT_GNU_IFUNC, STB_WEAK}
+use Rattle.ebpf_elf.specs.declared.constants.TheConstants.{
+  SHN_LORESERVE,
+  SHT_SYMTAB,
+  STT_NOTYPE,
+  STT_OBJECT,
+  STT_FUNC,
+  STT_SECTION,
+  STT_FILE,
+  STT_COMMON,
+  STT_TLS,
+  STT_GNU_IFUNC,
+  STB_WEAK,
+}
 use Rattle.ebpf_elf.specs.declared.symbol.SymbolKind.{SymbolKind}
-use Rattle.ebpf_elf.specs.declared.symbol.SymbolKind.TheVariants.{Unknown, Text, Data, Section, File, Tls}
+use Rattle.ebpf_elf.specs.declared.symbol.SymbolKind.TheVariants.{
+  Unknown,
+  Text,
+  Data,
+  Section,
+  File,
+  Tls,
+}
 use Rattle.ebpf_elf.specs.declared.symbol.SymbolEntry.{SymbolEntry}
 use Rattle.ebpf_elf.specs.Headers.{ei_data, section, section_indices, range_of}
 use Rattle.ebpf_elf.specs.Names.{string_table_name}
 
 -- the first section of kind SYMTAB
 unfoldable pub symbol_table_section : List ℕ → Option ℕ
-symbol_table_section bytes = find (λ i. (section bytes i).sh_type == SHT_SYMTAB) (section_indices bytes)
+symbol_table_section bytes =
+    find (λ i. (section bytes i).sh_type == SHT_SYMTAB) (section_indices bytes)
 
 -- where the entry of a symbol stands in the table i: each has 24 bytes
 abbrev pub symbol_offset : List ℕ → ℕ → ℕ → ℕ
@@ -52,11 +92,13 @@ entry s = symbol_at (ei_data s.file) s.file (symbol_offset s.file s.table s.inde
 -- the symbols of a file, in order; there are none without a symbol table
 abbrev pub symbols_in : List ℕ → Option ℕ → List SymbolOf
 symbols_in bytes None = []
-symbols_in bytes (Some t) = map (λ k. record { file = bytes; table = t; index = k }) (symbol_table_indices bytes t)
+symbols_in bytes (Some t) =
+    map (λ k. record { file = bytes; table = t; index = k }) (symbol_table_indices bytes t)
 
 -- those of a table from index a up to n
 abbrev pub symbols_from : List ℕ → ℕ → ℕ → ℕ → List SymbolOf
-symbols_from bytes t a n = map (λ k. record { file = bytes; table = t; index = k }) (range_with_len a (n - a))
+symbols_from bytes t a n =
+    map (λ k. record { file = bytes; table = t; index = k }) (range_with_len a (n - a))
 
 abbrev pub symbols : List ℕ → List SymbolOf
 symbols bytes = symbols_in bytes (symbol_table_section bytes)
@@ -85,14 +127,17 @@ symbol_kind e =
 
 -- index 0 (SHN_UNDEF) and the reserved indices, from SHN_LORESERVE on, are no section
 unfoldable pub symbol_section_index : SymbolEntry → Option ℕ
-symbol_section_index e = if e.st_shndx == 0 || nat_le SHN_LORESERVE e.st_shndx then None else Some e.st_shndx
+symbol_section_index e =
+    if e.st_shndx == 0 || nat_le SHN_LORESERVE e.st_shndx then None else Some e.st_shndx
 
 -- A function, an object or something of a size, that is not undefined.
 -- A reserved section index counts here, as that of an absolute symbol.
 unfoldable pub is_definition : SymbolEntry → Bool
 is_definition e =
     not (e.st_shndx == 0)
-    && (st_type e == STT_FUNC || st_type e == STT_OBJECT || (st_type e == STT_NOTYPE && not (e.st_size == 0)))
+    && (st_type e == STT_FUNC
+    || st_type e == STT_OBJECT
+    || (st_type e == STT_NOTYPE && not (e.st_size == 0)))
 
 unfoldable pub is_weak : SymbolEntry → Bool
 is_weak e = st_bind e == STB_WEAK

@@ -39,10 +39,12 @@ fn names_of<'a>(table: &SectionTable<'a>) -> Result<&'a [u8], ElfReadError>
 /// The symbol table in the section `index`, whose symbols and relocations are sound.
 fn sound_symbols<'a>(table: SectionTable<'a>, index: usize) -> Result<SymbolTable<'a>, ElfReadError>
     requires { index < table.count }
-    ensures fault { fault_of result ≡ first_in (symbol_table_faults table.entry.bytes.now (Some index)) }
+    ensures fault { fault_of result
+        ≡ first_in (symbol_table_faults table.entry.bytes.now (Some index)) }
     ensures table { IfOk result (λ s. s.table ≡ table.entry) }
     ensures index { IfOk result (λ s. s.index ≡ index) }
-    ensures relocations { IfOk result (λ s. first_of (relocation_faults s.table.bytes.now s.index) ≡ None) }
+    ensures relocations { IfOk result (λ s.
+        first_of (relocation_faults s.table.bytes.now s.index) ≡ None) }
 {
     let symbols = open_symbol_table(table, index)?;
     symbols.check_section_indices()?;
@@ -58,7 +60,8 @@ pub struct Layout<'a> {
     pub symbols: Option<SymbolTable<'a>>,
     ghost strings: { 0 < table.count → names.now ≡ section_names table.bytes.now },
     ghost symtab: { symbol_table_section table.bytes.now ≡ option_map (λ s. s.index) symbols },
-    ghost relocations: { ForSome symbols (λ s. first_of (relocation_faults s.table.bytes.now s.index) ≡ None) },
+    ghost relocations: { ForSome symbols (λ s.
+        first_of (relocation_faults s.table.bytes.now s.index) ≡ None) },
     ghost same: { ForSome symbols (λ s. s.table.bytes.now ≡ table.bytes.now) },
 }
 

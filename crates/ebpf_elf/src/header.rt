@@ -68,7 +68,8 @@ pub fn section_table<'a>(
 ) -> Result<SectionTable<'a>, ElfReadError>
     requires order { endianness ≡ ei_data bytes.now }
     requires room { 64 ≤ length bytes.now }
-    ensures fault { fault_of result ≡ first_of (if e_shoff bytes.now == 0 then [] else table_faults bytes.now) }
+    ensures fault { fault_of result
+        ≡ first_of (if e_shoff bytes.now == 0 then [] else table_faults bytes.now) }
     ensures bytes { IfOk result (λ table. table.bytes.now ≡ bytes.now) }
     ensures some { IfOk result (λ table. 0 < table.start → 0 < table.count) }
 {
@@ -122,7 +123,8 @@ impl<'a> SectionTable<'a> {
 
     /// The range of a section, where it is inside the file.
     pub fn range(&self, header: &SectionHeader) -> Option<&'a [u8]>
-        ensures none { IsNone result ↔ (is_inside self.now.bytes.now header.now.sh_offset header.now.sh_size ≡ false) }
+        ensures none { IsNone result
+            ↔ (is_inside self.now.bytes.now header.now.sh_offset header.now.sh_size ≡ false) }
         ensures some { IfSome result (λ part. part.now ≡ range_of self.now.bytes.now header.now) }
     {
         let offset = header.sh_offset as usize;
@@ -140,7 +142,8 @@ impl<'a> SectionTable<'a> {
     #[tactic(auto, unfolding(crate::specs::Names::is_string_table))]
     pub fn string_table(&self, index: usize) -> Option<&'a [u8]>
         ensures none { IsNone result ↔ (is_string_table self.now.bytes.now index ≡ false) }
-        ensures some { IfSome result (λ part. part.now ≡ range_of self.now.bytes.now (section self.now.bytes.now index)) }
+        ensures some { IfSome result (λ part.
+            part.now ≡ range_of self.now.bytes.now (section self.now.bytes.now index)) }
     {
         if index >= self.count {
             return None;

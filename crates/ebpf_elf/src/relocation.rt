@@ -85,7 +85,12 @@ impl SymbolTable<'_> {
 
     /// Whether a section with relocations against this table is malformed.
     fn has_bad_relocations(&self) -> bool
-        ensures { result ≡ list_any (λ j. holds_relocations self.now.table.bytes.now self.now.index j && is_bad_relocation_table self.now.table.bytes.now j) (section_indices self.now.table.bytes.now) }
+        ensures { result
+            ≡ list_any
+            (λ j.
+            holds_relocations self.now.table.bytes.now self.now.index j
+            && is_bad_relocation_table self.now.table.bytes.now j)
+            (section_indices self.now.table.bytes.now) }
     {
         (1..self.table.count).any(|j| self.holds_relocations(j) && self.is_bad_relocation_table(j))
     }
@@ -93,7 +98,8 @@ impl SymbolTable<'_> {
     /// Refuses malformed relocations against this table.
     #[tactic(auto, unfolding(crate::specs::Faults::relocation_faults))]
     pub fn check_relocations(&self) -> Result<(), ElfReadError>
-        ensures { fault_of result ≡ first_of (relocation_faults self.now.table.bytes.now self.now.index) }
+        ensures { fault_of result
+            ≡ first_of (relocation_faults self.now.table.bytes.now self.now.index) }
     {
         if self.has_bad_relocations() {
             return Err(ElfReadError::BadRelocationTable);
@@ -104,11 +110,20 @@ impl SymbolTable<'_> {
     /// The index of the first section from `from` on with relocations against this table.
     #[tactic(auto, using(ebpf_base::proofs::Lists::range_more))]
     pub fn next_relocation_section(&self, from: usize) -> Option<usize>
-        ensures none { IfNone result (relocation_sections_from self.now.table.bytes.now self.now.index from self.now.table.count ≡ []) }
+        ensures none { IfNone result
+            (relocation_sections_from self.now.table.bytes.now self.now.index from
+            self.now.table.count
+            ≡ []) }
         ensures from { IfSome result (λ j. from ≤ j) }
         ensures below { IfSome result (λ j. j < self.now.table.count) }
-        ensures holds { IfSome result (λ j. holds_relocations self.now.table.bytes.now self.now.index j ≡ true) }
-        ensures rest { IfSome result (λ j. relocation_sections_from self.now.table.bytes.now self.now.index from self.now.table.count ≡ record { file = self.now.table.bytes.now; index = j } ∷ relocation_sections_from self.now.table.bytes.now self.now.index (j + 1) self.now.table.count) }
+        ensures holds { IfSome result (λ j.
+            holds_relocations self.now.table.bytes.now self.now.index j ≡ true) }
+        ensures rest { IfSome result (λ j.
+            relocation_sections_from self.now.table.bytes.now self.now.index from
+            self.now.table.count
+            ≡ record { file = self.now.table.bytes.now; index = j }
+            ∷ relocation_sections_from self.now.table.bytes.now self.now.index (j + 1)
+            self.now.table.count) }
     {
         for j in from..self.table.count {
             if self.holds_relocations(j) {
@@ -144,7 +159,12 @@ impl<'a> Model for ElfRelocationSection<'a> {
 
     ghost view = { λ s. record { file = s.table.bytes.now; index = s.index } };
 
-    ghost invariant = { λ s. (s.target ≡ relocated_section record { file = s.table.bytes.now; index = s.index }) × (s.extent ≡ extent_of record { file = s.table.bytes.now; index = s.index }) × (0 < s.extent.count → s.extent.offset + s.extent.entry_size * s.extent.count ≤ length s.table.bytes.now) };
+    ghost invariant = { λ s.
+        (s.target ≡ relocated_section record { file = s.table.bytes.now; index = s.index })
+        × (s.extent ≡ extent_of record { file = s.table.bytes.now; index = s.index })
+        × (0 < s.extent.count
+        → s.extent.offset + s.extent.entry_size * s.extent.count
+        ≤ length s.table.bytes.now) };
 }
 
 /// The section with this index, which holds relocations against a symbol table.
@@ -153,7 +173,8 @@ fn relocation_section_at<'a>(symbols: &SymbolTable<'a>, index: usize) -> ElfRelo
     requires from { 1 ≤ index }
     requires below { index < symbols.now.table.count }
     requires holds { holds_relocations symbols.now.table.bytes.now symbols.now.index index ≡ true }
-    requires sound { first_of (relocation_faults symbols.now.table.bytes.now symbols.now.index) ≡ None }
+    requires sound { first_of (relocation_faults symbols.now.table.bytes.now symbols.now.index)
+        ≡ None }
     ensures file { result.file ≡ symbols.now.table.bytes.now }
     ensures index { result.index ≡ index }
 {
@@ -259,9 +280,16 @@ pub struct RelocationSections<'a> {
 impl<'a> Model for RelocationSections<'a> {
     ghost Value = { List SectionOf };
 
-    ghost view = { λ s. unwrap_or (option_map (λ t. relocation_sections_from t.table.bytes.now t.index s.next t.table.count) s.symbols) [] };
+    ghost view = { λ s.
+        unwrap_or
+        (option_map
+        (λ t. relocation_sections_from t.table.bytes.now t.index s.next t.table.count)
+        s.symbols) [] };
 
-    ghost invariant = { λ s. (1 ≤ s.next) × ForSome s.symbols (λ t. first_of (relocation_faults t.table.bytes.now t.index) ≡ None) };
+    ghost invariant = { λ s.
+        (1 ≤ s.next)
+        × ForSome s.symbols (λ t.
+        first_of (relocation_faults t.table.bytes.now t.index) ≡ None) };
 }
 
 impl<'a> RelocationSections<'a> {
@@ -301,7 +329,8 @@ fn first_relocation<'a>(
 ) -> Option<(ElfRelocation, RelocationEntries<'a>)>
     ensures none { IfNone result (entries_for target sections.old ≡ []) }
     ensures done { IfNone result (sections.new ≡ []) }
-    ensures first { IfSome result (λ r. entries_for target sections.old ≡ r.0 ∷ (r.1 ++ entries_for target sections.new)) }
+    ensures first { IfSome result (λ r.
+        entries_for target sections.old ≡ r.0 ∷ (r.1 ++ entries_for target sections.new)) }
 {
     while let Some(section) = sections.next() {
         if section.target() != target {

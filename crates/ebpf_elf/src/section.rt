@@ -35,7 +35,9 @@ impl<'a> Model for ElfSection<'a> {
 
     ghost view = { λ s. record { file = s.layout.table.bytes.now; index = s.index } };
 
-    ghost invariant = { λ s. (s.index < s.layout.table.count) × (s.fields ≡ section s.layout.table.bytes.now s.index) };
+    ghost invariant = { λ s.
+        (s.index < s.layout.table.count)
+        × (s.fields ≡ section s.layout.table.bytes.now s.index) };
 }
 
 impl<'a> ElfSection<'a> {

@@ -16,7 +16,8 @@ fn first_zero(bytes: &[u8]) -> Option<usize>
 
 /// The bytes up to the first zero byte.
 fn before_zero(bytes: &[u8]) -> Option<&[u8]>
-    ensures { MatchOption result (bytes_before_zero bytes.now ≡ None) (λ text. bytes_before_zero bytes.now ≡ Some text.now) }
+    ensures { MatchOption result (bytes_before_zero bytes.now ≡ None) (λ text.
+        bytes_before_zero bytes.now ≡ Some text.now) }
 {
     match first_zero(bytes) {
         Some(end) => Some(&bytes[..end]),
@@ -27,7 +28,8 @@ fn before_zero(bytes: &[u8]) -> Option<&[u8]>
 /// The bytes of the name with this index.
 #[tactic(auto, unfolding(crate::specs::Names::name_bytes))]
 fn bytes_in(names: &[u8], index: usize) -> Option<&[u8]>
-    ensures { MatchOption result (name_bytes names.now index ≡ None) (λ text. name_bytes names.now index ≡ Some text.now) }
+    ensures { MatchOption result (name_bytes names.now index ≡ None) (λ text.
+        name_bytes names.now index ≡ Some text.now) }
 {
     if index == 0 {
         return Some(&[]);

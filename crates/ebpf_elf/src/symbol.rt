@@ -83,7 +83,9 @@ pub struct SymbolTable<'a> {
     ghost offsets: { offset ≡ (section table.bytes.now index).sh_offset },
     ghost counts: { count ≡ symbol_count table.bytes.now index },
     ghost inside: { 0 < count → offset + 24 * count ≤ length table.bytes.now },
-    ghost strings: { names.now ≡ range_of table.bytes.now (section table.bytes.now (section table.bytes.now index).sh_link) },
+    ghost strings: { names.now
+        ≡ range_of table.bytes.now
+        (section table.bytes.now (section table.bytes.now index).sh_link) },
 }
 
 /// The symbol table in the section `index`.
@@ -129,7 +131,9 @@ impl SymbolTable<'_> {
 
     /// Whether the section index of a symbol is kept elsewhere.
     fn has_extended_index(&self) -> bool
-        ensures { result ≡ list_any (λ k. st_shndx_at self.now.table.bytes.now self.now.index k == SHN_XINDEX) (symbol_table_indices self.now.table.bytes.now self.now.index) }
+        ensures { result
+            ≡ list_any (λ k. st_shndx_at self.now.table.bytes.now self.now.index k == SHN_XINDEX)
+            (symbol_table_indices self.now.table.bytes.now self.now.index) }
     {
         (1..self.count).any(|k| self.shndx_of(k) == SHN_XINDEX)
     }
@@ -137,7 +141,8 @@ impl SymbolTable<'_> {
     /// Refuses section indices that are kept elsewhere.
     #[tactic(auto, unfolding(crate::specs::Faults::xindex_faults))]
     pub fn check_section_indices(&self) -> Result<(), ElfReadError>
-        ensures { fault_of result ≡ first_of (xindex_faults self.now.table.bytes.now self.now.index) }
+        ensures { fault_of result
+            ≡ first_of (xindex_faults self.now.table.bytes.now self.now.index) }
     {
         if self.has_extended_index() {
             return Err(ElfReadError::ExtendedNumbering);
@@ -157,9 +162,16 @@ pub struct ElfSymbol<'a> {
 impl<'a> Model for ElfSymbol<'a> {
     ghost Value = { SymbolOf };
 
-    ghost view = { λ s. record { file = s.symbols.table.bytes.now; table = s.symbols.index; index = s.index } };
+    ghost view = { λ s.
+        record { file = s.symbols.table.bytes.now; table = s.symbols.index; index = s.index } };
 
-    ghost invariant = { λ s. s.fields ≡ entry record { file = s.symbols.table.bytes.now; table = s.symbols.index; index = s.index } };
+    ghost invariant = { λ s.
+        s.fields
+        ≡ entry record {
+          file = s.symbols.table.bytes.now;
+          table = s.symbols.index;
+          index = s.index;
+        } };
 }
 
 impl<'a> ElfSymbol<'a> {
@@ -255,7 +267,10 @@ pub struct Symbols<'a> {
 impl<'a> Model for Symbols<'a> {
     ghost Value = { List SymbolOf };
 
-    ghost view = { λ s. unwrap_or (option_map (λ t. symbols_from t.table.bytes.now t.index s.next t.count) s.table) [] };
+    ghost view = { λ s.
+        unwrap_or
+        (option_map (λ t. symbols_from t.table.bytes.now t.index s.next t.count) s.table)
+        [] };
 }
 
 impl<'a> Symbols<'a> {

@@ -1,5 +1,35 @@
 -- The initial values of maps of maps and of programs.
-use Rattle.std.specs.Prelude.{Bool, true, false, ℕ, ◌+◌, ◌-◌, ◌/◌, ◌%◌, ◌==◌, ◌&&◌, ◌||◌, nat_le, nat_lt, not, List, [], ◌∷◌, map, fold, Option, Some, None, option_map, unwrap_or, Result, Ok, Err, if◌then◌else◌, ◌≡◌}
+use Rattle.std.specs.Prelude.{
+  Bool,
+  true,
+  false,
+  ℕ,
+  ◌+◌,
+  ◌-◌,
+  ◌/◌,
+  ◌%◌,
+  ◌==◌,
+  ◌&&◌,
+  ◌||◌,
+  nat_le,
+  nat_lt,
+  not,
+  List,
+  [],
+  ◌∷◌,
+  map,
+  fold,
+  Option,
+  Some,
+  None,
+  option_map,
+  unwrap_or,
+  Result,
+  Ok,
+  Err,
+  if◌then◌else◌,
+  ◌≡◌,
+}
 use Rattle.std.specs.FinMap.{FinMap, get, insert, contains_key, entries, empty}
 use Rattle.std.specs.List.{find, flat_map}
 use Rattle.std.specs.Option.{option_and_then, option_map_or}
@@ -16,7 +46,21 @@ use Rattle.ebpf_model.specs.declared.symbol.Symbol.{Symbol}
 use Rattle.ebpf_object.specs.declared.object.Object.{Object}
 use Rattle.ebpf_initial_slots.specs.MapVariables.{maps_section_name, map_variables}
 use Rattle.ebpf_initial_slots.specs.declared.error.InitialSlotError.{InitialSlotError}
-use Rattle.ebpf_initial_slots.specs.declared.error.InitialSlotError.TheVariants.{OutOfMemory, ElfError, UnknownSymbol, OutsideMaps, UnsupportedMapType, NotInMaps, UnsupportedKeySize, UnknownMap, UnknownProgram, NotAnEntryPoint, NoValues, OutsideValues, Misaligned}
+use Rattle.ebpf_initial_slots.specs.declared.error.InitialSlotError.TheVariants.{
+  OutOfMemory,
+  ElfError,
+  UnknownSymbol,
+  OutsideMaps,
+  UnsupportedMapType,
+  NotInMaps,
+  UnsupportedKeySize,
+  UnknownMap,
+  UnknownProgram,
+  NotAnEntryPoint,
+  NoValues,
+  OutsideValues,
+  Misaligned,
+}
 use Rattle.ebpf_initial_slots.specs.declared.slots.InitialSlot.{InitialSlot}
 use Rattle.ebpf_initial_slots.specs.declared.target.InitialTarget.{InitialTarget}
 use Rattle.ebpf_initial_slots.specs.declared.variables.MapVariable.{MapVariable}
@@ -28,8 +72,9 @@ abbrev pub is_initial_slot_memory : InitialSlotError → Bool
 is_initial_slot_memory OutOfMemory = true
 is_initial_slot_memory _ = false
 
--- ---- the initial values of maps of maps and of programs (libbpf 1.5, libbpf.c: bpf_object__collect_map_relos): for the
--- relocations of the section `.maps`, by map and index, what stands there
+-- ---- the initial values of maps of maps and of programs (libbpf 1.5, libbpf.c:
+-- bpf_object__collect_map_relos): for the relocations of the section `.maps`, by map and index,
+-- what stands there
 
 -- ---- what stands in a slot: the map or the program that a symbol names
 
@@ -49,11 +94,14 @@ hash_of_maps = 13
 abbrev pub program_array : ℕ
 program_array = 3
 
--- of a map of maps: a map of the section `.maps`, by the symbol's name; a hash has the index as key, of 4 bytes
-unfoldable pub target_map : Object → ℕ → MapVariable → Symbol → Result InitialTarget InitialSlotError
+-- of a map of maps: a map of the section `.maps`, by the symbol's name; a hash has the index as
+-- key, of 4 bytes
+unfoldable pub target_map : Object → ℕ → MapVariable → Symbol
+    → Result InitialTarget InitialSlotError
 target_map object section v s =
     if not (stands_in section s.section_index) then Err (NotInMaps v.name (symbol_text s))
-    else if v.map_type == hash_of_maps && not (v.key_size == 4) then Err (UnsupportedKeySize v.name v.key_size)
+    else if v.map_type == hash_of_maps && not (v.key_size == 4)
+    then Err (UnsupportedKeySize v.name v.key_size)
     else if contains_key object.maps (symbol_text s) then Ok (targets.Map (symbol_text s))
     else Err (UnknownMap v.name (symbol_text s))
 
@@ -61,16 +109,21 @@ target_map object section v s =
 abbrev pub is_entry_point : Symbol → Program → Bool
 is_entry_point s p = stands_in p.section_index s.section_index && p.address == s.address
 
-abbrev pub program_or_fault : MapVariable → Symbol → Option Program → Result InitialTarget InitialSlotError
+abbrev pub program_or_fault : MapVariable → Symbol → Option Program
+    → Result InitialTarget InitialSlotError
 program_or_fault v s None = Err (UnknownProgram v.name (symbol_text s))
 program_or_fault v s (Some p) =
-    if is_entry_point s p then Ok (targets.Program (symbol_text s)) else Err (NotAnEntryPoint v.name (symbol_text s))
+    if is_entry_point s p
+    then Ok (targets.Program (symbol_text s))
+    else Err (NotAnEntryPoint v.name (symbol_text s))
 
 -- of an array of programs
-unfoldable pub target_program : Object → MapVariable → Symbol → Result InitialTarget InitialSlotError
+unfoldable pub target_program : Object → MapVariable → Symbol
+    → Result InitialTarget InitialSlotError
 target_program object v s = program_or_fault v s (get object.programs (symbol_text s))
 
-abbrev pub initial_target : Object → ℕ → MapVariable → Symbol → Result InitialTarget InitialSlotError
+abbrev pub initial_target : Object → ℕ → MapVariable → Symbol
+    → Result InitialTarget InitialSlotError
 initial_target object section v s =
     if v.map_type == array_of_maps || v.map_type == hash_of_maps then target_map object section v s
     else if v.map_type == program_array then target_program object v s
@@ -95,7 +148,8 @@ slot_index v place = if_some v.values (index_from v place) (Err (NoValues v.name
 -- ---- one relocation
 
 -- what it puts where, by the section `.maps` and its variables
-unfoldable pub initial_slot : Object → ℕ → List MapVariable → ElfRelocation → Result InitialSlot InitialSlotError
+unfoldable pub initial_slot : Object → ℕ → List MapVariable → ElfRelocation
+    → Result InitialSlot InitialSlotError
 initial_slot object section variables r =
     if_some (get object.symbol_table r.symbol_index)
     (λ s.
@@ -119,10 +173,13 @@ maps_section object = option_map (λ s. s.0) (get object.section_infos maps_sect
 
 -- the relocations of the section with this index, by section of relocations and entry
 abbrev pub relocations_at : List ℕ → ℕ → List ElfRelocation
-relocations_at bytes index = option_map_or relocations (find (λ s. s.index == index) (sections bytes)) []
+relocations_at bytes index =
+    option_map_or relocations (find (λ s. s.index == index) (sections bytes)) []
 
 -- by map and index; of two at one index the later stands
-abbrev pub with_slot : FinMap text_cmp (FinMap nat_cmp InitialSlot) → InitialSlot → FinMap text_cmp (FinMap nat_cmp InitialSlot)
+abbrev pub with_slot : FinMap text_cmp (FinMap nat_cmp InitialSlot)
+    → InitialSlot
+    → FinMap text_cmp (FinMap nat_cmp InitialSlot)
 with_slot found s = insert found s.map (insert (unwrap_or (get found s.map) empty) s.index s)
 
 abbrev pub by_map_and_index : List InitialSlot → FinMap text_cmp (FinMap nat_cmp InitialSlot)
@@ -134,13 +191,20 @@ slots_in_order found = flat_map (λ m. map (λ s. s.1) (entries m.1)) (entries f
 
 -- what relocations put
 abbrev pub slots_put : Object → ℕ → List MapVariable → List ElfRelocation → List InitialSlot
-slots_put object section variables rs = flat_map (λ r. slot_or_none (initial_slot object section variables r)) rs
+slots_put object section variables rs =
+    flat_map (λ r. slot_or_none (initial_slot object section variables r)) rs
 
-abbrev pub slots_fault : Object → ℕ → List MapVariable → List ElfRelocation → Option InitialSlotError
-slots_fault object section variables rs = first_some (λ r. fault_of (initial_slot object section variables r)) rs
+abbrev pub slots_fault : Object → ℕ → List MapVariable → List ElfRelocation
+    → Option InitialSlotError
+slots_fault object section variables rs =
+    first_some (λ r. fault_of (initial_slot object section variables r)) rs
 
 abbrev pub slots_of_section : List ℕ → Object → ℕ → List InitialSlot
-slots_of_section bytes object section = slots_in_order (by_map_and_index (slots_put object section (map_variables object section) (relocations_at bytes section)))
+slots_of_section bytes object section =
+    slots_in_order
+    (by_map_and_index
+    (slots_put object section (map_variables object section)
+    (relocations_at bytes section)))
 
 -- of a file's bytes and an object
 unfoldable pub initial_slots : List ℕ → Object → List InitialSlot
@@ -151,24 +215,39 @@ unfoldable pub initial_slots_fault : List ℕ → Object → Option InitialSlotE
 initial_slots_fault bytes object =
     or_else
     (option_map ElfError (first_in (faults bytes)))
-    (option_and_then (λ section. slots_fault object section (map_variables object section) (relocations_at bytes section)) (maps_section object))
+    (option_and_then
+    (λ section.
+    slots_fault object section (map_variables object section)
+    (relocations_at bytes section)) (maps_section object))
 
 -- ---- what stands at an index of a map: of the slots that relocations put there the last
 
 -- the slot at an index of a map
-abbrev pub standing_slot : FinMap text_cmp (FinMap nat_cmp InitialSlot) → List ℕ → ℕ → Option InitialSlot
+abbrev pub standing_slot : FinMap text_cmp (FinMap nat_cmp InitialSlot)
+    → List ℕ
+    → ℕ
+    → Option InitialSlot
 standing_slot found name index = option_and_then (λ own. get own index) (get found name)
 
 -- the last of these slots at an index of a map, else the one before
 abbrev pub last_slot : List ℕ → ℕ → Option InitialSlot → List InitialSlot → Option InitialSlot
 last_slot name index before slots =
-    fold (λ found s. if eq_by_cmp text_cmp name s.map && eq_by_cmp nat_cmp index s.index then Some s else found) before slots
+    fold
+    (λ found s.
+    if eq_by_cmp text_cmp name s.map && eq_by_cmp nat_cmp index s.index
+    then Some s
+    else found) before slots
 
 abbrev pub LastSlotsStand : Type 0
-LastSlotsStand = (slots : List InitialSlot) (name : List ℕ) (index : ℕ) → standing_slot (by_map_and_index slots) name index ≡ last_slot name index None slots
+LastSlotsStand =
+    (slots : List InitialSlot) (name : List ℕ) (index : ℕ)
+    → standing_slot (by_map_and_index slots) name index ≡ last_slot name index None slots
 
 -- ---- what contracts of private functions name and no public one.
 
 -- one more slot, beside those of its map
-abbrev pub with_slot_in : FinMap text_cmp (FinMap nat_cmp InitialSlot) → InitialSlot → Option (FinMap nat_cmp InitialSlot) → FinMap text_cmp (FinMap nat_cmp InitialSlot)
+abbrev pub with_slot_in : FinMap text_cmp (FinMap nat_cmp InitialSlot)
+    → InitialSlot
+    → Option (FinMap nat_cmp InitialSlot)
+    → FinMap text_cmp (FinMap nat_cmp InitialSlot)
 with_slot_in found s own = insert found s.map (insert (unwrap_or own empty) s.index s)

@@ -1,6 +1,23 @@
--- The variables of the section `.maps`, each of which declares a map (libbpf 1.5, libbpf.c: bpf_object__init_user_btf_maps,
--- btf_fixup_datasec, bpf_object__collect_map_relos).
-use Rattle.std.specs.Prelude.{ℕ, ◌-◌, ◌/◌, ◌==◌, Bool, List, [], codes, length, slice_get, Option, Some, None, option_map, unwrap_or, if◌then◌else◌}
+-- The variables of the section `.maps`, each of which declares a map (libbpf 1.5, libbpf.c:
+-- bpf_object__init_user_btf_maps, btf_fixup_datasec, bpf_object__collect_map_relos).
+use Rattle.std.specs.Prelude.{
+  ℕ,
+  ◌-◌,
+  ◌/◌,
+  ◌==◌,
+  Bool,
+  List,
+  [],
+  codes,
+  length,
+  slice_get,
+  Option,
+  Some,
+  None,
+  option_map,
+  unwrap_or,
+  if◌then◌else◌,
+}
 use Rattle.std.specs.FinMap.{get}
 use Rattle.std.specs.List.{flat_map}
 use Rattle.std.specs.Option.{option_and_then, option_map_or, option_to_list}
@@ -28,7 +45,8 @@ maps_section_name = codes ".maps"
 
 -- the first DATASEC `.maps`
 abbrev pub maps_datasec : TypeInfo → Option BtfType
-maps_datasec types = option_and_then (slice_get types.types) (id_of_name types maps_section_name kinds.DataSec)
+maps_datasec types =
+    option_and_then (slice_get types.types) (id_of_name types maps_section_name kinds.DataSec)
 
 -- its entries
 unfoldable pub maps_entries : BtfType → List DataSecEntry
@@ -48,11 +66,16 @@ last_member t = None
 
 -- where a member stands that is `values`, in bytes
 abbrev pub values_at : TypeInfo → BtfType → BtfMember → Option ℕ
-values_at types t m = if is_text (codes "values") (text_at types.strings m.name_offset) then Some (bit_offset t m / 8) else None
+values_at types t m =
+    if is_text (codes "values") (text_at types.strings m.name_offset)
+    then Some (bit_offset t m / 8)
+    else None
 
 -- of a type that ends in them, TYPEDEFs, CONST, VOLATILE, RESTRICT and TYPE_TAGs followed
 unfoldable pub values_offset : TypeInfo → ℕ → Option ℕ
-values_offset types id = option_and_then (λ t. option_and_then (values_at types t) (last_member t)) (result_ok (resolved_type types.types id))
+values_offset types id =
+    option_and_then (λ t. option_and_then (values_at types t) (last_member t))
+    (result_ok (resolved_type types.types id))
 
 -- ---- variables
 
@@ -75,7 +98,8 @@ declared_in section _ = None
 
 -- where a variable stands in the section
 abbrev pub variable_offset : Bool → DataSecEntry → Option Symbol → ℕ
-variable_offset unplaced entry symbol = if unplaced then option_map_or (λ s. s.address) symbol 0 else entry.offset
+variable_offset unplaced entry symbol =
+    if unplaced then option_map_or (λ s. s.address) symbol 0 else entry.offset
 
 abbrev pub variable_of : Object → TypeInfo → Bool → DataSecEntry → List ℕ × ℕ → BtfMap → MapVariable
 variable_of object types unplaced entry named m = record {
@@ -91,15 +115,20 @@ variable_of object types unplaced entry named m = record {
 unfoldable pub map_variable : Object → TypeInfo → ℕ → Bool → DataSecEntry → Option MapVariable
 map_variable object types section unplaced entry =
     option_and_then
-    (λ named. option_map (variable_of object types unplaced entry named) (declared_in section (get object.maps named.0)))
+    (λ named.
+    option_map (variable_of object types unplaced entry named)
+    (declared_in section (get object.maps named.0)))
     (named_variable types entry.btf_type)
 
 abbrev pub variables_of : Object → TypeInfo → ℕ → BtfType → List MapVariable
-variables_of object types section t = flat_map (λ entry. option_to_list (map_variable object types section (lacks_offsets t) entry)) (maps_entries t)
+variables_of object types section t =
+    flat_map (λ entry. option_to_list (map_variable object types section (lacks_offsets t) entry))
+    (maps_entries t)
 
 abbrev pub variables_in : Object → ℕ → Option TypeInfo → List MapVariable
 variables_in object section None = []
-variables_in object section (Some types) = option_map_or (variables_of object types section) (maps_datasec types) []
+variables_in object section (Some types) =
+    option_map_or (variables_of object types section) (maps_datasec types) []
 
 -- those that declare the maps of the section with this index, in the order of the DATASEC's entries
 abbrev pub map_variables : Object → ℕ → List MapVariable

@@ -111,7 +111,8 @@ fn initial_slot(
     variables: &[MapVariable],
     relocation: &ElfRelocation,
 ) -> Result<InitialSlot, InitialSlotError>
-    ensures { Gives is_initial_slot_memory result (initial_slot object.now section variables.now relocation.now) }
+    ensures { Gives is_initial_slot_memory result
+        (initial_slot object.now section variables.now relocation.now) }
 {
     let place = relocation.offset;
     let symbol_index = relocation.symbol_index;
@@ -145,7 +146,8 @@ fn add_slot(
     found: &mut ByName<ByNumber<InitialSlot>>,
     slot: InitialSlot,
 ) -> Result<(), AllocError>
-    ensures { OnOk result (found.new ≡ with_slot_in found.old slot (finite.get found.old slot.map)) }
+    ensures { OnOk result
+        (found.new ≡ with_slot_in found.old slot (finite.get found.old slot.map)) }
 {
     match found.get_mut(slot.map.as_str()) {
         Some(own) => {
@@ -167,8 +169,11 @@ pub fn gather(
     variables: &[MapVariable],
     relocations: Relocations<'_>,
 ) -> Result<ByName<ByNumber<InitialSlot>>, InitialSlotError>
-    ensures found { IfOk result (λ found. found ≡ by_map_and_index (slots_put object.now section variables.now relocations.entry)) }
-    ensures fault { Refuses is_initial_slot_memory result (slots_fault object.now section variables.now relocations.entry) }
+    ensures found { IfOk result (λ found.
+        found
+        ≡ by_map_and_index (slots_put object.now section variables.now relocations.entry)) }
+    ensures fault { Refuses is_initial_slot_memory result
+        (slots_fault object.now section variables.now relocations.entry) }
 {
     let mut found = ByName::new(alloc);
     for relocation in relocations {
@@ -229,8 +234,14 @@ fn slots_put(
     section: usize,
     relocations: Relocations<'_>,
 ) -> Result<Items<InitialSlot>, InitialSlotError>
-    ensures slots { IfOk result (λ slots. slots ≡ slots_in_order (by_map_and_index (slots_put object.now section (map_variables object.now section) relocations.entry))) }
-    ensures fault { Refuses is_initial_slot_memory result (slots_fault object.now section (map_variables object.now section) relocations.entry) }
+    ensures slots { IfOk result (λ slots.
+        slots
+        ≡ slots_in_order
+        (by_map_and_index
+        (slots_put object.now section (map_variables object.now section)
+        relocations.entry))) }
+    ensures fault { Refuses is_initial_slot_memory result
+        (slots_fault object.now section (map_variables object.now section) relocations.entry) }
 {
     let variables = map_variables(alloc, object, section)?;
     let found = gather(alloc, object, section, variables.as_slice(), relocations)?;
@@ -246,7 +257,9 @@ fn slots_of_section(
     index: usize,
 ) -> Result<Items<InitialSlot>, InitialSlotError>
     ensures slots { IfOk result (λ slots. slots ≡ slots_of_section file.now object.now index) }
-    ensures fault { Refuses is_initial_slot_memory result (slots_fault object.now index (map_variables object.now index) (relocations_at file.now index)) }
+    ensures fault { Refuses is_initial_slot_memory result
+        (slots_fault object.now index (map_variables object.now index)
+        (relocations_at file.now index)) }
 {
     match relocations_at(file, index) {
         Some(relocations) => slots_put(alloc, object, index, relocations),
@@ -290,7 +303,8 @@ pub fn initial_slots(
     object: &Object,
 ) -> Result<Items<InitialSlot>, InitialSlotError>
     ensures slots { IfOk result (λ slots. slots ≡ initial_slots file.now object.now) }
-    ensures fault { Refuses is_initial_slot_memory result (initial_slots_fault file.now object.now) }
+    ensures fault { Refuses is_initial_slot_memory result
+        (initial_slots_fault file.now object.now) }
 {
     let file = match ElfFile::parse(file) {
         Ok(file) => file,

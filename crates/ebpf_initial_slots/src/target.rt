@@ -69,7 +69,8 @@ fn target_map(
     variable: &MapVariable,
     symbol: &Symbol,
 ) -> Result<InitialTarget, InitialSlotError>
-    ensures { Gives is_initial_slot_memory result (target_map object.now section variable.now symbol.now) }
+    ensures { Gives is_initial_slot_memory result
+        (target_map object.now section variable.now symbol.now) }
 {
     let map = variable.name.clone()?;
     let target = Text::from_str(alloc, symbol_text(symbol))?;
@@ -101,7 +102,8 @@ fn target_program(
     variable: &MapVariable,
     symbol: &Symbol,
 ) -> Result<InitialTarget, InitialSlotError>
-    ensures { Gives is_initial_slot_memory result (target_program object.now variable.now symbol.now) }
+    ensures { Gives is_initial_slot_memory result
+        (target_program object.now variable.now symbol.now) }
 {
     let map = variable.name.clone()?;
     let target = Text::from_str(alloc, symbol_text(symbol))?;
@@ -122,7 +124,8 @@ pub fn initial_target(
     variable: &MapVariable,
     symbol: &Symbol,
 ) -> Result<InitialTarget, InitialSlotError>
-    ensures { Gives is_initial_slot_memory result (initial_target object.now section variable.now symbol.now) }
+    ensures { Gives is_initial_slot_memory result
+        (initial_target object.now section variable.now symbol.now) }
 {
     let map_type = variable.map_type;
     if map_type == ARRAY_OF_MAPS || map_type == HASH_OF_MAPS {

@@ -138,7 +138,8 @@ fn map_variable(
     unplaced: bool,
     entry: &DataSecEntry,
 ) -> Result<Option<MapVariable>, InitialSlotError>
-    ensures variable { IfOk result (λ v. v ≡ map_variable object.now types.now section unplaced entry.now) }
+    ensures variable { IfOk result (λ v.
+        v ≡ map_variable object.now types.now section unplaced entry.now) }
     ensures memory { IfErr result (λ e. is_initial_slot_memory e ≡ true) }
 {
     let Some((name, value_type)) = named_variable(alloc, types, entry.btf_type)? else {
@@ -166,7 +167,8 @@ fn variables_of(
     section: usize,
     ty: &BtfType<'_>,
 ) -> Result<Items<MapVariable>, InitialSlotError>
-    ensures variables { IfOk result (λ all. all ≡ variables_of object.now types.now section ty.now) }
+    ensures variables { IfOk result (λ all.
+        all ≡ variables_of object.now types.now section ty.now) }
     ensures memory { IfErr result (λ e. is_initial_slot_memory e ≡ true) }
 {
     let unplaced = lacks_offsets(ty);

@@ -21,33 +21,43 @@ with_linking steps = record steps { calls = true }
 abbrev pub link_map_of : ProgramReport → LinkMap
 link_map_of r = record { copies = r.copies; references = r.references }
 
--- The report of a program, from the object as linking begins and as it leaves it: its name, the slots of its linked
--- function, and the map of these. So the copies are the program and each function that it reaches, in order, and have
--- all slots; and the slot of each reference holds the distance to a listed copy of the function that it refers to.
-pub record IsReport (unlinked linked : Object) (program : ProgramValue) (r : ProgramReport) : Type 0 where
+-- The report of a program, from the object as linking begins and as it leaves it: its name, the
+-- slots of its linked function, and the map of these. So the copies are the program and each
+-- function that it reaches, in order, and have all slots; and the slot of each reference holds the
+-- distance to a listed copy of the function that it refers to.
+pub record IsReport (unlinked linked : Object) (program : ProgramValue) (r : ProgramReport)
+    : Type 0 where
   pub named : r.name ≡ program.name
   pub function : Function
   pub stands : get linked.functions (key_of program) ≡ Some function
   pub slots : r.slots ≡ function.instructions
   pub is_linked : IsLinked (linkable unlinked) (key_of program) function
   pub mapped : IsLinkMapAt (linkable unlinked) (key_of program) (link_map_of r)
-  pub tells : MatchesLinked (linkable unlinked) (key_of program) (link_map_of r) function mapped is_linked
+  pub tells : MatchesLinked (linkable unlinked) (key_of program) (link_map_of r) function mapped
+      is_linked
 
 -- a report of each program
 abbrev pub AreReports : Object → Object → List ProgramValue → List ProgramReport → Type 0
 AreReports unlinked linked [] [] = Unit {0}
-AreReports unlinked linked (p ∷ ps) (r ∷ rs) = IsReport unlinked linked p r × AreReports unlinked linked ps rs
+AreReports unlinked linked (p ∷ ps) (r ∷ rs) =
+    IsReport unlinked linked p r × AreReports unlinked linked ps rs
 AreReports unlinked linked [] (r ∷ rs) = ⊥
 AreReports unlinked linked (p ∷ ps) [] = ⊥
 
--- the reports of an object's programs, in byte order of their names, after the chosen passes and linked
-pub record AreReportsOf (steps : Chosen) (lines : Source) (o : Object) (reports : List ProgramReport) : Type 0 where
+-- the reports of an object's programs, in byte order of their names, after the chosen passes and
+-- linked
+pub record AreReportsOf (steps : Chosen) (lines : Source) (o : Object)
+    (reports : List ProgramReport)
+    : Type 0 where
   pub linked : Object
   pub stages : Stages (with_linking steps) lines o linked
   pub each : AreReports stages.unlinked linked (programs_in_order linked.programs) reports
 
 -- the reports of the programs of a file in a reading, of which the headline holds
-pub record IsInspected (steps : Chosen) (lines : Source) (mode : ParseMode) (bytes : List ℕ) (reports : List ProgramReport) : Type 0 where
+pub record IsInspected (steps : Chosen) (lines : Source) (mode : ParseMode) (bytes : List ℕ)
+    (reports : List ProgramReport)
+    : Type 0 where
   pub linked : Object
   pub headline : Headline (with_linking steps) lines mode bytes linked
-  pub each : AreReports headline.prepared.stages.unlinked linked (programs_in_order linked.programs) reports
+  pub each : AreReports headline.prepared.stages.unlinked linked (programs_in_order linked.programs)
+      reports

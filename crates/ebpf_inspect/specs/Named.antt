@@ -9,8 +9,10 @@ use Rattle.ebpf_model.specs.declared.function.Function.{Function}
 use Rattle.ebpf_reloc.specs.Linking.{ProgramValue, key_of, IsLinked, IsLinkMapAt}
 use Rattle.ebpf_reloc.specs.SlotTargets.{LinkableValue}
 
--- the report of a program: its name, the slots of its function once it is linked, and the map of these
-pub record IsProgramReport (parts : LinkableValue) (program : ProgramValue) (r : ProgramReport) : Type 0 where
+-- the report of a program: its name, the slots of its function once it is linked, and the map of
+-- these
+pub record IsProgramReport (parts : LinkableValue) (program : ProgramValue) (r : ProgramReport)
+    : Type 0 where
   pub named : r.name ≡ program.name
   pub function : Function
   pub is_linked : IsLinked parts (key_of program) function
@@ -19,4 +21,7 @@ pub record IsProgramReport (parts : LinkableValue) (program : ProgramValue) (r :
 
 -- the reports of all programs, and the object as it is once these are linked
 abbrev pub WithLinked : Object → List ProgramReport → Type 0
-WithLinked o reports = (linked : Object) × LinksPrograms true o linked × AreReports o linked (programs_in_order o.programs) reports
+WithLinked o reports =
+    (linked : Object)
+    × LinksPrograms true o linked
+    × AreReports o linked (programs_in_order o.programs) reports

@@ -50,7 +50,9 @@ fn inspect_all<K: SymbolSource>(
     kallsyms: K,
 ) -> Result<Items<ProgramReport>, PrepareError>
     ensures reports { IfOk result (AreReportsOf (chosen steps.now) (K.source kallsyms) object) }
-    ensures fault { IfErr result (RefusesPreparing (IsStageFault (with_linking (chosen steps.now)) (K.source kallsyms) object)) }
+    ensures fault { IfErr result
+        (RefusesPreparing
+        (IsStageFault (with_linking (chosen steps.now)) (K.source kallsyms) object)) }
 {
     let prepared = match prepare_object(alloc, object, &without_calls(steps), kallsyms) {
         Ok(prepared) => prepared,
@@ -72,9 +74,18 @@ pub fn inspect_object<K: SymbolSource>(
     kallsyms: K,
 ) -> Result<Items<ProgramReport>, PrepareError>
     ensures reports { IfOk result (AreReportsOf (chosen steps.now) (K.source kallsyms) object) }
-    ensures inspected { (mode : ParseMode) (file : List ℕ) → IsParsed mode file object → IfOk result (IsInspected (chosen steps.now) (K.source kallsyms) mode file) }
-    ensures fault { IfErr result (RefusesPreparing (IsStageFault (with_linking (chosen steps.now)) (K.source kallsyms) object)) }
-    ensures first_fault { (mode : ParseMode) (file : List ℕ) → IsParsed mode file object → IfErr result (RefusesPreparing (IsFirstPrepareFault (with_linking (chosen steps.now)) (K.source kallsyms) mode file)) }
+    ensures inspected { (mode : ParseMode) (file : List ℕ)
+        → IsParsed mode file object
+        → IfOk result (IsInspected (chosen steps.now) (K.source kallsyms) mode file) }
+    ensures fault { IfErr result
+        (RefusesPreparing
+        (IsStageFault (with_linking (chosen steps.now)) (K.source kallsyms) object)) }
+    ensures first_fault { (mode : ParseMode) (file : List ℕ)
+        → IsParsed mode file object
+        → IfErr result
+        (RefusesPreparing
+        (IsFirstPrepareFault (with_linking (chosen steps.now)) (K.source kallsyms) mode
+        file)) }
 {
     inspect_all(alloc, object, steps, kallsyms)
 }
@@ -93,8 +104,12 @@ pub fn inspect<K: SymbolSource>(
     steps: &Steps<'_>,
     kallsyms: K,
 ) -> Result<Items<ProgramReport>, PrepareError>
-    ensures reports { IfOk result (IsInspected (chosen steps.now) (K.source kallsyms) Strict bytes.now) }
-    ensures fault { IfErr result (RefusesPreparing (IsFirstPrepareFault (with_linking (chosen steps.now)) (K.source kallsyms) Strict bytes.now)) }
+    ensures reports { IfOk result
+        (IsInspected (chosen steps.now) (K.source kallsyms) Strict bytes.now) }
+    ensures fault { IfErr result
+        (RefusesPreparing
+        (IsFirstPrepareFault (with_linking (chosen steps.now)) (K.source kallsyms) Strict
+        bytes.now)) }
 {
     match Object::parse(alloc, bytes) {
         Ok(object) => inspect_object(alloc, object, steps, kallsyms),

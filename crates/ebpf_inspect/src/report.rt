@@ -37,8 +37,11 @@ fn report_of(
     functions: &NumberedFunctions<'_>,
     program: &ProgramKey<'_>,
 ) -> Result<ProgramReport, PrepareError>
-    ensures report { IfOk result (λ report. IsProgramReport (read functions.now.parts) program.now report) }
-    ensures fault { IfErr result (RefusesPreparing (Wrapped Calls (IsProgramRefusal (read functions.now.parts) program.now))) }
+    ensures report { IfOk result (λ report.
+        IsProgramReport (read functions.now.parts) program.now report) }
+    ensures fault { IfErr result
+        (RefusesPreparing
+        (Wrapped Calls (IsProgramRefusal (read functions.now.parts) program.now))) }
 {
     let LinkedFunction { function, map } = match functions.linked_with_map(alloc, program) {
         Ok(linked) => linked,
@@ -59,8 +62,11 @@ pub fn reports_of(
     functions: &NumberedFunctions<'_>,
     programs: &[ProgramKey<'_>],
 ) -> Result<Items<ProgramReport>, PrepareError>
-    ensures reports { IfOk result (λ reports. AllZip (IsProgramReport (read functions.now.parts)) programs.now reports) }
-    ensures fault { IfErr result (RefusesPreparing (Wrapped Calls (IsFirstRefusal (read functions.now.parts) programs.now))) }
+    ensures reports { IfOk result (λ reports.
+        AllZip (IsProgramReport (read functions.now.parts)) programs.now reports) }
+    ensures fault { IfErr result
+        (RefusesPreparing
+        (Wrapped Calls (IsFirstRefusal (read functions.now.parts) programs.now))) }
 {
     let mut reports = Vec::with_capacity(alloc, programs.len())?;
     for program in programs {

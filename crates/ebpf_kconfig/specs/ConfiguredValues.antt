@@ -1,6 +1,40 @@
--- The value of an extern by a kernel's configuration as text (libbpf 1.5, libbpf.c: bpf_object__process_kconfig_line,
--- set_kcfg_value_tri, set_kcfg_value_str, parse_u64, is_kcfg_value_in_range, set_kcfg_value_num).
-use Rattle.std.specs.Prelude.{ℕ, min, ◌+◌, ◌-◌, ◌*◌, ◌/◌, ◌%◌, ◌^◌, nat_eq, nat_lt, ◌==◌, ◌&&◌, ◌||◌, Bool, true, List, [], ◌∷◌, ◌++◌, codes, length, take, drop, replicate, slice_index, Option, Some, None, Result, Ok, Err, if◌then◌else◌}
+-- The value of an extern by a kernel's configuration as text (libbpf 1.5, libbpf.c:
+-- bpf_object__process_kconfig_line, set_kcfg_value_tri, set_kcfg_value_str, parse_u64,
+-- is_kcfg_value_in_range, set_kcfg_value_num).
+use Rattle.std.specs.Prelude.{
+  ℕ,
+  min,
+  ◌+◌,
+  ◌-◌,
+  ◌*◌,
+  ◌/◌,
+  ◌%◌,
+  ◌^◌,
+  nat_eq,
+  nat_lt,
+  ◌==◌,
+  ◌&&◌,
+  ◌||◌,
+  Bool,
+  true,
+  List,
+  [],
+  ◌∷◌,
+  ◌++◌,
+  codes,
+  length,
+  take,
+  drop,
+  replicate,
+  slice_index,
+  Option,
+  Some,
+  None,
+  Result,
+  Ok,
+  Err,
+  if◌then◌else◌,
+}
 use Rattle.std.specs.Char.{digit_value}
 use Rattle.std.specs.Int.{w64, to_le_bytes, to_be_bytes}
 use Rattle.std.specs.List.{slice_split, starts_with}
@@ -9,7 +43,11 @@ use Rattle.ebpf_base.specs.Faults.{first_some, if_ok}
 use Rattle.ebpf_base.specs.declared.endianness.Endianness.{Endianness}
 use Rattle.ebpf_base.specs.declared.endianness.Endianness.TheVariants.{Little, Big}
 use Rattle.ebpf_kconfig.specs.declared.error.KconfigError.{KconfigError}
-use Rattle.ebpf_kconfig.specs.declared.error.KconfigError.TheVariants.{UnsuitedValue, ValueOutOfRange, OutOfMemory}
+use Rattle.ebpf_kconfig.specs.declared.error.KconfigError.TheVariants.{
+  UnsuitedValue,
+  ValueOutOfRange,
+  OutOfMemory,
+}
 use Rattle.ebpf_kconfig.specs.declared.externs.KconfigExtern.{KconfigExtern}
 use Rattle.ebpf_kconfig.specs.declared.kconfig_type.KconfigType.{KconfigType}
 use Rattle.ebpf_kconfig.specs.declared.kconfig_type.KconfigType.TheVariants as kconfig_types
@@ -24,7 +62,9 @@ abbrev pub read_digits : ℕ → ℕ → List ℕ → Result ℕ ValueFault
 read_digits radix n [] = Ok n
 read_digits radix n (c ∷ cs) =
     if nat_lt (digit_value c) radix
-    then (if nat_lt (n * radix + digit_value c) (2 ^ 64) then read_digits radix (n * radix + digit_value c) cs else Err OutOfRange)
+    then (if nat_lt (n * radix + digit_value c) (2 ^ 64)
+    then read_digits radix (n * radix + digit_value c) cs
+    else Err OutOfRange)
     else Err Unsuited
 
 -- one digit or more
@@ -33,7 +73,8 @@ digits_number radix [] = Err Unsuited
 digits_number radix (c ∷ cs) = read_digits radix 0 (c ∷ cs)
 
 abbrev pub has_hexadecimal_prefix : List ℕ → Bool
-has_hexadecimal_prefix text = starts_with nat_eq text (codes "0x") || starts_with nat_eq text (codes "0X")
+has_hexadecimal_prefix text =
+    starts_with nat_eq text (codes "0x") || starts_with nat_eq text (codes "0X")
 
 -- hexadecimal behind `0x`, octal behind `0`, else decimal
 abbrev pub unsigned_number : List ℕ → Result ℕ ValueFault
@@ -48,7 +89,8 @@ negative_bits n = if n == 0 then 0 else 2 ^ 64 - n
 
 abbrev pub text_number : List ℕ → Result ℕ ValueFault
 text_number text =
-    if starts_with nat_eq text (codes "-") then if_ok (unsigned_number (drop 1 text)) (λ n. Ok (negative_bits n))
+    if starts_with nat_eq text (codes "-")
+    then if_ok (unsigned_number (drop 1 text)) (λ n. Ok (negative_bits n))
     else unsigned_number text
 
 -- ---- numbers as values
@@ -70,7 +112,8 @@ is_in_range size signed n =
     else nat_lt n (number_count size)
 
 abbrev pub ranged_value : Endianness → ℕ → Bool → ℕ → Result (List ℕ) ValueFault
-ranged_value order size signed n = if is_in_range size signed n then Ok (number_bytes order size n) else Err OutOfRange
+ranged_value order size signed n =
+    if is_in_range size signed n then Ok (number_bytes order size n) else Err OutOfRange
 
 -- the value that a number is to an integer
 unfoldable pub integer_value : Endianness → KconfigType → ℕ → Result (List ℕ) ValueFault
@@ -93,8 +136,10 @@ abbrev pub tristate_number : ℕ → ℕ
 tristate_number c = if c == 121 then 1 else if c == 109 then 2 else 0
 
 unfoldable pub letter_value : Endianness → KconfigType → ℕ → Result (List ℕ) ValueFault
-letter_value order kconfig_types.Bool c = if c == 109 then Err Unsuited else Ok (tristate_number c ∷ [])
-letter_value order (kconfig_types.Tristate size) c = Ok (number_bytes order size (tristate_number c))
+letter_value order kconfig_types.Bool c =
+    if c == 109 then Err Unsuited else Ok (tristate_number c ∷ [])
+letter_value order (kconfig_types.Tristate size) c =
+    Ok (number_bytes order size (tristate_number c))
 letter_value order (kconfig_types.Char signed) c = Ok (c ∷ [])
 letter_value order kind c = Err Unsuited
 
@@ -110,7 +155,8 @@ abbrev pub cut_string : ℕ → List ℕ → List ℕ
 cut_string len text = take (len - 1) text ++ replicate (len - length (take (len - 1) text)) 0
 
 unfoldable pub string_value : KconfigType → List ℕ → Result (List ℕ) ValueFault
-string_value (kconfig_types.CharArray len) text = if is_quoted text then Ok (cut_string len (unquoted text)) else Err Unsuited
+string_value (kconfig_types.CharArray len) text =
+    if is_quoted text then Ok (cut_string len (unquoted text)) else Err Unsuited
 string_value kind text = Err Unsuited
 
 -- ---- one setting
@@ -127,7 +173,8 @@ text_value order kind (c ∷ cs) =
 
 -- what stands behind a prefix
 abbrev pub behind : List ℕ → List ℕ → Option (List ℕ)
-behind prefix bytes = if starts_with nat_eq bytes prefix then Some (drop (length prefix) bytes) else None
+behind prefix bytes =
+    if starts_with nat_eq bytes prefix then Some (drop (length prefix) bytes) else None
 
 -- what a line gives a name: what stands behind `NAME=`
 abbrev pub given_in_line : List ℕ → List ℕ → Option (List ℕ)
@@ -143,11 +190,16 @@ with_name name (Err Unsuited) = Err (UnsuitedValue name)
 with_name name (Err OutOfRange) = Err (ValueOutOfRange name)
 with_name name (Err faults.OutOfMemory) = Err OutOfMemory
 
-abbrev pub set_value : Endianness → KconfigExtern → Option (List ℕ) → Result (Option (List ℕ)) KconfigError
+abbrev pub set_value : Endianness → KconfigExtern → Option (List ℕ)
+    → Result (Option (List ℕ)) KconfigError
 set_value order e None = Ok None
-set_value order e (Some text) = if_ok (with_name e.name (text_value order e.kind text)) (λ value. Ok (Some value))
+set_value order e (Some text) =
+    if_ok (with_name e.name (text_value order e.kind text)) (λ value. Ok (Some value))
 
 -- the value of an extern; the configuration says nothing of names that don't begin with `CONFIG_`
-unfoldable pub configured_value : Endianness → List ℕ → KconfigExtern → Result (Option (List ℕ)) KconfigError
+unfoldable pub configured_value : Endianness → List ℕ → KconfigExtern
+    → Result (Option (List ℕ)) KconfigError
 configured_value order config e =
-    if starts_with nat_eq e.name (codes "CONFIG_") then set_value order e (setting config e.name) else Ok None
+    if starts_with nat_eq e.name (codes "CONFIG_")
+    then set_value order e (setting config e.name)
+    else Ok None

@@ -1,5 +1,31 @@
--- The map `.kconfig`, where the externs stand in its value, and the symbols that stand in it (libbpf 1.5, libbpf.c: cmp_externs, bpf_object__collect_externs, bpf_object__init_kconfig_map).
-use Rattle.std.specs.Prelude.{ℕ, ◌+◌, ◌-◌, ◌*◌, ◌/◌, ◌^◌, nat_lt, ◌==◌, List, [], ◌∷◌, ◌++◌, length, fold, replicate, Option, Some, None, unwrap_or, if◌then◌else◌, true, ◌≡◌, option_map, map}
+-- The map `.kconfig`, where the externs stand in its value, and the symbols that stand in it
+-- (libbpf 1.5, libbpf.c: cmp_externs, bpf_object__collect_externs, bpf_object__init_kconfig_map).
+use Rattle.std.specs.Prelude.{
+  ℕ,
+  ◌+◌,
+  ◌-◌,
+  ◌*◌,
+  ◌/◌,
+  ◌^◌,
+  nat_lt,
+  ◌==◌,
+  List,
+  [],
+  ◌∷◌,
+  ◌++◌,
+  length,
+  fold,
+  replicate,
+  Option,
+  Some,
+  None,
+  unwrap_or,
+  if◌then◌else◌,
+  true,
+  ◌≡◌,
+  option_map,
+  map,
+}
 use Rattle.std.specs.FinMap.{FinMap, get, insert, entries, empty}
 use Rattle.std.specs.List.{flat_map}
 use Rattle.std.specs.Map.{keys_of}
@@ -22,13 +48,19 @@ use Rattle.ebpf_parts.specs.declared.maps.either.Map.{Map}
 use Rattle.ebpf_parts.specs.declared.maps.either.Map.TheVariants.{Legacy}
 use Rattle.ebpf_parts.specs.declared.section.EbpfSectionKind.TheVariants.{Rodata}
 use Rattle.ebpf_parts.specs.declared.maps.definition.PinningType.TheVariants as pinned
-use Rattle.ebpf_kconfig.specs.KconfigExterns.{kconfig_alignment, kconfig_size, kconfig_section, kconfig_externs, kconfig_externs_fault}
+use Rattle.ebpf_kconfig.specs.KconfigExterns.{
+  kconfig_alignment,
+  kconfig_size,
+  kconfig_section,
+  kconfig_externs,
+  kconfig_externs_fault,
+}
 use Rattle.ebpf_kconfig.specs.declared.error.KconfigError.{KconfigError}
 use Rattle.ebpf_kconfig.specs.declared.error.KconfigError.TheVariants.{NoValue, WrongSize, TooLarge}
 use Rattle.ebpf_kconfig.specs.declared.externs.KconfigExtern.{KconfigExtern}
 
--- ---- where the externs that the kernel's configuration gives stand in the value of the map `.kconfig` (libbpf 1.5, libbpf.c:
--- cmp_externs, bpf_object__collect_externs).
+-- ---- where the externs that the kernel's configuration gives stand in the value of the map
+-- `.kconfig` (libbpf 1.5, libbpf.c: cmp_externs, bpf_object__collect_externs).
 
 abbrev pub alignment_of : KconfigExtern → ℕ
 alignment_of e = kconfig_alignment e.kind
@@ -47,7 +79,8 @@ abbrev pub layout_key : KconfigExtern → ℕ × ℕ
 layout_key e = (8 - alignment_of e, extern_size e)
 
 abbrev pub with_extern : FinMap key_cmp ExternsByName → KconfigExtern → FinMap key_cmp ExternsByName
-with_extern groups e = insert groups (layout_key e) (insert (unwrap_or (get groups (layout_key e)) empty) e.name e)
+with_extern groups e =
+    insert groups (layout_key e) (insert (unwrap_or (get groups (layout_key e)) empty) e.name e)
 
 abbrev pub extern_groups : List KconfigExtern → FinMap key_cmp ExternsByName
 extern_groups externs = fold with_extern empty externs
@@ -91,7 +124,10 @@ kconfig_value_size externs = layout_end 0 (laid_out externs)
 -- an end past 32 bits
 abbrev pub size_fault_from : ℕ → List KconfigExtern → Option KconfigError
 size_fault_from end [] = None
-size_fault_from end (e ∷ es) = if nat_lt (extern_end end e) (2 ^ 32) then size_fault_from (extern_end end e) es else Some TooLarge
+size_fault_from end (e ∷ es) =
+    if nat_lt (extern_end end e) (2 ^ 32)
+    then size_fault_from (extern_end end e) es
+    else Some TooLarge
 
 -- ---- values
 
@@ -105,7 +141,9 @@ value_or_zeros values e = unwrap_or (get values e.name) (replicate (extern_size 
 -- the bytes of externs that stand in a row, each behind zeros up to its offset
 abbrev pub bytes_from : KconfigValues → ℕ → List KconfigExtern → List ℕ
 bytes_from values end [] = []
-bytes_from values end (e ∷ es) = replicate (extern_offset end e - end) 0 ++ (value_or_zeros values e ++ bytes_from values (extern_end end e) es)
+bytes_from values end (e ∷ es) =
+    replicate (extern_offset end e - end) 0
+    ++ (value_or_zeros values e ++ bytes_from values (extern_end end e) es)
 
 abbrev pub kconfig_bytes : KconfigValues → List KconfigExtern → List ℕ
 kconfig_bytes values externs = bytes_from values 0 (laid_out externs)
@@ -113,20 +151,26 @@ kconfig_bytes values externs = bytes_from values 0 (laid_out externs)
 -- an extern that has to have a value and has none, or a value of another size
 abbrev pub given_fault : KconfigExtern → Option (List ℕ) → Option KconfigError
 given_fault e None = if e.is_weak then None else Some (NoValue e.name)
-given_fault e (Some bytes) = if length bytes == extern_size e then None else Some (WrongSize e.name (extern_size e) (length bytes))
+given_fault e (Some bytes) =
+    if length bytes == extern_size e
+    then None
+    else Some (WrongSize e.name (extern_size e) (length bytes))
 
 abbrev pub value_fault : KconfigValues → KconfigExtern → Option KconfigError
 value_fault values e = given_fault e (get values e.name)
 
 -- the faults of values in the order of the externs, then that of their size
 unfoldable pub values_fault : KconfigValues → List KconfigExtern → Option KconfigError
-values_fault values externs = or_else (first_some (value_fault values) externs) (size_fault_from 0 (laid_out externs))
+values_fault values externs =
+    or_else (first_some (value_fault values) externs) (size_fault_from 0 (laid_out externs))
 
--- ---- the map `.kconfig`, and the symbols that stand in it (libbpf 1.5, libbpf.c: bpf_object__init_kconfig_map).
+-- ---- the map `.kconfig`, and the symbols that stand in it (libbpf 1.5, libbpf.c:
+-- bpf_object__init_kconfig_map).
 
 -- ---- the map
 
--- an array of one value that programs only read (BPF_MAP_TYPE_ARRAY, BPF_F_RDONLY_PROG), in no section
+-- an array of one value that programs only read (BPF_MAP_TYPE_ARRAY, BPF_F_RDONLY_PROG), in no
+-- section
 unfoldable pub kconfig_map : ℕ → List ℕ → Map
 kconfig_map size bytes = Legacy (record {
   def = record {
@@ -150,18 +194,23 @@ abbrev pub externs_map : KconfigValues → List KconfigExtern → Map
 externs_map values externs = kconfig_map (kconfig_value_size externs) (kconfig_bytes values externs)
 
 -- where there are none there is no map
-abbrev pub with_kconfig_map : KconfigValues → List KconfigExtern → FinMap text_cmp Map → FinMap text_cmp Map
-with_kconfig_map values externs maps = if length externs == 0 then maps else insert maps kconfig_section (externs_map values externs)
+abbrev pub with_kconfig_map : KconfigValues → List KconfigExtern → FinMap text_cmp Map
+    → FinMap text_cmp Map
+with_kconfig_map values externs maps =
+    if length externs == 0 then maps else insert maps kconfig_section (externs_map values externs)
 
 -- ---- symbols
 
--- an extern's symbol stands in the map at its offset: the index of the map's section is 0, that of no section (SHN_UNDEF)
+-- an extern's symbol stands in the map at its offset: the index of the map's section is 0, that of
+-- no section (SHN_UNDEF)
 abbrev pub defined_at : Symbol → Option ℕ → Symbol
 defined_at s None = s
-defined_at s (Some offset) = record s { section_index = Some 0; address = offset; is_definition = true }
+defined_at s (Some offset) =
+    record s { section_index = Some 0; address = offset; is_definition = true }
 
 abbrev pub defined_symbol : FinMap text_cmp ℕ → Symbol → Symbol
-defined_symbol offsets s = if is_extern s then defined_at s (option_and_then (get offsets) s.name) else s
+defined_symbol offsets s =
+    if is_extern s then defined_at s (option_and_then (get offsets) s.name) else s
 
 unfoldable pub symbols_defined : List KconfigExtern → FinMap nat_cmp Symbol → FinMap nat_cmp Symbol
 symbols_defined externs symbols = map_values (defined_symbol (kconfig_offsets externs)) symbols
@@ -169,33 +218,48 @@ symbols_defined externs symbols = map_values (defined_symbol (kconfig_offsets ex
 -- ---- both
 
 -- the first fault: of an extern, of a value, of the size
-unfoldable pub kconfig_fault : Option TypeInfo → FinMap nat_cmp Symbol → KconfigValues → Option KconfigError
-kconfig_fault types symbols values = or_else (kconfig_externs_fault types symbols) (values_fault values (kconfig_externs types symbols))
+unfoldable pub kconfig_fault : Option TypeInfo → FinMap nat_cmp Symbol → KconfigValues
+    → Option KconfigError
+kconfig_fault types symbols values =
+    or_else (kconfig_externs_fault types symbols)
+    (values_fault values (kconfig_externs types symbols))
 
 -- ---- what holds of the map's data, and of an object that is prepared once values are set
 
 -- where no value is at fault, the data is as long as the map's value
 abbrev pub DataIsValueSized : Type 0
-DataIsValueSized = (values : KconfigValues) (externs : List KconfigExtern) → values_fault values externs ≡ None
+DataIsValueSized =
+    (values : KconfigValues) (externs : List KconfigExtern) → values_fault values externs ≡ None
     → length (kconfig_bytes values externs) ≡ kconfig_value_size externs
 
 -- the passes that the stages made over an object: the sections of code are those of the functions
-abbrev pub passes_made : {steps : Chosen} {lines : Source} {o after : Object} → Stages steps lines o after → Passes
+abbrev pub passes_made : {steps : Chosen} {lines : Source} {o after : Object}
+    → Stages steps lines o after
+    → Passes
 passes_made {steps} stages = record {
   target = steps.target;
-  maps = option_map (λ descriptors. (has_function_in stages.relocated.functions, own_maps stages.relocated.maps descriptors)) steps.descriptors;
+  maps =
+      option_map
+      (λ descriptors. (
+        has_function_in stages.relocated.functions,
+        own_maps stages.relocated.maps
+            descriptors,
+      )) steps.descriptors;
   externs = steps.externs;
   calls = if steps.calls then Some (has_function_in stages.unlinked.functions) else None;
 }
 
--- What all stages leave of an object is finished, whatever was set on the object before: values of variables, sizes of
--- maps, values of the kernel's configuration.
+-- What all stages leave of an object is finished, whatever was set on the object before: values of
+-- variables, sizes of maps, values of the kernel's configuration.
 abbrev pub PreparedIsFinished : Type 0
-PreparedIsFinished = (steps : Chosen) (lines : Source) (o after : Object) (stages : Stages steps lines o after) → IsFinished (passes_made stages) o after
+PreparedIsFinished =
+    (steps : Chosen) (lines : Source) (o after : Object) (stages : Stages steps lines o after)
+    → IsFinished (passes_made stages) o after
 
 -- ---- what contracts of private functions name and no public one
 
-abbrev pub defined_in : FinMap text_cmp ℕ → FinMap nat_cmp Symbol → ℕ → Option Symbol → FinMap nat_cmp Symbol
+abbrev pub defined_in : FinMap text_cmp ℕ → FinMap nat_cmp Symbol → ℕ → Option Symbol
+    → FinMap nat_cmp Symbol
 defined_in offsets symbols index None = symbols
 defined_in offsets symbols index (Some s) = insert symbols index (defined_symbol offsets s)
 
@@ -204,8 +268,10 @@ abbrev pub with_defined : FinMap text_cmp ℕ → FinMap nat_cmp Symbol → ℕ 
 with_defined offsets symbols index = defined_in offsets symbols index (get symbols index)
 
 -- the groups, one of which has one more extern
-abbrev pub with_extern_in : FinMap key_cmp ExternsByName → KconfigExtern → Option ExternsByName → FinMap key_cmp ExternsByName
-with_extern_in groups e group = insert groups (layout_key e) (insert (unwrap_or group empty) e.name e)
+abbrev pub with_extern_in : FinMap key_cmp ExternsByName → KconfigExtern → Option ExternsByName
+    → FinMap key_cmp ExternsByName
+with_extern_in groups e group =
+    insert groups (layout_key e) (insert (unwrap_or group empty) e.name e)
 
 abbrev pub lent_externs : List (Bor KconfigExtern) → List KconfigExtern
 lent_externs = map (λ e. e.now)

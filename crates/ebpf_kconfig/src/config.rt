@@ -49,9 +49,13 @@ fn from_index(text: &[u8], start: usize) -> &[u8]
 /// The first line, and what follows it; nothing where the text is one line.
 #[tactic(auto, using(crate::proofs::ConfigLines::setting_more, crate::proofs::ConfigLines::setting_last))]
 fn first_line(text: &[u8]) -> Option<(&[u8], &[u8])>
-    ensures more { IfSome result (λ parts. (name : List ℕ) → setting text.now name ≡ or_else (given_in_line name parts.0.now) (setting parts.1.now name)) }
+    ensures more { IfSome result (λ parts.
+        (name : List ℕ)
+        → setting text.now name
+        ≡ or_else (given_in_line name parts.0.now) (setting parts.1.now name)) }
     ensures less { IfSome result (λ parts. length parts.1.now < length text.now) }
-    ensures last { IfNone result ((name : List ℕ) → setting text.now name ≡ given_in_line name text.now) }
+    ensures last { IfNone result
+        ((name : List ℕ) → setting text.now name ≡ given_in_line name text.now) }
 {
     let end = line_end(text)?;
     Some((&text[..end], from_index(text, end + 1)))
@@ -90,7 +94,8 @@ fn value_of_text(
     wanted: &KconfigExtern,
     text: &[u8],
 ) -> Result<Items<u8>, KconfigError>
-    ensures { Gives is_kconfig_memory result (with_name wanted.now.name (text_value order wanted.now.kind text.now)) }
+    ensures { Gives is_kconfig_memory result
+        (with_name wanted.now.name (text_value order wanted.now.kind text.now)) }
 {
     match text_value(alloc, order, wanted.kind, text) {
         Ok(value) => Ok(value),
@@ -149,7 +154,8 @@ pub fn kconfig_number(
     wanted: &KconfigExtern,
     order: Endianness,
 ) -> Result<Items<u8>, KconfigError>
-    ensures { Gives is_kconfig_memory result (with_name wanted.now.name (loader_value order wanted.now.kind number)) }
+    ensures { Gives is_kconfig_memory result
+        (with_name wanted.now.name (loader_value order wanted.now.kind number)) }
 {
     match loader_value(alloc, order, wanted.kind, number) {
         Ok(value) => Ok(value),

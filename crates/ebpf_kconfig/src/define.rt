@@ -58,9 +58,14 @@ fn plan_in_order(
     values: &ByName<Items<u8>>,
     externs: &[&KconfigExtern],
 ) -> Result<Plan, KconfigError>
-    ensures offsets { IfOk result (λ plan. plan.offsets ≡ put_all finite.empty (extern_offsets 0 (lent_externs externs.now))) }
-    ensures map { IfOk result (λ plan. plan.map ≡ kconfig_map (layout_end 0 (lent_externs externs.now)) (bytes_from values.now 0 (lent_externs externs.now))) }
-    ensures fault { Refuses is_kconfig_memory result (size_fault_from 0 (lent_externs externs.now)) }
+    ensures offsets { IfOk result (λ plan.
+        plan.offsets ≡ put_all finite.empty (extern_offsets 0 (lent_externs externs.now))) }
+    ensures map { IfOk result (λ plan.
+        plan.map
+        ≡ kconfig_map (layout_end 0 (lent_externs externs.now))
+        (bytes_from values.now 0 (lent_externs externs.now))) }
+    ensures fault { Refuses is_kconfig_memory result
+        (size_fault_from 0 (lent_externs externs.now)) }
 {
     let value_size = layout_end(externs)?;
     let offsets = extern_offsets(alloc, externs)?;
@@ -117,8 +122,10 @@ pub fn plan_with(
 /// bytes or an ENUM64; an ARRAY that has elements, of INTs of 1 byte that are no bools. `OutOfMemory` only where memory was
 /// refused.
 pub fn kconfig(object: &Object) -> Result<Items<KconfigExtern>, KconfigError>
-    ensures externs { IfOk result (λ externs. externs ≡ kconfig_externs object.now.btf object.now.symbol_table) }
-    ensures fault { Refuses is_kconfig_memory result (kconfig_externs_fault object.now.btf object.now.symbol_table) }
+    ensures externs { IfOk result (λ externs.
+        externs ≡ kconfig_externs object.now.btf object.now.symbol_table) }
+    ensures fault { Refuses is_kconfig_memory result
+        (kconfig_externs_fault object.now.btf object.now.symbol_table) }
 {
     let alloc = object.allocator();
     kconfig_externs(alloc, &object.btf, &object.symbol_table)
@@ -131,7 +138,9 @@ fn put_map(
     has_externs: bool,
     map: Map,
 ) -> Result<(), AllocError>
-    ensures put { OnOk result (maps.new ≡ (if has_externs then finite.insert maps.old kconfig_section map else maps.old)) }
+    ensures put { OnOk result
+        (maps.new
+        ≡ (if has_externs then finite.insert maps.old kconfig_section map else maps.old)) }
     ensures unchanged { OnErr result (maps.new ≡ maps.old) }
 {
     if !has_externs {
@@ -162,10 +171,18 @@ fn put_map(
 /// only where memory was refused. After a refusal the object is as it was.
 #[tactic(auto, unfolding(crate::specs::KconfigMaps::kconfig_fault, crate::specs::KconfigMaps::symbols_defined))]
 pub fn define_kconfig(object: &mut Object, values: &ByName<Items<u8>>) -> Result<(), KconfigError>
-    ensures maps { OnOk result (object.new.maps ≡ with_kconfig_map values.now (kconfig_externs object.old.btf object.old.symbol_table) object.old.maps) }
-    ensures symbols { OnOk result (object.new.symbol_table ≡ symbols_defined (kconfig_externs object.old.btf object.old.symbol_table) object.old.symbol_table) }
-    ensures fault { Refuses is_kconfig_memory result (kconfig_fault object.old.btf object.old.symbol_table values.now) }
-    ensures others_stay { object.new ≡ record object.old { maps = object.new.maps; symbol_table = object.new.symbol_table } }
+    ensures maps { OnOk result
+        (object.new.maps
+        ≡ with_kconfig_map values.now (kconfig_externs object.old.btf object.old.symbol_table)
+        object.old.maps) }
+    ensures symbols { OnOk result
+        (object.new.symbol_table
+        ≡ symbols_defined (kconfig_externs object.old.btf object.old.symbol_table)
+        object.old.symbol_table) }
+    ensures fault { Refuses is_kconfig_memory result
+        (kconfig_fault object.old.btf object.old.symbol_table values.now) }
+    ensures others_stay { object.new
+        ≡ record object.old { maps = object.new.maps; symbol_table = object.new.symbol_table } }
     ensures unchanged { OnErr result (object.new ≡ object.old) }
 {
     let alloc = object.allocator();

@@ -136,7 +136,8 @@ fn externs_in(
     rows: &Rows<'_, DataSecEntry>,
 ) -> Result<Items<KconfigExtern>, KconfigError>
     ensures externs { IfOk result (λ all. all ≡ externs_in types.now weak.now rows.now) }
-    ensures fault { Refuses is_kconfig_memory result (externs_fault_in types.now weak.now rows.now) }
+    ensures fault { Refuses is_kconfig_memory result
+        (externs_fault_in types.now weak.now rows.now) }
 {
     let mut externs = Items::new(alloc);
     for row in rows.iter() {
@@ -217,7 +218,11 @@ fn put_weak(
     symbols: &ByIndex<Symbol>,
     indices: &[usize],
 ) -> Result<ByName<bool>, AllocError>
-    ensures { IfOk result (λ all. all ≡ put_all weak (flat_map (λ index. weak_entry_at (finite.get symbols.now index)) indices.now)) }
+    ensures { IfOk result (λ all.
+        all
+        ≡ put_all weak
+        (flat_map (λ index. weak_entry_at (finite.get symbols.now index))
+        indices.now)) }
 {
     let mut weak = weak;
     for index in indices {

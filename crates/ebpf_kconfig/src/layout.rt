@@ -38,7 +38,9 @@ fn add_extern(
     groups: &mut ByKey<ByName<KconfigExtern>>,
     wanted: KconfigExtern,
 ) -> Result<(), AllocError>
-    ensures { OnOk result (groups.new ≡ with_extern_in groups.old wanted (finite.get groups.old (layout_key wanted))) }
+    ensures { OnOk result
+        (groups.new
+        ≡ with_extern_in groups.old wanted (finite.get groups.old (layout_key wanted))) }
 {
     let key = layout_key(&wanted);
     match groups.get_mut(key) {
@@ -74,7 +76,11 @@ fn add_names<'a>(
     group: &'a ByName<KconfigExtern>,
     names: &[&str],
 ) -> Result<Vec<&'a KconfigExtern>, AllocError>
-    ensures { IfOk result (λ more. lent_externs more.items ≡ lent_externs all.entry.items ++ flat_map (λ name. option_to_list (finite.get group.now name)) (lent_bytes names.now)) }
+    ensures { IfOk result (λ more.
+        lent_externs more.items
+        ≡ lent_externs all.entry.items
+        ++ flat_map (λ name. option_to_list (finite.get group.now name))
+        (lent_bytes names.now)) }
 {
     let mut all = all;
     for name in names {
@@ -92,7 +98,8 @@ fn add_group<'a>(
     all: Vec<&'a KconfigExtern>,
     group: &'a ByName<KconfigExtern>,
 ) -> Result<Vec<&'a KconfigExtern>, AllocError>
-    ensures { IfOk result (λ more. lent_externs more.items ≡ lent_externs all.entry.items ++ group_externs group.now) }
+    ensures { IfOk result (λ more.
+        lent_externs more.items ≡ lent_externs all.entry.items ++ group_externs group.now) }
 {
     let names = group.names(alloc)?;
     add_names(alloc, all, group, names.as_slice())
@@ -103,7 +110,9 @@ pub fn in_order<'a>(
     alloc: Global,
     groups: &'a ByKey<ByName<KconfigExtern>>,
 ) -> Result<Vec<&'a KconfigExtern>, AllocError>
-    ensures { IfOk result (λ all. lent_externs all.items ≡ flat_map (λ group. group_externs group.1) (finite.entries groups.now)) }
+    ensures { IfOk result (λ all.
+        lent_externs all.items
+        ≡ flat_map (λ group. group_externs group.1) (finite.entries groups.now)) }
 {
     let mut all = Vec::new(alloc);
     for (_, group) in groups.iter() {
@@ -150,7 +159,8 @@ pub fn layout_end(externs: &[&KconfigExtern]) -> Result<u32, KconfigError>
 /// The offsets of externs in a row, by name.
 pub fn extern_offsets(alloc: Global, externs: &[&KconfigExtern]) -> Result<ByName<u64>, AllocError>
     requires { size_fault_from 0 (lent_externs externs.now) ≡ None }
-    ensures { IfOk result (λ offsets. offsets ≡ put_all finite.empty (extern_offsets 0 (lent_externs externs.now))) }
+    ensures { IfOk result (λ offsets.
+        offsets ≡ put_all finite.empty (extern_offsets 0 (lent_externs externs.now))) }
 {
     let mut offsets = ByName::new(alloc);
     let mut end = 0;

@@ -1,9 +1,35 @@
--- Refusals of the layers below, the lines in which a kernel tells its symbols, and the addresses that they give names.
+-- Refusals of the layers below, the lines in which a kernel tells its symbols, and the addresses
+-- that they give names.
 use Rattle.std.specs.Char.{digit_value, is_ascii_whitespace}
 use Rattle.std.specs.IoError.{error_kind}
 use Rattle.std.specs.Iterator.{Drains}
 use Rattle.std.specs.List.{slice_split, list_all, list_any, filter_map}
-use Rattle.std.specs.Prelude.{Bool, true, false, if◌then◌else◌, ℕ, ◌^◌, ◌&&◌, List, [], ◌∷◌, length, filter, nat_lt, Option, Some, None, ◌≡◌, ◌++◌, Result, Ok, Err, ◌==◌, slice_get, string_bytes}
+use Rattle.std.specs.Prelude.{
+  Bool,
+  true,
+  false,
+  if◌then◌else◌,
+  ℕ,
+  ◌^◌,
+  ◌&&◌,
+  List,
+  [],
+  ◌∷◌,
+  length,
+  filter,
+  nat_lt,
+  Option,
+  Some,
+  None,
+  ◌≡◌,
+  ◌++◌,
+  Result,
+  Ok,
+  Err,
+  ◌==◌,
+  slice_get,
+  string_bytes,
+}
 use Rattle.std.specs.Str.{bytes_eq}
 use Rattle.std.specs.Str.Parse.{digits_value, without_leading_plus}
 use Rattle.std.specs.declared.alloc.Global.{Global}
@@ -15,7 +41,13 @@ use Rattle.ebpf_base.specs.Faults.{first_some}
 use Rattle.ebpf_btf.specs.declared.error.BtfError.{BtfError}
 use Rattle.ebpf_btf.specs.declared.error.BtfError.TheVariants as types
 use Rattle.ebpf_ksyms.specs.declared.error.KsymsError.{KsymsError}
-use Rattle.ebpf_ksyms.specs.declared.error.KsymsError.TheVariants.{BtfError as BtfFault, KallsymsAccessError, OutOfMemory, AmbiguousResolution, KallsymsParseError}
+use Rattle.ebpf_ksyms.specs.declared.error.KsymsError.TheVariants.{
+  BtfError as BtfFault,
+  KallsymsAccessError,
+  OutOfMemory,
+  AmbiguousResolution,
+  KallsymsParseError,
+}
 
 -- ---- refusals of the layers below, as refusals of resolution
 
@@ -39,8 +71,9 @@ line_read_fault e = if is_memory_kind (error_kind e) then OutOfMemory else Kalls
 
 -- ---- the lines in which a kernel tells its symbols, and the addresses that they give names
 
--- The lines in which a kernel tells its symbols: each an address in hexadecimal digits, a letter for the kind, a name,
--- and more (proc(5), "/proc/kallsyms"; the kernel's kernel/kallsyms.c, s_show).
+-- The lines in which a kernel tells its symbols: each an address in hexadecimal digits, a letter
+-- for the kind, a name, and more (proc(5), "/proc/kallsyms"; the kernel's kernel/kallsyms.c,
+-- s_show).
 
 -- the words of a line: what stands between runs of the bytes 0x09, 0x0a, 0x0c, 0x0d and 0x20
 unfoldable pub words : List ℕ → List (List ℕ)
@@ -63,7 +96,10 @@ is_hexadecimal digits = nat_lt 0 (length digits) && list_all (λ c. nat_lt (digi
 
 -- the number of some digits, where they are hexadecimal and it is below 2^64
 abbrev pub hexadecimal_number : List ℕ → Option ℕ
-hexadecimal_number digits = if is_hexadecimal digits && nat_lt (digits_value 16 digits) (2 ^ 64) then Some (digits_value 16 digits) else None
+hexadecimal_number digits =
+    if is_hexadecimal digits && nat_lt (digits_value 16 digits) (2 ^ 64)
+    then Some (digits_value 16 digits)
+    else None
 
 -- the address that a word states; a plus may stand first
 unfoldable pub stated_address : List ℕ → Option ℕ
@@ -107,7 +143,8 @@ nonzero (Some address) = if address == 0 then None else Some address
 -- the nonzero address that a word states, where it is that of a name
 abbrev pub address_if_named : List ℕ → Option (List ℕ × List ℕ) → Option ℕ
 address_if_named name None = None
-address_if_named name (Some pair) = if bytes_eq pair.1 name then nonzero (stated_address pair.0) else None
+address_if_named name (Some pair) =
+    if bytes_eq pair.1 name then nonzero (stated_address pair.0) else None
 
 -- the nonzero address that a line gives a name
 abbrev pub address_in_line : List ℕ → Line → Option ℕ
@@ -126,26 +163,33 @@ address_of name lines = slice_get (addresses name lines) 0
 
 -- `invalid address: ` and the word
 abbrev pub invalid_address : List ℕ → List ℕ
-invalid_address word = 105 ∷ 110 ∷ 118 ∷ 97 ∷ 108 ∷ 105 ∷ 100 ∷ 32 ∷ 97 ∷ 100 ∷ 100 ∷ 114 ∷ 101 ∷ 115 ∷ 115 ∷ 58 ∷ 32 ∷ word
+invalid_address word =
+    105 ∷ 110 ∷ 118 ∷ 97 ∷ 108 ∷ 105 ∷ 100 ∷ 32 ∷ 97 ∷ 100 ∷ 100 ∷ 114 ∷ 101 ∷ 115 ∷ 115 ∷ 58 ∷ 32
+    ∷ word
 
 -- a nonzero address that differs from the one before
 abbrev pub clash : List ℕ → Option ℕ → ℕ → Option KsymsError
 clash name None address = None
-clash name (Some first) address = if first == address then None else Some (AmbiguousResolution name first address)
+clash name (Some first) address =
+    if first == address then None else Some (AmbiguousResolution name first address)
 
 -- the fault of what a word states of a name, given the address before
 abbrev pub stated_fault : List ℕ → Option ℕ → List ℕ → Option ℕ → Option KsymsError
 stated_fault name before word None = Some (KallsymsParseError (invalid_address word))
-stated_fault name before word (Some address) = if address == 0 then None else clash name before address
+stated_fault name before word (Some address) =
+    if address == 0 then None else clash name before address
 
 -- the fault of an address and a name: none where the name is not wanted
-abbrev pub named_address_fault : (List ℕ → Bool) → List Line → Option (List ℕ × List ℕ) → Option KsymsError
+abbrev pub named_address_fault : (List ℕ → Bool) → List Line → Option (List ℕ × List ℕ)
+    → Option KsymsError
 named_address_fault is_wanted before None = None
 named_address_fault is_wanted before (Some pair) =
-    if is_wanted pair.1 then stated_fault pair.1 (address_of pair.1 before) pair.0 (stated_address pair.0) else None
+    if is_wanted pair.1
+    then stated_fault pair.1 (address_of pair.1 before) pair.0 (stated_address pair.0)
+    else None
 
--- The fault of a line after others: it could not be read, or it is wanted and states no address, or another one than
--- those before.
+-- The fault of a line after others: it could not be read, or it is wanted and states no address, or
+-- another one than those before.
 unfoldable pub line_fault : (List ℕ → Bool) → List Line → Line → Option KsymsError
 line_fault is_wanted before (Err e) = Some e
 line_fault is_wanted before (Ok line) = named_address_fault is_wanted before (address_and_name line)

@@ -2,7 +2,31 @@
 use Rattle.std.specs.FinMap.{FinMap, entries, from_sorted}
 use Rattle.std.specs.Iterator.{Yields}
 use Rattle.std.specs.List.{filter_map}
-use Rattle.std.specs.Prelude.{ℕ, List, Bool, true, false, Option, Some, None, Result, Ok, Err, unwrap_or, ◌≡◌, ◌&&◌, ◌++◌, [], ◌∷◌, map, not, nat_lt, length, if◌then◌else◌, ◌⊎◌}
+use Rattle.std.specs.Prelude.{
+  ℕ,
+  List,
+  Bool,
+  true,
+  false,
+  Option,
+  Some,
+  None,
+  Result,
+  Ok,
+  Err,
+  unwrap_or,
+  ◌≡◌,
+  ◌&&◌,
+  ◌++◌,
+  [],
+  ◌∷◌,
+  map,
+  not,
+  nat_lt,
+  length,
+  if◌then◌else◌,
+  ◌⊎◌,
+}
 use Rattle.ebpf_base.specs.Faults.{fault_of, first_some, if_ok}
 use Rattle.ebpf_base.specs.Maps.{text_cmp}
 use Rattle.ebpf_btf.specs.EssentialNames.{essential_name}
@@ -16,9 +40,25 @@ use Rattle.ebpf_btf.specs.declared.kind.BtfKind.TheVariants as kinds
 use Rattle.ebpf_btf.specs.declared.types.BtfType.{BtfType}
 use Rattle.ebpf_btf.specs.declared.types.BtfType.TheVariants.{Func, Var}
 use Rattle.ebpf_core_candidates.specs.Compatibility.{types_compatible}
-use Rattle.ebpf_ksyms.specs.Addresses.{of_type_fault, Item, Line, line_of_item, lines_fault, address_of, Counts, is_one_of}
+use Rattle.ebpf_ksyms.specs.Addresses.{
+  of_type_fault,
+  Item,
+  Line,
+  line_of_item,
+  lines_fault,
+  address_of,
+  Counts,
+  is_one_of,
+}
 use Rattle.ebpf_ksyms.specs.declared.error.KsymsError.{KsymsError}
-use Rattle.ebpf_ksyms.specs.declared.error.KsymsError.TheVariants.{FunctionNotFound, IncompatibleFunctionSignature, IncompatibleVariableType, InvalidExternType, VariableNotFound, TypedKsymRequiresKernelBtf}
+use Rattle.ebpf_ksyms.specs.declared.error.KsymsError.TheVariants.{
+  FunctionNotFound,
+  IncompatibleFunctionSignature,
+  IncompatibleVariableType,
+  InvalidExternType,
+  VariableNotFound,
+  TypedKsymRequiresKernelBtf,
+}
 use Rattle.ebpf_ksyms.specs.declared.ids.ExternKind.{ExternKind}
 use Rattle.ebpf_ksyms.specs.declared.ids.ExternKind.TheVariants.{Function, Variable}
 use Rattle.ebpf_model.specs.declared.symbol.ExternDesc.{ExternDesc}
@@ -35,9 +75,11 @@ pub record LookupKeyValue : Type 0 where
 
 -- ---- what is looked up
 
--- A function is looked up by its name before the first three underscores, a variable by its whole name.
+-- A function is looked up by its name before the first three underscores, a variable by its whole
+-- name.
 unfoldable pub lookup_key_of : List ℕ → BtfType → Option LookupKeyValue
-lookup_key_of name (Func _ id) = Some (record { kind = Function; name = essential_name name; type_id = id })
+lookup_key_of name (Func _ id) =
+    Some (record { kind = Function; name = essential_name name; type_id = id })
 lookup_key_of name (Var _ id _) = Some (record { kind = Variable; name = name; type_id = id })
 lookup_key_of name _ = None
 
@@ -54,7 +96,8 @@ KernelIds = ExternKind → List ℕ → Option ℕ
 abbrev pub kernel_ids_in : TypeInfo → KernelIds
 kernel_ids_in kernel kind name = id_of_name kernel name (btf_kind_of kind)
 
--- whether the type that a local FUNC or VAR holds stands for the one that the kernel's holds, both resolved
+-- whether the type that a local FUNC or VAR holds stands for the one that the kernel's holds, both
+-- resolved
 unfoldable pub are_types_compatible : TypeInfo → ℕ → TypeInfo → ℕ → Result Bool BtfError
 are_types_compatible local type_id kernel id =
     if_ok (resolved local.types type_id) (λ one.
@@ -87,15 +130,20 @@ compared_outcome weak s id (Ok false) = unless_weak weak (not_alike s.kind s.nam
 
 abbrev pub at_found : TypeInfo → TypeInfo → Bool → LookupKeyValue → Option ℕ → Outcome
 at_found local kernel weak s None = unless_weak weak (not_found s.kind s.name)
-at_found local kernel weak s (Some id) = compared_outcome weak s id (are_types_compatible local s.type_id kernel id)
+at_found local kernel weak s (Some id) =
+    compared_outcome weak s id (are_types_compatible local s.type_id kernel id)
 
-abbrev pub at_lookup_key : TypeInfo → TypeInfo → KernelIds → List ℕ → Bool → Option LookupKeyValue → Outcome
+abbrev pub at_lookup_key : TypeInfo → TypeInfo → KernelIds → List ℕ → Bool → Option LookupKeyValue
+    → Outcome
 at_lookup_key local kernel kernel_ids name weak None = Err (InvalidExternType name)
-at_lookup_key local kernel kernel_ids name weak (Some s) = at_found local kernel weak s (kernel_ids s.kind s.name)
+at_lookup_key local kernel kernel_ids name weak (Some s) =
+    at_found local kernel weak s (kernel_ids s.kind s.name)
 
-abbrev pub at_type : TypeInfo → TypeInfo → KernelIds → List ℕ → Bool → Result BtfType BtfError → Outcome
+abbrev pub at_type : TypeInfo → TypeInfo → KernelIds → List ℕ → Bool → Result BtfType BtfError
+    → Outcome
 at_type local kernel kernel_ids name weak (Err e) = Err (of_type_fault e)
-at_type local kernel kernel_ids name weak (Ok t) = at_lookup_key local kernel kernel_ids name weak (lookup_key_of name t)
+at_type local kernel kernel_ids name weak (Ok t) =
+    at_lookup_key local kernel kernel_ids name weak (lookup_key_of name t)
 
 -- ---- what stands at each extern after resolution, and why it is refused
 
@@ -121,7 +169,8 @@ is_typeless d = not d.is_resolved && not d.is_typed
 -- what the kernel has for an extern; `kernel_ids` gives ids of the kernel by name
 abbrev pub outcome_by : KernelIds → TypeInfo → Option TypeInfo → NamedExtern → Outcome
 outcome_by kernel_ids local None e = unless_weak e.1.is_weak TypedKsymRequiresKernelBtf
-outcome_by kernel_ids local (Some kernel) e = at_type local kernel kernel_ids e.0 e.1.is_weak (type_at local.types e.1.btf_id)
+outcome_by kernel_ids local (Some kernel) e =
+    at_type local kernel kernel_ids e.0 e.1.is_weak (type_at local.types e.1.btf_id)
 
 abbrev pub no_kernel_ids : KernelIds
 no_kernel_ids kind name = None
@@ -230,7 +279,8 @@ module _ {S : Type 0} (steps : S → Option Item → S → Type 0) (lines : S) w
   StopsAtType local kernel externs e = types_refused local kernel externs ≡ Some e
 
   -- the last item that was read is refused, and none before it; lines are read
-  pub record StopsAtLine (local kernel : Option TypeInfo) (externs : Externs) (e : KsymsError) : Type 0 where
+  pub record StopsAtLine (local kernel : Option TypeInfo) (externs : Externs) (e : KsymsError)
+      : Type 0 where
     pub items : List Item
     pub item : Item
     pub rest : S
@@ -241,7 +291,8 @@ module _ {S : Type 0} (steps : S → Option Item → S → Type 0) (lines : S) w
     pub refused : lines_refused local externs (map line_of_item (items ++ item ∷ [])) ≡ Some e
 
   -- all items are accepted, and an extern is left without an address
-  pub record StopsAtName (local kernel : Option TypeInfo) (externs : Externs) (e : KsymsError) : Type 0 where
+  pub record StopsAtName (local kernel : Option TypeInfo) (externs : Externs) (e : KsymsError)
+      : Type 0 where
     pub items : List Item
     pub counted : Counts steps lines (reads_lines local externs) items
     pub types : types_refused local kernel externs ≡ None
@@ -251,4 +302,5 @@ module _ {S : Type 0} (steps : S → Option Item → S → Type 0) (lines : S) w
   -- the least refusal: externs with types come first, then the lines, then the names left
   abbrev pub IsResolutionFault : Option TypeInfo → Option TypeInfo → Externs → KsymsError → Type 0
   IsResolutionFault local kernel externs e =
-      StopsAtType local kernel externs e ⊎ (StopsAtLine local kernel externs e ⊎ StopsAtName local kernel externs e)
+      StopsAtType local kernel externs e ⊎
+      (StopsAtLine local kernel externs e ⊎ StopsAtName local kernel externs e)

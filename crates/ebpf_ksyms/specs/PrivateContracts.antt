@@ -1,5 +1,23 @@
 -- What contracts of private functions name and no public one: entries, ids and addresses in tables.
-use Rattle.std.specs.Prelude.{ℕ, List, [], ◌∷◌, Option, Some, None, if◌then◌else◌, ◌≡◌, true, ◌++◌, length, map, nat_lt, Ok, Err, option_map}
+use Rattle.std.specs.Prelude.{
+  ℕ,
+  List,
+  [],
+  ◌∷◌,
+  Option,
+  Some,
+  None,
+  if◌then◌else◌,
+  ◌≡◌,
+  true,
+  ◌++◌,
+  length,
+  map,
+  nat_lt,
+  Ok,
+  Err,
+  option_map,
+}
 use Rattle.std.specs.FinMap.{empty}
 use Rattle.std.specs.List.{position_from, filter_map}
 use Rattle.std.specs.Option.{option_and_then}
@@ -15,8 +33,31 @@ use Rattle.ebpf_btf.specs.declared.kind.BtfKind.{BtfKind}
 use Rattle.ebpf_btf.specs.declared.types.BtfType.{BtfType}
 use Rattle.ebpf_btf.specs.declared.types.BtfType.TheVariants.{Func, Var}
 use Rattle.ebpf_core_candidates.specs.Candidates.{is_hash_marked, name_hash}
-use Rattle.ebpf_ksyms.specs.Addresses.{is_one_of, Item, Line, address_of, line_of_item, lines_fault, address_if_named, stated_fault, Counts, address_and_name, stated_address}
-use Rattle.ebpf_ksyms.specs.Externs.{NamedExtern, Externs, is_typeless, left_without, with_address, is_typed, outcome_by, with_outcome, KernelIds, lookup_key_of}
+use Rattle.ebpf_ksyms.specs.Addresses.{
+  is_one_of,
+  Item,
+  Line,
+  address_of,
+  line_of_item,
+  lines_fault,
+  address_if_named,
+  stated_fault,
+  Counts,
+  address_and_name,
+  stated_address,
+}
+use Rattle.ebpf_ksyms.specs.Externs.{
+  NamedExtern,
+  Externs,
+  is_typeless,
+  left_without,
+  with_address,
+  is_typed,
+  outcome_by,
+  with_outcome,
+  KernelIds,
+  lookup_key_of,
+}
 use Rattle.ebpf_ksyms.specs.declared.error.KsymsError.{KsymsError}
 use Rattle.ebpf_ksyms.specs.declared.ids.NameIds.{NameIds}
 use Rattle.ebpf_ksyms.specs.declared.ids.ExternKind.{ExternKind}
@@ -40,7 +81,11 @@ externs_from es = put_all empty es
 
 -- the lowest ids of a FUNC and of a VAR with a name
 abbrev pub ids_in : TypeInfo → List ℕ → NameIds
-ids_in kernel name = record { function = id_of_name kernel name kinds.Func; variable = id_of_name kernel name kinds.Var }
+ids_in kernel name =
+    record {
+      function = id_of_name kernel name kinds.Func;
+      variable = id_of_name kernel name kinds.Var;
+    }
 
 -- the one of an extern kind
 abbrev pub id_of : ExternKind → NameIds → Option ℕ
@@ -67,7 +112,8 @@ with_id_of ids id (Some kind) = with_lower_id ids kind id
 
 -- the ids of a name, with one more type
 abbrev pub with_type_ids : TypeInfo → List ℕ → ℕ → BtfType → NameIds → NameIds
-with_type_ids kernel name id t ids = if is_text name (type_name kernel t) then with_id_of ids id (extern_kind t) else ids
+with_type_ids kernel name id t ids =
+    if is_text name (type_name kernel t) then with_id_of ids id (extern_kind t) else ids
 
 -- the ids of a name, with types that have ids from a number on
 abbrev pub finished : TypeInfo → List ℕ → ℕ → List BtfType → NameIds → NameIds
@@ -80,7 +126,10 @@ finished kernel name id types ids = record {
 
 -- the value at a name that is marked
 unfoldable pub value_named : {V : Type 0} → NameTable V → List ℕ → Option V
-value_named m name = if is_hash_marked m.marks.items (name_hash name) then get_by (λ k. text_cmp name k.now) m.values else None
+value_named m name =
+    if is_hash_marked m.marks.items (name_hash name)
+    then get_by (λ k. text_cmp name k.now) m.values
+    else None
 
 -- values at some names alone
 abbrev pub only_at : {V : Type 0} → List (List ℕ) → (List ℕ → V) → List ℕ → Option V
@@ -94,7 +143,10 @@ extern_kind_of _ = None
 
 -- the ids of a name, with one more type, of a kind and with its name at an offset
 abbrev pub with_head_ids : TypeInfo → List ℕ → ℕ → BtfKind → ℕ → NameIds → NameIds
-with_head_ids kernel name id kind offset ids = if is_text name (text_at kernel.strings offset) then with_id_of ids id (extern_kind_of kind) else ids
+with_head_ids kernel name id kind offset ids =
+    if is_text name (text_at kernel.strings offset)
+    then with_id_of ids id (extern_kind_of kind)
+    else ids
 
 -- ---- the addresses of names, line by line, and where reading stops
 
@@ -104,7 +156,9 @@ KnownAddresses = List ℕ → Option (Option ℕ)
 
 -- what is known after a line
 abbrev pub with_line : KnownAddresses → List ℕ → KnownAddresses
-with_line known line name = option_map (λ before. or_else before (address_if_named name (address_and_name line))) (known name)
+with_line known line name =
+    option_map (λ before. or_else before (address_if_named name (address_and_name line)))
+    (known name)
 
 abbrev pub with_read_line : KnownAddresses → Line → KnownAddresses
 with_read_line known (Ok line) = with_line known line
@@ -126,23 +180,25 @@ abbrev pub read_line_fault : KnownAddresses → Line → Option KsymsError
 read_line_fault known (Ok line) = text_line_fault known line
 read_line_fault known (Err e) = Some e
 
-module _ {S : Type 0} (steps : S → Option Item → S → Type 0) (lines : S) (names : List (List ℕ)) where
-  -- all items that count were read, none was refused, and each name has its address
-  pub record AreRead (known : KnownAddresses) : Type 0 where
-    pub items : List Item
-    pub counted : Counts steps lines (nat_lt 0 (length names)) items
-    pub read : lines_fault (is_one_of names) (map line_of_item items) ≡ None
-    pub addresses : (q : List ℕ) → known q ≡ only_at names (λ name. address_of name (map line_of_item items)) q
+module _ {S : Type 0} (steps : S → Option Item → S → Type 0) (lines : S) (names : List (List ℕ))
+  where
+    -- all items that count were read, none was refused, and each name has its address
+    pub record AreRead (known : KnownAddresses) : Type 0 where
+      pub items : List Item
+      pub counted : Counts steps lines (nat_lt 0 (length names)) items
+      pub read : lines_fault (is_one_of names) (map line_of_item items) ≡ None
+      pub addresses : (q : List ℕ)
+          → known q ≡ only_at names (λ name. address_of name (map line_of_item items)) q
 
-  -- the last item that was read is refused, and none before it; there are names to read for
-  pub record StopsAt (e : KsymsError) : Type 0 where
-    pub items : List Item
-    pub item : Item
-    pub rest : S
-    pub wanted : nat_lt 0 (length names) ≡ true
-    pub came : Yields steps lines (items ++ item ∷ []) rest
-    pub before : lines_fault (is_one_of names) (map line_of_item items) ≡ None
-    pub refused : lines_fault (is_one_of names) (map line_of_item (items ++ item ∷ [])) ≡ Some e
+    -- the last item that was read is refused, and none before it; there are names to read for
+    pub record StopsAt (e : KsymsError) : Type 0 where
+      pub items : List Item
+      pub item : Item
+      pub rest : S
+      pub wanted : nat_lt 0 (length names) ≡ true
+      pub came : Yields steps lines (items ++ item ∷ []) rest
+      pub before : lines_fault (is_one_of names) (map line_of_item items) ≡ None
+      pub refused : lines_fault (is_one_of names) (map line_of_item (items ++ item ∷ [])) ≡ Some e
 
 -- ---- externs without a type, where addresses are given by a table
 
@@ -166,14 +222,19 @@ typeless_refused address e = if is_typeless e.1 then left_without (address e.0) 
 -- the name that an extern is looked up by
 abbrev pub lookup_name : TypeInfo → NamedExtern → Option (List ℕ)
 lookup_name local e =
-    if is_typed e.1 then option_map (λ s. s.name) (option_and_then (lookup_key_of e.0) (result_ok (type_at local.types e.1.btf_id))) else None
+    if is_typed e.1
+    then option_map (λ s. s.name)
+    (option_and_then (lookup_key_of e.0) (result_ok (type_at local.types e.1.btf_id)))
+    else None
 
 abbrev pub lookup_names : TypeInfo → List NamedExtern → List (List ℕ)
 lookup_names local es = filter_map (lookup_name local) es
 
 -- what stands at an extern, and why it is refused
 abbrev pub typed_as : KernelIds → TypeInfo → Option TypeInfo → NamedExtern → ExternDesc
-typed_as kernel_ids local kernel e = if is_typed e.1 then with_outcome e.1 (outcome_by kernel_ids local kernel e) else e.1
+typed_as kernel_ids local kernel e =
+    if is_typed e.1 then with_outcome e.1 (outcome_by kernel_ids local kernel e) else e.1
 
 abbrev pub typed_refused : KernelIds → TypeInfo → Option TypeInfo → NamedExtern → Option KsymsError
-typed_refused kernel_ids local kernel e = if is_typed e.1 then fault_of (outcome_by kernel_ids local kernel e) else None
+typed_refused kernel_ids local kernel e =
+    if is_typed e.1 then fault_of (outcome_by kernel_ids local kernel e) else None

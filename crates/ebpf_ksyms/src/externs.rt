@@ -67,7 +67,9 @@ fn compared_outcome(
     lookup_key: &LookupKey<'_>,
     id: u32,
 ) -> Result<Option<u32>, KsymsError>
-    ensures { Gives is_ksyms_memory result (compared_outcome is_weak lookup_key.now id (are_types_compatible local.now lookup_key.now.type_id kernel.now id)) }
+    ensures { Gives is_ksyms_memory result
+        (compared_outcome is_weak lookup_key.now id
+        (are_types_compatible local.now lookup_key.now.type_id kernel.now id)) }
 {
     match are_types_compatible(local, lookup_key.type_id, kernel, id) {
         Err(error) => Err(KsymsError::of_types(error)),
@@ -86,7 +88,9 @@ fn outcome_by_key(
     is_weak: bool,
     lookup_key: &LookupKey<'_>,
 ) -> Result<Option<u32>, KsymsError>
-    ensures { Gives is_ksyms_memory result (at_found local.now kernel.now is_weak lookup_key.now (id_at (value_named ids.now) lookup_key.now.kind lookup_key.now.name)) }
+    ensures { Gives is_ksyms_memory result
+        (at_found local.now kernel.now is_weak lookup_key.now
+        (id_at (value_named ids.now) lookup_key.now.kind lookup_key.now.name)) }
 {
     match id_at(ids, lookup_key.kind, lookup_key.name) {
         Some(id) => compared_outcome(alloc, local, kernel, is_weak, lookup_key, id),
@@ -103,7 +107,9 @@ fn outcome(
     ids: &NameTable<'_, NameIds>,
     entry: &NamedExtern<'_>,
 ) -> Result<Option<u32>, KsymsError>
-    ensures { Gives is_ksyms_memory result (outcome_by (id_at (value_named ids.now)) local.now (option_copied kernel.entry) entry.now) }
+    ensures { Gives is_ksyms_memory result
+        (outcome_by (id_at (value_named ids.now)) local.now (option_copied kernel.entry)
+        entry.now) }
 {
     let is_weak = entry.desc.is_weak;
     let Some(kernel) = kernel else {
@@ -132,8 +138,16 @@ fn typed_entry<'a>(
     ids: &NameTable<'_, NameIds>,
     entry: &NamedExtern<'a>,
 ) -> Result<NamedExtern<'a>, KsymsError>
-    ensures stands { IfOk result (λ e. e ≡ (entry.now.0, typed_as (id_at (value_named ids.now)) local.now (option_copied kernel.entry) entry.now)) }
-    ensures fault { Refuses is_ksyms_memory result (typed_refused (id_at (value_named ids.now)) local.now (option_copied kernel.entry) entry.now) }
+    ensures stands { IfOk result (λ e.
+        e
+        ≡ (
+          entry.now.0,
+          typed_as (id_at (value_named ids.now)) local.now
+              (option_copied kernel.entry) entry.now,
+        )) }
+    ensures fault { Refuses is_ksyms_memory result
+        (typed_refused (id_at (value_named ids.now)) local.now (option_copied kernel.entry)
+        entry.now) }
 {
     if !entry.is_typed() {
         return Ok(entry.with(entry.desc));
@@ -161,8 +175,15 @@ fn typed_entries<'a>(
     ids: &NameTable<'_, NameIds>,
     all: &[NamedExtern<'a>],
 ) -> Result<Vec<NamedExtern<'a>>, KsymsError>
-    ensures stands { IfOk result (λ new. new.items ≡ renewed (typed_as (id_at (value_named ids.now)) local.now (option_copied kernel.entry)) all.now) }
-    ensures fault { Refuses is_ksyms_memory result (first_some (typed_refused (id_at (value_named ids.now)) local.now (option_copied kernel.entry)) all.now) }
+    ensures stands { IfOk result (λ new.
+        new.items
+        ≡ renewed
+        (typed_as (id_at (value_named ids.now)) local.now (option_copied kernel.entry))
+        all.now) }
+    ensures fault { Refuses is_ksyms_memory result
+        (first_some
+        (typed_refused (id_at (value_named ids.now)) local.now
+        (option_copied kernel.entry)) all.now) }
 {
     let mut new = Vec::with_capacity(alloc, all.len())?;
     for entry in all {
@@ -211,8 +232,15 @@ pub fn with_types<'a>(
     kernel: Option<&Btf>,
     all: &[NamedExtern<'a>],
 ) -> Result<Vec<NamedExtern<'a>>, KsymsError>
-    ensures stands { IfOk result (λ new. new.items ≡ renewed (typed_as (kernel_ids_of (option_copied kernel.entry)) local.now (option_copied kernel.entry)) all.now) }
-    ensures fault { Refuses is_ksyms_memory result (first_some (typed_refused (kernel_ids_of (option_copied kernel.entry)) local.now (option_copied kernel.entry)) all.now) }
+    ensures stands { IfOk result (λ new.
+        new.items
+        ≡ renewed
+        (typed_as (kernel_ids_of (option_copied kernel.entry)) local.now
+        (option_copied kernel.entry)) all.now) }
+    ensures fault { Refuses is_ksyms_memory result
+        (first_some
+        (typed_refused (kernel_ids_of (option_copied kernel.entry)) local.now
+        (option_copied kernel.entry)) all.now) }
 {
     let Some(types) = kernel else {
         let ids = NameTable::new(alloc, &[], NameIds::NONE)?;
@@ -236,8 +264,10 @@ fn typeless_entry<'a>(
     addresses: &NameTable<'_, Option<u64>>,
     entry: &NamedExtern<'a>,
 ) -> Result<NamedExtern<'a>, KsymsError>
-    ensures stands { IfOk result (λ e. e ≡ (entry.now.0, typeless_as (known_at (value_named addresses.now)) entry.now)) }
-    ensures fault { Refuses is_ksyms_memory result (typeless_refused (known_at (value_named addresses.now)) entry.now) }
+    ensures stands { IfOk result (λ e.
+        e ≡ (entry.now.0, typeless_as (known_at (value_named addresses.now)) entry.now)) }
+    ensures fault { Refuses is_ksyms_memory result
+        (typeless_refused (known_at (value_named addresses.now)) entry.now) }
 {
     if !entry.is_typeless() {
         return Ok(entry.with(entry.desc));
@@ -267,8 +297,10 @@ pub fn with_addresses<'a>(
     addresses: &NameTable<'_, Option<u64>>,
     all: &[NamedExtern<'a>],
 ) -> Result<Vec<NamedExtern<'a>>, KsymsError>
-    ensures stands { IfOk result (λ new. new.items ≡ renewed (typeless_as (known_at (value_named addresses.now))) all.now) }
-    ensures fault { Refuses is_ksyms_memory result (first_some (typeless_refused (known_at (value_named addresses.now))) all.now) }
+    ensures stands { IfOk result (λ new.
+        new.items ≡ renewed (typeless_as (known_at (value_named addresses.now))) all.now) }
+    ensures fault { Refuses is_ksyms_memory result
+        (first_some (typeless_refused (known_at (value_named addresses.now))) all.now) }
 {
     let mut new = Vec::with_capacity(alloc, all.len())?;
     for entry in all {

@@ -132,7 +132,11 @@ fn add_kernel_type(
     id: u32,
     head: TypeHead,
 ) -> Result<(), KsymsError>
-    ensures ok { OnOk result ((q : List ℕ) → value_named ids.new q ≡ option_map (with_head_ids kernel.now q id head.kind head.name_offset) (value_named ids.old q)) }
+    ensures ok { OnOk result
+        ((q : List ℕ)
+        → value_named ids.new q
+        ≡ option_map (with_head_ids kernel.now q id head.kind head.name_offset)
+        (value_named ids.old q)) }
     ensures memory { IfErr result (λ e. e ≡ OutOfMemory) }
 {
     let Some(kind) = extern_kind_of(head.kind) else {
@@ -155,7 +159,9 @@ pub fn ids_in<'a>(
     kernel: &Btf,
     names: &[&'a str],
 ) -> Result<NameTable<'a, NameIds>, KsymsError>
-    ensures ok { IfOk result (λ ids. (q : List ℕ) → value_named ids q ≡ only_at (lent_bytes names.now) (ids_in kernel.now) q) }
+    ensures ok { IfOk result (λ ids.
+        (q : List ℕ)
+        → value_named ids q ≡ only_at (lent_bytes names.now) (ids_in kernel.now) q) }
     ensures memory { IfErr result (λ e. e ≡ OutOfMemory) }
 {
     let mut ids = NameTable::new(alloc, names, NameIds::NONE)?;

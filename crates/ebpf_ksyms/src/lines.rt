@@ -76,7 +76,8 @@ fn without_return(line: &[u8]) -> &[u8]
 
 /// The first line of a text, and what stands behind it.
 fn first_line(text: &[u8]) -> Option<(&[u8], &[u8])>
-    ensures { MatchOption result (lines text.now ≡ []) (λ cut. lines text.now ≡ cut.0.now ∷ lines cut.1.now) }
+    ensures { MatchOption result (lines text.now ≡ []) (λ cut.
+        lines text.now ≡ cut.0.now ∷ lines cut.1.now) }
 {
     match line_end(text) {
         Some(end) => Some((without_return(&text[..end]), &text[end + 1..])),
@@ -161,7 +162,8 @@ fn new_address(
     word: &str,
 ) -> Result<Option<u64>, KsymsError>
     ensures ok { IfOk result (λ new. new ≡ or_else before (nonzero (stated_address word.now))) }
-    ensures fault { Refuses is_ksyms_memory result (stated_fault name.now before word.now (stated_address word.now)) }
+    ensures fault { Refuses is_ksyms_memory result
+        (stated_fault name.now before word.now (stated_address word.now)) }
 {
     let Some(address) = stated_address(word) else {
         return Err(invalid_address(alloc, word)?);
@@ -186,8 +188,11 @@ fn add_line(
     addresses: &mut NameTable<'_, Option<u64>>,
     line: &str,
 ) -> Result<(), KsymsError>
-    ensures ok { OnOk result ((q : List ℕ) → value_named addresses.new q ≡ with_line (value_named addresses.old) line.now q) }
-    ensures fault { Refuses is_ksyms_memory result (text_line_fault (value_named addresses.old) line.now) }
+    ensures ok { OnOk result
+        ((q : List ℕ)
+        → value_named addresses.new q ≡ with_line (value_named addresses.old) line.now q) }
+    ensures fault { Refuses is_ksyms_memory result
+        (text_line_fault (value_named addresses.old) line.now) }
 {
     let Some((word, name)) = address_and_name(line) else {
         return Ok(());
@@ -206,8 +211,12 @@ fn add_item(
     addresses: &mut NameTable<'_, Option<u64>>,
     item: io::Result<String>,
 ) -> Result<(), KsymsError>
-    ensures ok { OnOk result ((q : List ℕ) → value_named addresses.new q ≡ with_read_line (value_named addresses.old) (line_of_item item) q) }
-    ensures fault { Refuses is_ksyms_memory result (read_line_fault (value_named addresses.old) (line_of_item item)) }
+    ensures ok { OnOk result
+        ((q : List ℕ)
+        → value_named addresses.new q
+        ≡ with_read_line (value_named addresses.old) (line_of_item item) q) }
+    ensures fault { Refuses is_ksyms_memory result
+        (read_line_fault (value_named addresses.old) (line_of_item item)) }
 {
     match item {
         Err(error) => Err(line_read_fault(error)),
@@ -224,8 +233,10 @@ pub fn addresses_in<'a, I: Iterator<Item = io::Result<String>> + Drop>(
 ) -> Result<NameTable<'a, Option<u64>>, KsymsError>
     requires can { I.can_next lines }
     requires ends { IsFinite (I.remaining lines) }
-    ensures ok { IfOk result (λ known. AreRead I.next_gives lines (lent_bytes names.now) (value_named known)) }
-    ensures fault { IfErr result (λ e. MatchBool (is_ksyms_memory e) ⊤ (StopsAt I.next_gives lines (lent_bytes names.now) e)) }
+    ensures ok { IfOk result (λ known.
+        AreRead I.next_gives lines (lent_bytes names.now) (value_named known)) }
+    ensures fault { IfErr result (λ e.
+        MatchBool (is_ksyms_memory e) ⊤ (StopsAt I.next_gives lines (lent_bytes names.now) e)) }
 {
     let mut addresses = NameTable::new(alloc, names, None)?;
     if names.is_empty() {

@@ -44,7 +44,8 @@ impl<'a> Model for NamedExtern<'a> {
 
 /// Marks of some names.
 fn marks_of(alloc: Global, names: &[&str]) -> Result<Vec<bool>, AllocError>
-    ensures { IfOk result (λ marks. All (λ name. is_hash_marked marks.items (name_hash name.now) ≡ true) names.now) }
+    ensures { IfOk result (λ marks.
+        All (λ name. is_hash_marked marks.items (name_hash name.now) ≡ true) names.now) }
 {
     if names.is_empty() {
         return Ok(every_name(alloc));
@@ -59,7 +60,8 @@ fn marks_of(alloc: Global, names: &[&str]) -> Result<Vec<bool>, AllocError>
 impl<'a, V: Copy + Drop> NameTable<'a, V> {
     /// A table of some names, with one value for all.
     pub fn new(alloc: Global, names: &[&'a str], value: V) -> Result<NameTable<'a, V>, AllocError>
-        ensures { IfOk result (λ m. (q : List ℕ) → value_named m q ≡ only_at (lent_bytes names.now) (λ _. value) q) }
+        ensures { IfOk result (λ m.
+            (q : List ℕ) → value_named m q ≡ only_at (lent_bytes names.now) (λ _. value) q) }
     {
         let marks = marks_of(alloc, names)?;
         let mut values = BTreeMap::new(alloc);
@@ -82,7 +84,11 @@ impl<'a, V: Copy + Drop> NameTable<'a, V> {
 
     /// Puts a value in the place of the one at a name. No memory is taken; where none is there all stays.
     pub fn replace(&mut self, name: &str, value: V)
-        ensures { (q : List ℕ) → value_named self.new q ≡ (if bytes_eq name.now q then option_map (λ _. value) (value_named self.old q) else value_named self.old q) }
+        ensures { (q : List ℕ)
+            → value_named self.new q
+            ≡ (if bytes_eq name.now q
+            then option_map (λ _. value) (value_named self.old q)
+            else value_named self.old q) }
     {
         if let Some(place) = self.values.get_mut(name) {
             *place = value;
@@ -122,7 +128,9 @@ fn entries_named<'a>(
     externs: &ByName<ExternDesc>,
     names: &[&'a str],
 ) -> Result<Vec<NamedExtern<'a>>, AllocError>
-    ensures { IfOk result (λ all. all.items ≡ flat_map (λ name. entry_named name (get externs.now name)) (lent_bytes names.now)) }
+    ensures { IfOk result (λ all.
+        all.items
+        ≡ flat_map (λ name. entry_named name (get externs.now name)) (lent_bytes names.now)) }
 {
     let mut all = Vec::with_capacity(alloc, names.len())?;
     for name in names {

@@ -31,8 +31,13 @@ pub trait SymbolSource: Drop {
     ) -> Result<ByName<ExternDesc>, KsymsError>
     where
         Self: Sized,
-        ensures ok { IfOk result (λ after. IsResolvedFrom (source self) (option_copied btf.entry) (option_copied kernel_btf.entry) externs.now after) }
-        ensures fault { IfErr result (λ e. MatchBool (is_ksyms_memory e) ⊤ (IsRefusedFrom (source self) (option_copied btf.entry) (option_copied kernel_btf.entry) externs.now e)) };
+        ensures ok { IfOk result (λ after.
+            IsResolvedFrom (source self) (option_copied btf.entry)
+            (option_copied kernel_btf.entry) externs.now after) }
+        ensures fault { IfErr result (λ e.
+            MatchBool (is_ksyms_memory e) ⊤
+            (IsRefusedFrom (source self) (option_copied btf.entry)
+            (option_copied kernel_btf.entry) externs.now e)) };
 }
 
 impl<R: BufRead + Drop> SymbolSource for R {
@@ -101,8 +106,13 @@ pub fn resolve_lines<I: Iterator<Item = io::Result<String>> + Drop>(
 ) -> Result<ByName<ExternDesc>, KsymsError>
     requires can { I.can_next lines }
     requires ends { IsFinite (I.remaining lines) }
-    ensures ok { IfOk result (λ after. IsResolved I.next_gives lines (option_copied btf.entry) (option_copied kernel_btf.entry) externs.now after) }
-    ensures fault { IfErr result (λ e. MatchBool (is_ksyms_memory e) ⊤ (IsResolutionFault I.next_gives lines (option_copied btf.entry) (option_copied kernel_btf.entry) externs.now e)) }
+    ensures ok { IfOk result (λ after.
+        IsResolved I.next_gives lines (option_copied btf.entry) (option_copied kernel_btf.entry)
+        externs.now after) }
+    ensures fault { IfErr result (λ e.
+        MatchBool (is_ksyms_memory e) ⊤
+        (IsResolutionFault I.next_gives lines (option_copied btf.entry)
+        (option_copied kernel_btf.entry) externs.now e)) }
 {
     let all = entries_of(alloc, externs)?;
     let Some(local) = btf else {
@@ -123,8 +133,13 @@ pub fn resolve_externs<R: BufRead + Drop>(
     kernel_btf: Option<&Btf>,
     kallsyms: R,
 ) -> Result<ByName<ExternDesc>, KsymsError>
-    ensures ok { IfOk result (λ after. IsResolvedIn (R.remaining kallsyms) (option_copied btf.entry) (option_copied kernel_btf.entry) externs.now after) }
-    ensures fault { IfErr result (λ e. MatchBool (is_ksyms_memory e) ⊤ (IsRefusedIn (R.remaining kallsyms) (option_copied btf.entry) (option_copied kernel_btf.entry) externs.now e)) }
+    ensures ok { IfOk result (λ after.
+        IsResolvedIn (R.remaining kallsyms) (option_copied btf.entry)
+        (option_copied kernel_btf.entry) externs.now after) }
+    ensures fault { IfErr result (λ e.
+        MatchBool (is_ksyms_memory e) ⊤
+        (IsRefusedIn (R.remaining kallsyms) (option_copied btf.entry)
+        (option_copied kernel_btf.entry) externs.now e)) }
 {
     resolve_lines(alloc, btf, externs, kernel_btf, kallsyms.lines(alloc))
 }
@@ -139,8 +154,13 @@ pub fn resolve_text(
     kernel_btf: Option<&Btf>,
     text: &[u8],
 ) -> Result<ByName<ExternDesc>, KsymsError>
-    ensures ok { IfOk result (λ after. IsResolvedBy text.now (option_copied btf.entry) (option_copied kernel_btf.entry) externs.now after) }
-    ensures fault { IfErr result (λ e. MatchBool (is_ksyms_memory e) ⊤ (IsRefusedBy text.now (option_copied btf.entry) (option_copied kernel_btf.entry) externs.now e)) }
+    ensures ok { IfOk result (λ after.
+        IsResolvedBy text.now (option_copied btf.entry) (option_copied kernel_btf.entry)
+        externs.now after) }
+    ensures fault { IfErr result (λ e.
+        MatchBool (is_ksyms_memory e) ⊤
+        (IsRefusedBy text.now (option_copied btf.entry) (option_copied kernel_btf.entry)
+        externs.now e)) }
 {
     resolve_lines(alloc, btf, externs, kernel_btf, TextLines::new(alloc, text))
 }

@@ -1,5 +1,34 @@
 -- How many bytes an object owns, and how many what is made of a file owns at most.
-use Rattle.std.specs.Prelude.{ℕ, List, [], Option, Some, None, is_some, if◌then◌else◌, ◌+◌, ◌∷◌, ◌*◌, length, ◌-◌, ◌%◌, ◌^◌, Bool, true, false, map, filter, codes, nat_lt, min, slice_get, ◌≡◌, ◌≤◌, ◌<◌, unwrap_or}
+use Rattle.std.specs.Prelude.{
+  ℕ,
+  List,
+  [],
+  Option,
+  Some,
+  None,
+  is_some,
+  if◌then◌else◌,
+  ◌+◌,
+  ◌∷◌,
+  ◌*◌,
+  length,
+  ◌-◌,
+  ◌%◌,
+  ◌^◌,
+  Bool,
+  true,
+  false,
+  map,
+  filter,
+  codes,
+  nat_lt,
+  min,
+  slice_get,
+  ◌≡◌,
+  ◌≤◌,
+  ◌<◌,
+  unwrap_or,
+}
 use Rattle.std.specs.Result.{result_ok}
 use Rattle.std.specs.FinMap.{entries, FinMap}
 use Rattle.std.specs.Ordering.{nat_cmp}
@@ -15,7 +44,14 @@ use Rattle.ebpf_base.specs.declared.endianness.Endianness.{Endianness}
 use Rattle.ebpf_btf.specs.Format.{word}
 use Rattle.ebpf_btf.specs.Words.{types_length}
 use Rattle.ebpf_elf.specs.Relocations.{relocation_sections, relocated_section, entry_count}
-use Rattle.ebpf_elf.specs.Symbols.{SymbolOf, entry, symbols, symbol_name, symbol_kind, symbol_section_index}
+use Rattle.ebpf_elf.specs.Symbols.{
+  SymbolOf,
+  entry,
+  symbols,
+  symbol_name,
+  symbol_kind,
+  symbol_section_index,
+}
 use Rattle.ebpf_elf.specs.declared.relocation.ElfRelocation.{ElfRelocation}
 use Rattle.ebpf_elf.specs.declared.symbol.SymbolEntry.{SymbolEntry}
 use Rattle.ebpf_btf_ext.specs.ExtFormat.{func_part, line_part, core_relo_part, part_length}
@@ -30,17 +66,35 @@ use Rattle.ebpf_model.specs.declared.function.Program.{Program}
 use Rattle.ebpf_model.specs.declared.symbol.Symbol.{Symbol}
 use Rattle.ebpf_object.specs.Objects.{object_as, parse_fault_as}
 use Rattle.ebpf_object.specs.declared.object.Object.{Object}
-use Rattle.ebpf_parsing.specs.Records.{func_info_of, line_info_of, is_func_at, is_line_in, slot_of_func, slot_of_line, slot_of, rises_from}
+use Rattle.ebpf_parsing.specs.Records.{
+  func_info_of,
+  line_info_of,
+  is_func_at,
+  is_line_in,
+  slot_of_func,
+  slot_of_line,
+  slot_of,
+  rises_from,
+}
 use Rattle.ebpf_parsing.specs.Symbols.{is_text_symbol}
 use Rattle.ebpf_parts.specs.Maps.{bytes_of}
 use Rattle.ebpf_parts.specs.Sections.{kind_of_section, name_or_empty}
 use Rattle.ebpf_parts.specs.declared.maps.either.Map.{Map}
 use Rattle.ebpf_parts.specs.declared.parse_mode.ParseMode.{ParseMode}
 use Rattle.ebpf_parts.specs.declared.section.EbpfSectionKind.{EbpfSectionKind}
-use Rattle.ebpf_parts.specs.declared.section.EbpfSectionKind.TheVariants.{Maps, BtfMaps, Data, Rodata, Bss, Text, Program as Programs}
+use Rattle.ebpf_parts.specs.declared.section.EbpfSectionKind.TheVariants.{
+  Maps,
+  BtfMaps,
+  Data,
+  Rodata,
+  Bss,
+  Text,
+  Program as Programs,
+}
 
--- ---- what can be read of a file's sections before any other fault of the file is known. Data outside the file, and type
--- information with a fault, is none here: a file with such a section is refused.
+-- ---- what can be read of a file's sections before any other fault of the file is known. Data
+-- outside the file, and type information with a fault, is none here: a file with such a section is
+-- refused.
 
 -- the data of a section
 unfoldable pub readable_data : SectionOf → List ℕ
@@ -61,7 +115,8 @@ readable_types file = result_ok (type_info_of (ei_data file) (data_in (types_sec
 -- the records in its section `.BTF.ext`
 abbrev pub ext_beside_types : List ℕ → Option TypeInfo → Option ExtInfo
 ext_beside_types file None = None
-ext_beside_types file (Some types) = result_ok (read_ext (ei_data file) (data_in (ext_section file)) types.strings)
+ext_beside_types file (Some types) =
+    result_ok (read_ext (ei_data file) (data_in (ext_section file)) types.strings)
 
 unfoldable pub readable_ext : List ℕ → Option ExtInfo
 readable_ext file = ext_beside_types file (readable_types file)
@@ -73,7 +128,8 @@ abbrev pub total : {X : Type 0} → (X → ℕ) → List X → ℕ
 total f [] = 0
 total f (x ∷ xs) = f x + total f xs
 
--- ---- how many bytes the records of `.BTF.ext` take in an object: 8 of func info, 16 of line info and of CO-RE relocations
+-- ---- how many bytes the records of `.BTF.ext` take in an object: 8 of func info, 16 of line info
+-- and of CO-RE relocations
 
 abbrev pub funcs_row : List ℕ × FuncSecInfo → ℕ
 funcs_row e = 8 * length e.1.func_info
@@ -86,11 +142,15 @@ core_row e = 16 * length e.1
 
 abbrev pub ext_bytes : Option ExtInfo → ℕ
 ext_bytes None = 0
-ext_bytes (Some ext) = total funcs_row (entries ext.func_info) + total lines_row (entries ext.line_info) + total core_row ext.relocations
+ext_bytes (Some ext) =
+    total funcs_row (entries ext.func_info)
+    + total lines_row (entries ext.line_info)
+    + total core_row ext.relocations
 
--- ---- how many bytes what is made of a file owns at most: a sum over the headers of its sections, over its symbols and over
--- its records, which can be taken before anything is made of them. Each entry that is put into a table of the object
--- counts, also where a later one of its key takes its place
+-- ---- how many bytes what is made of a file owns at most: a sum over the headers of its sections,
+-- over its symbols and over its records, which can be taken before anything is made of them. Each
+-- entry that is put into a table of the object counts, also where a later one of its key takes its
+-- place
 
 -- ---- names and entries
 
@@ -98,8 +158,8 @@ ext_bytes (Some ext) = total funcs_row (entries ext.func_info) + total lines_row
 abbrev pub entry_bytes : ℕ
 entry_bytes = 64
 
--- the length of a name. One that can't be read counts as the file does: a file with one is refused, and to look for its
--- end took no longer.
+-- the length of a name. One that can't be read counts as the file does: a file with one is refused,
+-- and to look for its end took no longer.
 abbrev pub name_bytes : List ℕ → Option (List ℕ) → ℕ
 name_bytes file None = length file
 name_bytes file (Some name) = length name
@@ -118,10 +178,12 @@ license_in (Some s) = length (readable_data s)
 unfoldable pub license_bytes : List ℕ → ℕ
 license_bytes file = license_in (first_section_named (codes "license") file)
 
--- the types and the strings of `.BTF`, whose lengths its header has (btf_header's type_len and str_len)
+-- the types and the strings of `.BTF`, whose lengths its header has (btf_header's type_len and
+-- str_len)
 abbrev pub types_in_bytes : Endianness → List ℕ → Option TypeInfo → ℕ
 types_in_bytes o bytes None = 0
-types_in_bytes o bytes (Some types) = if nat_lt (length bytes) 24 then 0 else word o bytes 12 + word o bytes 20
+types_in_bytes o bytes (Some types) =
+    if nat_lt (length bytes) 24 then 0 else word o bytes 12 + word o bytes 20
 
 -- the three parts of `.BTF.ext`
 abbrev pub part_bytes : Endianness → List ℕ → ℕ → ℕ
@@ -129,7 +191,8 @@ part_bytes o bytes at = if nat_lt (length bytes) (at + 8) then 0 else part_lengt
 
 abbrev pub ext_in_bytes : Endianness → List ℕ → Option ExtInfo → ℕ
 ext_in_bytes o bytes None = 0
-ext_in_bytes o bytes (Some ext) = part_bytes o bytes func_part + part_bytes o bytes line_part + part_bytes o bytes core_relo_part
+ext_in_bytes o bytes (Some ext) =
+    part_bytes o bytes func_part + part_bytes o bytes line_part + part_bytes o bytes core_relo_part
 
 -- both, where they can be read, and an entry for what externs add to the types
 unfoldable pub type_information_bytes : List ℕ → ℕ
@@ -165,7 +228,8 @@ facts_of ext s = record {
 abbrev pub record_bytes : ℕ → ℕ → ℕ
 record_bytes funcs lines = 8 * funcs + 16 * lines
 
--- a section of data is a map of its name with its data, `.bss` too; the records of a section of code are gathered
+-- a section of data is a map of its name with its data, `.bss` too; the records of a section of
+-- code are gathered
 abbrev pub contents_by : EbpfSectionKind → ℕ → SectionFacts → ℕ
 contents_by Data named f = named + f.size
 contents_by Rodata named f = named + f.size
@@ -175,19 +239,25 @@ contents_by Programs named f = record_bytes (length f.funcs) (length f.lines)
 contents_by _ named f = 0
 
 unfoldable pub contents_bytes : List ℕ → Option ExtInfo → SectionOf → ℕ
-contents_bytes file ext s = contents_by (facts_of ext s).kind (named_bytes file (section_name s)) (facts_of ext s)
+contents_bytes file ext s =
+    contents_by (facts_of ext s).kind (named_bytes file (section_name s)) (facts_of ext s)
 
 -- ---- symbols
 
--- how many func records a function has that begins at a slot: those at its slot, where the section's are in order
+-- how many func records a function has that begins at a slot: those at its slot, where the
+-- section's are in order
 abbrev pub func_count : SectionFacts → ℕ → ℕ
 func_count f first =
-    if rises_from slot_of_func 0 f.funcs then length (filter (is_func_at first) f.funcs) else length f.funcs
+    if rises_from slot_of_func 0 f.funcs
+    then length (filter (is_func_at first) f.funcs)
+    else length f.funcs
 
 -- how many line records a function of so many slots has
 abbrev pub line_count : SectionFacts → ℕ → ℕ → ℕ
 line_count f first count =
-    if rises_from slot_of_line 0 f.lines then length (filter (is_line_in first count) f.lines) else length f.lines
+    if rises_from slot_of_line 0 f.lines
+    then length (filter (is_line_in first count) f.lines)
+    else length f.lines
 
 -- where a symbol of an address stands in a section; a text section may begin again at address 0
 abbrev pub offset_by : EbpfSectionKind → ℕ → ℕ → ℕ
@@ -205,7 +275,10 @@ code_bytes f e = min f.size e.st_size
 -- a function: an entry by its name, its slots and its records
 unfoldable pub function_bytes : ℕ → SectionFacts → SymbolEntry → ℕ
 function_bytes named f e =
-    named + code_bytes f e + record_bytes (func_count f (first_slot f e)) (line_count f (first_slot f e) (slot_of e.st_size))
+    named
+    + code_bytes f e
+    + record_bytes (func_count f (first_slot f e))
+    (line_count f (first_slot f e) (slot_of e.st_size))
 
 -- what a symbol gives by its section: a function, and a program with the license; or a map
 abbrev pub placed_by : EbpfSectionKind → Bool → ℕ → ℕ → SectionFacts → SymbolEntry → ℕ
@@ -217,7 +290,8 @@ placed_by _ is_text license named f e = 0
 
 abbrev pub placed_in : Option SectionFacts → ℕ → ℕ → SymbolEntry → ℕ
 placed_in None license named e = 0
-placed_in (Some f) license named e = placed_by f.kind (is_text_symbol (symbol_kind e)) license named f e
+placed_in (Some f) license named e =
+    placed_by f.kind (is_text_symbol (symbol_kind e)) license named f e
 
 -- the facts of the section with an index, from 1 on
 abbrev pub facts_at : List SectionFacts → Option ℕ → Option SectionFacts
@@ -227,7 +301,9 @@ facts_at all (Some index) = slice_get all (index - 1)
 -- a symbol is an entry of the symbols, may name an extern, and gives what stands in its section
 unfoldable pub symbol_bytes : List ℕ → ℕ → List SectionFacts → SymbolOf → ℕ
 symbol_bytes file license all y =
-    2 * named_bytes file (symbol_name y) + placed_in (facts_at all (symbol_section_index (entry y))) license (named_bytes file (symbol_name y)) (entry y)
+    2 * named_bytes file (symbol_name y)
+    + placed_in (facts_at all (symbol_section_index (entry y))) license
+    (named_bytes file (symbol_name y)) (entry y)
 
 -- ---- relocations
 
@@ -237,7 +313,10 @@ relocated_kind (Some f) = is_kind_of_code f.kind
 
 -- an entry for each relocation of a section of code
 unfoldable pub relocation_bytes : List SectionFacts → SectionOf → ℕ
-relocation_bytes all r = if relocated_kind (facts_at all (Some (relocated_section r))) then entry_bytes * entry_count r else 0
+relocation_bytes all r =
+    if relocated_kind (facts_at all (Some (relocated_section r)))
+    then entry_bytes * entry_count r
+    else 0
 
 -- ---- the sum
 
@@ -253,7 +332,8 @@ made_bytes file =
     + (total (symbol_bytes file (license_bytes file) (all_facts file)) (symbols file)
     + total (relocation_bytes (all_facts file)) (relocation_sections file)))
 
--- ---- how many bytes an object owns: its texts, its lists and its data, and an entry of 64 bytes for each row of its tables
+-- ---- how many bytes an object owns: its texts, its lists and its data, and an entry of 64 bytes
+-- for each row of its tables
 
 -- ---- a row of a table, by its key
 
@@ -268,7 +348,10 @@ map_row e = named_row e + length (bytes_of e.1)
 
 abbrev pub function_row : FunctionKey × Function → ℕ
 function_row e =
-    entry_bytes + length e.1.name + 8 * length e.1.instructions + record_bytes (length e.1.func_info.func_info) (length e.1.line_info.line_info)
+    entry_bytes
+    + length e.1.name
+    + 8 * length e.1.instructions
+    + record_bytes (length e.1.func_info.func_info) (length e.1.line_info.line_info)
 
 abbrev pub symbol_row : ℕ × Symbol → ℕ
 symbol_row e = entry_bytes + length (unwrap_or e.1.name [])
@@ -297,10 +380,15 @@ owned_bytes o =
     + total relocations_row (entries o.relocations)
     + total named_row (entries o.section_infos)
 
--- the object of a file without a fault owns no more than what is made of the file; as each slice, the file has fewer than
+-- the object of a file without a fault owns no more than what is made of the file; as each slice,
+-- the file has fewer than
 -- 2 ^ 64 bytes
 abbrev pub ObjectsOwnWhatIsMade : Type 0
-ObjectsOwnWhatIsMade = (mode : ParseMode) (file : List ℕ) → length file < 2 ^ 64 → parse_fault_as mode file ≡ None → owned_bytes (object_as mode file) ≤ made_bytes file
+ObjectsOwnWhatIsMade =
+    (mode : ParseMode) (file : List ℕ)
+    → length file < 2 ^ 64
+    → parse_fault_as mode file ≡ None
+    → owned_bytes (object_as mode file) ≤ made_bytes file
 
 -- ---- what contracts of private functions name and no public one.
 

@@ -14,11 +14,13 @@ too_large_fault most file = if nat_lt most (made_bytes file) then Some (TooLarge
 
 -- the faults of the ELF file first, then the limit, then those of parsing
 unfoldable pub size_fault : ℕ → List ℕ → Option ParseError
-size_fault most file = or_else (option_map ElfError (first_in (faults file))) (too_large_fault most file)
+size_fault most file =
+    or_else (option_map ElfError (first_in (faults file))) (too_large_fault most file)
 
 abbrev pub within_fault : ParseMode → ℕ → List ℕ → Option ParseError
 within_fault mode most file = or_else (size_fault most file) (parse_fault_as mode file)
 
 -- parsing without a limit never answers that it is passed
 abbrev pub ParsingHasNoLimit : Type 0
-ParsingHasNoLimit = (mode : ParseMode) (file : List ℕ) (most : ℕ) → parse_fault_as mode file ≢ Some (TooLarge most)
+ParsingHasNoLimit =
+    (mode : ParseMode) (file : List ℕ) (most : ℕ) → parse_fault_as mode file ≢ Some (TooLarge most)

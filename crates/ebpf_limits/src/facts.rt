@@ -7,8 +7,8 @@ ghost use Rattle.ebpf_elf.specs.Sections.{header};
 ghost use Rattle.ebpf_elf.specs.Symbols.{entry, symbol_kind};
 ghost use Rattle.ebpf_sections.specs.Symbols.{is_text_symbol};
 
-use ebpf_elf::{ElfFile, ElfSection, ElfSymbol, SymbolKind};
 use ebpf_btf_ext::{BtfExt, bpf_func_info, bpf_line_info};
+use ebpf_elf::{ElfFile, ElfSection, ElfSymbol, SymbolKind};
 use ebpf_parts::EbpfSectionKind;
 use ebpf_parts::insn::bpf_insn;
 use ebpf_sections::info_records::{NamesSlot, is_in_order, lower_bound};
@@ -64,7 +64,14 @@ impl<'e> Model for Facts<'e> {
 
     ghost Value = { SectionFacts };
 
-    ghost view = { λ f. record { kind = f.kind; address = f.address; size = f.size; funcs = f.funcs.now; lines = f.lines.now } };
+    ghost view = { λ f.
+        record {
+          kind = f.kind;
+          address = f.address;
+          size = f.size;
+          funcs = f.funcs.now;
+          lines = f.lines.now;
+        } };
 }
 
 /// The offset in bytes of an address in a section of a kind.
@@ -147,7 +154,9 @@ impl<'e> Facts<'e> {
     /// The bytes of a symbol in the section, beside its own entry.
     pub fn placed_bytes(&self, license: usize, named: u128, symbol: &ElfSymbol<'_>) -> u128
         requires { named < 2 ^ 65 }
-        ensures exact { result ≡ placed_by self.now.kind (is_text_symbol (symbol_kind (entry symbol.now))) license named self.now (entry symbol.now) }
+        ensures exact { result
+            ≡ placed_by self.now.kind (is_text_symbol (symbol_kind (entry symbol.now))) license
+            named self.now (entry symbol.now) }
         ensures few { result < 2 ^ 90 }
     {
         let is_text = matches!(symbol.kind(), SymbolKind::Text);
@@ -181,7 +190,15 @@ pub fn contents_bytes(
     lines: &[bpf_line_info],
 ) -> u128
     requires { named < 2 ^ 65 }
-    ensures { result ≡ contents_by kind named (record { kind = kind; address = (header section.now).sh_addr; size = (header section.now).sh_size; funcs = funcs.now; lines = lines.now }) }
+    ensures { result
+        ≡ contents_by kind named
+        (record {
+          kind = kind;
+          address = (header section.now).sh_addr;
+          size = (header section.now).sh_size;
+          funcs = funcs.now;
+          lines = lines.now;
+        }) }
 {
     match kind {
         EbpfSectionKind::Data | EbpfSectionKind::Rodata | EbpfSectionKind::Bss => {

@@ -74,7 +74,8 @@ fn take_later(
     file: &ElfFile<'_>,
 ) -> Result<bool, AllocError>
     requires { file.now ≡ bytes.now }
-    ensures fits { IfOk result (λ fits. OnTrue fits (room.new.left + later_bytes file.now ≡ room.old.left)) }
+    ensures fits { IfOk result (λ fits.
+        OnTrue fits (room.new.left + later_bytes file.now ≡ room.old.left)) }
     ensures over { IfOk result (λ fits. OnFalse fits (room.old.left < later_bytes file.now)) }
 {
     let types = readable_types(alloc, file)?;
@@ -130,8 +131,11 @@ fn relocation_bytes(all: &[Facts<'_>], section: &ElfRelocationSection<'_>) -> u1
 
 /// Takes an entry for each relocation of a section of code.
 pub fn take_relocations(room: &mut Room, file: &ElfFile<'_>, all: &[Facts<'_>]) -> bool
-    ensures fits { OnTrue result (room.new.left + total (relocation_bytes all.now) (relocation_sections file.now) ≡ room.old.left) }
-    ensures over { OnFalse result (room.old.left < total (relocation_bytes all.now) (relocation_sections file.now)) }
+    ensures fits { OnTrue result
+        (room.new.left + total (relocation_bytes all.now) (relocation_sections file.now)
+        ≡ room.old.left) }
+    ensures over { OnFalse result
+        (room.old.left < total (relocation_bytes all.now) (relocation_sections file.now)) }
 {
     for section in file.relocation_sections() {
         if !room.take(relocation_bytes(all, &section)) {

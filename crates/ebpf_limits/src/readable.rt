@@ -9,8 +9,8 @@ ghost use Rattle.ebpf_limits.specs.OwnedBytes.{license_bytes, type_information_b
 use crate::symbols::ENTRY;
 use ebpf_base::numbers::read_u32;
 use ebpf_btf::{Btf, BtfError, Endianness};
-use ebpf_elf::{ElfFile, ElfSection};
 use ebpf_btf_ext::BtfExt;
+use ebpf_elf::{ElfFile, ElfSection};
 use std::alloc::{AllocError, Global};
 
 /// The data of a section; empty if it is outside the file.

@@ -30,7 +30,8 @@ fn placed_bytes(
     symbol: &ElfSymbol<'_>,
 ) -> u128
     requires { named < 2 ^ 65 }
-    ensures exact { result ≡ placed_in (option_copied facts.entry) license named (entry symbol.now) }
+    ensures exact { result
+        ≡ placed_in (option_copied facts.entry) license named (entry symbol.now) }
     ensures few { result < 2 ^ 90 }
 {
     match facts {
@@ -57,8 +58,11 @@ pub fn take_symbols(
     license: usize,
     all: &[Facts<'_>],
 ) -> bool
-    ensures fits { OnTrue result (room.new.left + total (symbol_bytes bytes.now license all.now) (symbols file.now) ≡ room.old.left) }
-    ensures over { OnFalse result (room.old.left < total (symbol_bytes bytes.now license all.now) (symbols file.now)) }
+    ensures fits { OnTrue result
+        (room.new.left + total (symbol_bytes bytes.now license all.now) (symbols file.now)
+        ≡ room.old.left) }
+    ensures over { OnFalse result
+        (room.old.left < total (symbol_bytes bytes.now license all.now) (symbols file.now)) }
 {
     for symbol in file.symbols() {
         if !room.take(symbol_bytes(bytes, license, all, &symbol)) {
@@ -103,8 +107,11 @@ fn entry_bytes(bytes: &[u8], section: &ElfSection<'_>) -> u128
 
 /// Takes the sections' entries by their names. No name is read behind the one that passes the limit.
 pub fn take_names(room: &mut Room, bytes: &[u8], file: &ElfFile<'_>) -> bool
-    ensures fits { OnTrue result (room.new.left + total (section_entry_bytes bytes.now) (sections file.now) ≡ room.old.left) }
-    ensures over { OnFalse result (room.old.left < total (section_entry_bytes bytes.now) (sections file.now)) }
+    ensures fits { OnTrue result
+        (room.new.left + total (section_entry_bytes bytes.now) (sections file.now)
+        ≡ room.old.left) }
+    ensures over { OnFalse result
+        (room.old.left < total (section_entry_bytes bytes.now) (sections file.now)) }
 {
     for section in file.sections() {
         if !room.take(entry_bytes(bytes, &section)) {
@@ -122,7 +129,8 @@ fn take_section<'e>(
     records: &FoundRecords<'e>,
     section: &ElfSection<'_>,
 ) -> Option<Facts<'e>>
-    ensures taken { Took result room.old.left room.new.left (contents_bytes bytes.now records.now section.now) }
+    ensures taken { Took result room.old.left room.new.left
+        (contents_bytes bytes.now records.now section.now) }
     ensures facts { IfSome result (λ facts. facts ≡ facts_of records.now section.now) }
 {
     let name = name_or_empty(section);
@@ -144,8 +152,11 @@ pub fn take_sections<'e>(
     file: &ElfFile<'_>,
     records: &FoundRecords<'e>,
 ) -> Result<Option<Vec<Facts<'e>>>, AllocError>
-    ensures taken { IfOk result (λ all. Took all room.old.left room.new.left (total (contents_bytes bytes.now records.now) (sections file.now))) }
-    ensures facts { IfOk result (λ all. IfSome all (λ facts. facts.items ≡ map (facts_of records.now) (sections file.now))) }
+    ensures taken { IfOk result (λ all.
+        Took all room.old.left room.new.left
+        (total (contents_bytes bytes.now records.now) (sections file.now))) }
+    ensures facts { IfOk result (λ all.
+        IfSome all (λ facts. facts.items ≡ map (facts_of records.now) (sections file.now))) }
 {
     let mut all = Vec::new(alloc);
     for section in file.sections() {

@@ -1,8 +1,44 @@
 -- Functions by their keys, what their slots refer to and do, and what a linked program is.
-use Rattle.std.specs.Prelude.{ℕ, ◌/◌, ◌%◌, ℤ, pos, negsuc, Bool, ◌&&◌, ◌||◌, not, ◌==◌, if◌then◌else◌, List, Option, None, slice_get, ◌≡◌, ◌+◌, ◌-ℤ◌, ◌⊎◌, [], ◌∷◌, length, Some}
+use Rattle.std.specs.Prelude.{
+  ℕ,
+  ◌/◌,
+  ◌%◌,
+  ℤ,
+  pos,
+  negsuc,
+  Bool,
+  ◌&&◌,
+  ◌||◌,
+  not,
+  ◌==◌,
+  if◌then◌else◌,
+  List,
+  Option,
+  None,
+  slice_get,
+  ◌≡◌,
+  ◌+◌,
+  ◌-ℤ◌,
+  ◌⊎◌,
+  [],
+  ◌∷◌,
+  length,
+  Some,
+}
 use Rattle.ebpf_btf_ext.specs.declared.ext_infos.bpf_func_info.{bpf_func_info}
 use Rattle.ebpf_btf_ext.specs.declared.ext_infos.bpf_line_info.{bpf_line_info}
-use Rattle.ebpf_parts.specs.Slots.{class_jmp, class_jmp32, exit, ld_imm64, ja, ja32, pseudo_func, dst_of, registers, is_pseudo_call}
+use Rattle.ebpf_parts.specs.Slots.{
+  class_jmp,
+  class_jmp32,
+  exit,
+  ld_imm64,
+  ja,
+  ja32,
+  pseudo_func,
+  dst_of,
+  registers,
+  is_pseudo_call,
+}
 use Rattle.ebpf_parts.specs.declared.insn.bpf_insn.{bpf_insn}
 
 -- ---- what a slot does to the flow of control (RFC 9669, sections 4.3 and 5.4)
@@ -16,10 +52,12 @@ pub data Flow : Type 0 where
   Branch : (by : ℤ) → Flow
   Next : Flow
 
--- a jump that a condition decides: class 5 or 6, the operation none of 0 (always), 8 (call) and 9 (exit)
+-- a jump that a condition decides: class 5 or 6, the operation none of 0 (always), 8 (call) and 9
+-- (exit)
 abbrev pub is_branch : ℕ → Bool
 is_branch code =
-    ((code % 8 == class_jmp) || (code % 8 == class_jmp32)) && (not (code / 16 == 0) && (not (code / 16 == 8) && not (code / 16 == 9)))
+    ((code % 8 == class_jmp) || (code % 8 == class_jmp32))
+    && (not (code / 16 == 0) && (not (code / 16 == 8) && not (code / 16 == 9)))
 
 unfoldable pub flow : bpf_insn → Flow
 flow slot =
@@ -37,7 +75,11 @@ slot_at_integer slots (negsuc n) = None
 
 -- a slot that names this distance to what it refers to
 abbrev pub relinked : bpf_insn → ℤ → bpf_insn
-relinked slot d = record slot { imm = d; regs = (if is_pseudo_call slot then slot.regs else registers pseudo_func (dst_of slot)) }
+relinked slot d =
+    record slot {
+      imm = d;
+      regs = (if is_pseudo_call slot then slot.regs else registers pseudo_func (dst_of slot));
+    }
 
 -- ---- functions by their keys, what their slots refer to, and what a linked program is
 
@@ -57,8 +99,8 @@ pub record FunctionContent : Type 0 where
   pub func_info : List bpf_func_info
   pub line_info : List bpf_line_info
 
--- Functions: what stands at each key that is one, what slot i of the function at a key refers to, and the names of
--- what may be wrong with the function at a key.
+-- Functions: what stands at each key that is one, what slot i of the function at a key refers to,
+-- and the names of what may be wrong with the function at a key.
 pub record Functions (K E : Type 0) : Type 0 where
   pub content : K → Option FunctionContent
   pub reference : References K E
@@ -100,7 +142,12 @@ module _ {K E : Type 0} where
   Walk R from (x ∷ path) [] = ⊥
 
   abbrev pub Reached : References K E → K → K → Type 0
-  Reached R p k = (x : ℕ) × (path : List ℕ) × (keys : List K) × Walk R p (x ∷ path) keys × (last_key_or p keys ≡ k)
+  Reached R p k =
+      (x : ℕ)
+      × (path : List ℕ)
+      × (keys : List K)
+      × Walk R p (x ∷ path) keys
+      × (last_key_or p keys ≡ k)
 
   -- how many slots these functions have
   abbrev pub total : Functions K E → List K → ℕ
@@ -110,15 +157,24 @@ module _ {K E : Type 0} where
   -- one after the other, one of these functions is k and begins at b
   abbrev pub BeginsAt : Functions K E → List K → K → ℕ → Type 0
   BeginsAt F [] k b = ⊥
-  BeginsAt F (m ∷ ks) k b = ((m ≡ k) × (b ≡ 0)) ⊎ ((c : ℕ) × (b ≡ length (body F m) + c) × BeginsAt F ks k c)
+  BeginsAt F (m ∷ ks) k b =
+      ((m ≡ k) × (b ≡ 0)) ⊎ ((c : ℕ) × (b ≡ length (body F m) + c) × BeginsAt F ks k c)
 
 -- a slot s, at this place of the linked program of p and the functions ks, has become t
-abbrev pub Becomes : {K E : Type 0} → Functions K E → K → List K → ℕ → SlotReference K E → bpf_insn → bpf_insn → Type 0
+abbrev pub Becomes : {K E : Type 0} → Functions K E → K → List K → ℕ → SlotReference K E
+    → bpf_insn → bpf_insn → Type 0
 Becomes F p ks place Nothing s t = t ≡ s
 Becomes F p ks place (Faulty e) s t = ⊥
-Becomes F p ks place (Names k) s t = (c : ℕ) × BeginsAt F ks k c × (t ≡ relinked s (pos (length (body F p) + c) -ℤ pos (place + 1)))
+Becomes F p ks place (Names k) s t =
+    (c : ℕ) × BeginsAt F ks k c × (t ≡ relinked s (pos (length (body F p) + c) -ℤ pos (place + 1)))
 
 -- out is p and then each of the functions ks, with what their slots have become
-pub record Linked {K E : Type 0} (F : Functions K E) (p : K) (ks : List K) (out : List bpf_insn) : Type 0 where
+pub record Linked {K E : Type 0} (F : Functions K E) (p : K) (ks : List K) (out : List bpf_insn)
+    : Type 0 where
   pub size : length out ≡ total F (p ∷ ks)
-  pub slots : (k : K) (b i : ℕ) (s : bpf_insn) → BeginsAt F (p ∷ ks) k b → slice_get (body F k) i ≡ Some s → (t : bpf_insn) × (slice_get out (b + i) ≡ Some t) × Becomes F p ks (b + i) (F.reference k i) s t
+  pub slots : (k : K) (b i : ℕ) (s : bpf_insn)
+      → BeginsAt F (p ∷ ks) k b
+      → slice_get (body F k) i ≡ Some s
+      → (t : bpf_insn)
+      × (slice_get out (b + i) ≡ Some t)
+      × Becomes F p ks (b + i) (F.reference k i) s t

@@ -1,5 +1,19 @@
 -- What a linked program is made of: the copies of functions, and the references between them.
-use Rattle.std.specs.Prelude.{◌≡◌, ℕ, ◌+◌, ◌≤◌, List, [], ◌∷◌, length, map, Some, slice_get, pos, ◌-ℤ◌}
+use Rattle.std.specs.Prelude.{
+  ◌≡◌,
+  ℕ,
+  ◌+◌,
+  ◌≤◌,
+  List,
+  [],
+  ◌∷◌,
+  length,
+  map,
+  Some,
+  slice_get,
+  pos,
+  ◌-ℤ◌,
+}
 use Rattle.ebpf_linker.specs.Functions.{Names, Functions, body, Among, BeginsAt}
 use Rattle.ebpf_linker.specs.Result.{IsLayout}
 use Rattle.ebpf_linker.specs.declared.link_map.NumberedCopy.{NumberedCopy}
@@ -23,11 +37,14 @@ module _ {K E : Type 0} where
   -- copies of these functions, one after the other, the first at a base
   abbrev pub copies_from : Functions K E → ℕ → List K → List (CopyOf K)
   copies_from F base [] = []
-  copies_from F base (k ∷ ks) = record { key = k; base = base; slots = length (body F k) } ∷ copies_from F (base + length (body F k)) ks
+  copies_from F base (k ∷ ks) =
+      record { key = k; base = base; slots = length (body F k) }
+      ∷ copies_from F (base + length (body F k)) ks
 
-  -- r is a reference of p, linked with the functions ks: slot i of the copy of k that begins at b is s and refers to
-  -- m, whose copy among those of ks begins c slots after the end of p
-  pub record IsReference (F : Functions K E) (p : K) (ks : List K) (r : PlacedReference) : Type 0 where
+  -- r is a reference of p, linked with the functions ks: slot i of the copy of k that begins at b
+  -- is s and refers to m, whose copy among those of ks begins c slots after the end of p
+  pub record IsReference (F : Functions K E) (p : K) (ks : List K) (r : PlacedReference)
+      : Type 0 where
     pub k : K
     pub b : ℕ
     pub begins : BeginsAt F (p ∷ ks) k b
@@ -43,14 +60,17 @@ module _ {K E : Type 0} where
     pub is_call : r.is_call ≡ is_pseudo_call s
 
   -- these are the references of p, linked with the functions ks, in the order of their places
-  pub record AreReferences (F : Functions K E) (p : K) (ks : List K) (rs : List PlacedReference) : Type 0 where
+  pub record AreReferences (F : Functions K E) (p : K) (ks : List K) (rs : List PlacedReference)
+      : Type 0 where
     pub sound : (r : PlacedReference) → Among rs r → IsReference F p ks r
     pub complete : (r : PlacedReference) → IsReference F p ks r → Among rs r
     pub rises : PlacesRise 0 rs
 
-  -- p and each function ks that its references reach, in the order of their key paths, have these copies and these
-  -- references
-  pub record IsLinkMap (F : Functions K E) (p : K) (ks : List K) (cs : List (CopyOf K)) (rs : List PlacedReference) : Type 0 where
+  -- p and each function ks that its references reach, in the order of their key paths, have these
+  -- copies and these references
+  pub record IsLinkMap (F : Functions K E) (p : K) (ks : List K) (cs : List (CopyOf K))
+      (rs : List PlacedReference)
+      : Type 0 where
     pub layout : IsLayout F p ks
     pub copies : cs ≡ copies_from F 0 (p ∷ ks)
     pub references : AreReferences F p ks rs
@@ -61,7 +81,11 @@ numbered_copy c = record { function = c.key; base = c.base; slots = c.slots }
 
 -- the link map of the program p, of functions by their numbers
 abbrev pub IsNumberedLinkMap : {E : Type 0} → Functions ℕ E → ℕ → NumberedLinkMap → Type 0
-IsNumberedLinkMap F p m = (ks : List ℕ) × (cs : List (CopyOf ℕ)) × IsLinkMap F p ks cs m.references × (m.copies ≡ map numbered_copy cs)
+IsNumberedLinkMap F p m =
+    (ks : List ℕ)
+    × (cs : List (CopyOf ℕ))
+    × IsLinkMap F p ks cs m.references
+    × (m.copies ≡ map numbered_copy cs)
 
 -- ---- what follows of a linked program and of what it is made of
 
@@ -70,9 +94,12 @@ abbrev pub copied_slot_count : {K : Type 0} → List (CopyOf K) → ℕ
 copied_slot_count [] = 0
 copied_slot_count (c ∷ cs) = c.slots + copied_slot_count cs
 
--- A reference of a linked program with these slots and copies: it stands in one of the copies, on a slot that refers
--- to a function; the slot names the distance from the slot after it to the base of a copy of that function.
-pub record Lands {K E : Type 0} (F : Functions K E) (copies : List (CopyOf K)) (slots : List bpf_insn) (r : PlacedReference) : Type 0 where
+-- A reference of a linked program with these slots and copies: it stands in one of the copies, on a
+-- slot that refers to a function; the slot names the distance from the slot after it to the base of
+-- a copy of that function.
+pub record Lands {K E : Type 0} (F : Functions K E) (copies : List (CopyOf K))
+    (slots : List bpf_insn) (r : PlacedReference)
+    : Type 0 where
   pub from : CopyOf K
   pub listed : Among copies from
   pub i : ℕ

@@ -1,10 +1,53 @@
 -- The flow of control of the separate functions and of the linked program.
-use Rattle.std.specs.Prelude.{◌≡◌, ◌≢◌, ℕ, zero, suc, ◌-◌, ℤ, pos, negsuc, ◌+ℤ◌, Bool, true, nat_lt, if◌then◌else◌, ◌⊎◌, List, [], ◌∷◌, map, length, Option, Some, None, slice_get}
+use Rattle.std.specs.Prelude.{
+  ◌≡◌,
+  ◌≢◌,
+  ℕ,
+  zero,
+  suc,
+  ◌-◌,
+  ℤ,
+  pos,
+  negsuc,
+  ◌+ℤ◌,
+  Bool,
+  true,
+  nat_lt,
+  if◌then◌else◌,
+  ◌⊎◌,
+  List,
+  [],
+  ◌∷◌,
+  map,
+  length,
+  Option,
+  Some,
+  None,
+  slice_get,
+}
 use Rattle.ebpf_parts.specs.declared.insn.bpf_insn.{bpf_insn}
 use Rattle.ebpf_parts.specs.Slots.{ld_imm64, is_pseudo_call}
-use Rattle.ebpf_linker.specs.Functions.{Flow, Return, PseudoCall, WideLoad, Jump, Branch, Next, flow, slot_at_integer, SlotReference, Nothing, Faulty, Names, Functions, body, Among}
+use Rattle.ebpf_linker.specs.Functions.{
+  Flow,
+  Return,
+  PseudoCall,
+  WideLoad,
+  Jump,
+  Branch,
+  Next,
+  flow,
+  slot_at_integer,
+  SlotReference,
+  Nothing,
+  Faulty,
+  Names,
+  Functions,
+  body,
+  Among,
+}
 
--- code over places of some kind: the slot at a place, the place so many slots further, and where a call goes
+-- code over places of some kind: the slot at a place, the place so many slots further, and where a
+-- call goes
 pub record Code (P : Type 0) : Type 0 where
   pub fetch : P → Option bpf_insn
   pub moved : P → ℤ → P
@@ -42,7 +85,8 @@ module _ {P : Type 0} where
 
   abbrev pub decides : P → P → List P → List Bool → StepResult P
   decides there here stack [] = Waits
-  decides there here stack (d ∷ ds) = Goes (record { place = (if d then there else here); stack = stack; decisions = ds })
+  decides there here stack (d ∷ ds) =
+      Goes (record { place = (if d then there else here); stack = stack; decisions = ds })
 
   -- one step at a slot
   abbrev pub follow : Code P → State P → bpf_insn → Flow → StepResult P
@@ -50,7 +94,8 @@ module _ {P : Type 0} where
   follow c s i PseudoCall = enters (c.moved s.place (pos 1)) s.stack s.decisions (c.entry s.place i)
   follow c s i WideLoad = Goes (record s { place = c.moved s.place (pos 2) })
   follow c s i (Jump d) = Goes (record s { place = c.moved (c.moved s.place (pos 1)) d })
-  follow c s i (Branch d) = decides (c.moved (c.moved s.place (pos 1)) d) (c.moved s.place (pos 1)) s.stack s.decisions
+  follow c s i (Branch d) =
+      decides (c.moved (c.moved s.place (pos 1)) d) (c.moved s.place (pos 1)) s.stack s.decisions
   follow c s i Next = Goes (record s { place = c.moved s.place (pos 1) })
 
   abbrev pub step_at : Code P → State P → Option bpf_insn → StepResult P
@@ -98,7 +143,10 @@ module _ {K E : Type 0} where
   -- the name of a place in these functions, one after the other
   abbrev pub name_from : Functions K E → List K → ℕ → Option (K × ℤ)
   name_from F [] x = None
-  name_from F (k ∷ ks) x = if nat_lt x (length (body F k)) then Some (k, pos x) else name_from F ks (x - length (body F k))
+  name_from F (k ∷ ks) x =
+      if nat_lt x (length (body F k))
+      then Some (k, pos x)
+      else name_from F ks (x - length (body F k))
 
   abbrev pub name : Functions K E → List K → ℤ → Option (K × ℤ)
   name F ks (pos x) = name_from F ks x
@@ -118,9 +166,16 @@ module _ {K E : Type 0} where
   SameVisits F p ks out =
       (ds : List Bool) (n : ℕ)
       → (run_steps (separate F) n (begin (p, pos 0) ds)).stop ≢ Left
-      → (map (name F (p ∷ ks)) (run_steps (flat_code out) n (begin (pos 0) ds)).visited ≡ map Some (run_steps (separate F) n (begin (p, pos 0) ds)).visited)
-      × ((run_steps (flat_code out) n (begin (pos 0) ds)).stop ≡ (run_steps (separate F) n (begin (p, pos 0) ds)).stop)
+      → (map (name F (p ∷ ks)) (run_steps (flat_code out) n (begin (pos 0) ds)).visited
+      ≡ map Some (run_steps (separate F) n (begin (p, pos 0) ds)).visited)
+      × ((run_steps (flat_code out) n (begin (pos 0) ds)).stop
+      ≡ (run_steps (separate F) n (begin (p, pos 0) ds)).stop)
 
   -- each reference of these functions stands on a pseudo call or a wide load
   abbrev pub OnCallsOrLoads : Functions K E → List K → Type 0
-  OnCallsOrLoads F ks = (k : K) (i : ℕ) (s : bpf_insn) → Among ks k → slice_get (body F k) i ≡ Some s → F.reference k i ≢ Nothing → (is_pseudo_call s ≡ true) ⊎ (s.code ≡ ld_imm64)
+  OnCallsOrLoads F ks =
+      (k : K) (i : ℕ) (s : bpf_insn)
+      → Among ks k
+      → slice_get (body F k) i ≡ Some s
+      → F.reference k i ≢ Nothing
+      → (is_pseudo_call s ≡ true) ⊎ (s.code ≡ ld_imm64)

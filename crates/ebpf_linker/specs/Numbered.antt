@@ -1,14 +1,41 @@
 -- Functions by their numbers.
-use Rattle.std.specs.Prelude.{ℕ, ◌+◌, ◌<◌, ◌≤◌, ◌==◌, if◌then◌else◌, List, [], ◌∷◌, Option, Some, None, slice_get, Vec, All}
+use Rattle.std.specs.Prelude.{
+  ℕ,
+  ◌+◌,
+  ◌<◌,
+  ◌≤◌,
+  ◌==◌,
+  if◌then◌else◌,
+  List,
+  [],
+  ◌∷◌,
+  Option,
+  Some,
+  None,
+  slice_get,
+  Vec,
+  All,
+}
 use Rattle.std.specs.Coded.{×_prop, Unit-prop, le_prop}
 use Rattle.std.specs.declared.alloc.Global.{Global}
 use Rattle.ebpf_linker.specs.declared.body.Body.{Body}
 use Rattle.ebpf_linker.specs.declared.reference.Fault.{Fault}
-use Rattle.ebpf_linker.specs.declared.reference.Fault.TheVariants.{FunctionInfoMismatch, ProgramTooLong, InvalidLineInfo}
+use Rattle.ebpf_linker.specs.declared.reference.Fault.TheVariants.{
+  FunctionInfoMismatch,
+  ProgramTooLong,
+  InvalidLineInfo,
+}
 use Rattle.ebpf_linker.specs.declared.reference.Target.{Target}
 use Rattle.ebpf_linker.specs.declared.reference.Target.TheVariants.{Function, Nowhere}
 use Rattle.ebpf_linker.specs.declared.reference.Reference.{Reference}
-use Rattle.ebpf_linker.specs.Functions.{SlotReference, Nothing, Faulty, Names, FunctionContent, Functions}
+use Rattle.ebpf_linker.specs.Functions.{
+  SlotReference,
+  Nothing,
+  Faulty,
+  Names,
+  FunctionContent,
+  Functions,
+}
 
 abbrev pub of_target : Target → SlotReference ℕ Fault
 of_target (Function k) = Names k
@@ -28,7 +55,8 @@ abbrev pub calls_at : List (Vec Reference Global) → ℕ → List Reference
 calls_at C k = calls_or_empty (slice_get C k)
 
 abbrev pub body_content : Body → FunctionContent
-body_content b = record { slots = b.slots.now; func_info = b.func_info.now; line_info = b.line_info.now }
+body_content b =
+    record { slots = b.slots.now; func_info = b.func_info.now; line_info = b.line_info.now }
 
 abbrev pub option_content : Option Body → Option FunctionContent
 option_content None = None

@@ -1,4 +1,5 @@
--- The order of the linked functions: the depth-first pre-order by slot, also called the order of key paths.
+-- The order of the linked functions: the depth-first pre-order by slot, also called the order of
+-- key paths.
 use Rattle.std.specs.Prelude.{◌≡◌, ◌≢◌, ℕ, ◌<◌, ◌⊎◌, List, [], ◌∷◌, Some, slice_get}
 use Rattle.ebpf_linker.specs.Functions.{Faulty, References, Among, Distinct, Walk, last_key_or}
 
@@ -20,16 +21,19 @@ module _ {K E : Type 0} where
     pub simple : Simple R p path keys
     pub ends : last_key_or p keys ≡ k
     pub some : path ≢ []
-    pub least : (other : List ℕ) (others : List K) → Simple R p other others → other ≢ [] → last_key_or p others ≡ k → Before other path → ⊥
+    pub least : (other : List ℕ) (others : List K) → Simple R p other others → other ≢ []
+        → last_key_or p others ≡ k → Before other path → ⊥
 
   -- each one has a key path, and the key path of an earlier one stands before that of a later one
   abbrev pub InKeyPathOrder : References K E → K → List K → Type 0
   InKeyPathOrder R p ks =
       ((k : K) → Among ks k → (path : List ℕ) × KeyPath R p k path)
-      × ((i j : ℕ) (k m : K) (x y : List ℕ) → i < j → slice_get ks i ≡ Some k → slice_get ks j ≡ Some m → KeyPath R p k x → KeyPath R p m y → Before x y)
+      × ((i j : ℕ) (k m : K) (x y : List ℕ) → i < j → slice_get ks i ≡ Some k
+      → slice_get ks j ≡ Some m → KeyPath R p k x → KeyPath R p m y → Before x y)
 
   -- slot x of the function that this simple walk leads to refers to what can't be had
-  pub record HasReferenceFault (R : References K E) (p : K) (path : List ℕ) (x : ℕ) (e : E) : Type 0 where
+  pub record HasReferenceFault (R : References K E) (p : K) (path : List ℕ) (x : ℕ) (e : E)
+      : Type 0 where
     pub keys : List K
     pub simple : Simple R p path keys
     pub fault : R (last_key_or p keys) x ≡ Faulty e

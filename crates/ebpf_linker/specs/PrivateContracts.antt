@@ -1,5 +1,18 @@
 -- What private contracts and proofs name and no public contract.
-use Rattle.std.specs.Prelude.{ℕ, Bool, true, nat_lt, ◌&&◌, List, [], ◌∷◌, Option, Some, None, slice_get}
+use Rattle.std.specs.Prelude.{
+  ℕ,
+  Bool,
+  true,
+  nat_lt,
+  ◌&&◌,
+  List,
+  [],
+  ◌∷◌,
+  Option,
+  Some,
+  None,
+  slice_get,
+}
 use Rattle.ebpf_linker.specs.declared.body.Body.{Body}
 use Rattle.ebpf_linker.specs.declared.reference.Target.{Target}
 use Rattle.ebpf_linker.specs.declared.reference.Target.TheVariants.{Function, Nowhere}
@@ -23,7 +36,8 @@ is_above (Some before) slot = nat_lt before slot
 -- whether the slots of references are above the one before, and each leads to one of n functions
 abbrev pub is_list_sound : ℕ → Option ℕ → List Reference → Bool
 is_list_sound n before [] = true
-is_list_sound n before (c ∷ cs) = (is_above before c.slot && is_within n c.target) && is_list_sound n (Some c.slot) cs
+is_list_sound n before (c ∷ cs) =
+    (is_above before c.slot && is_within n c.target) && is_list_sound n (Some c.slot) cs
 
 -- a copy by another name of its function
 abbrev pub key_copy : {M K : Type 0} → (M → K) → CopyOf M → CopyOf K

@@ -19,7 +19,10 @@ pub fn copy_bases(
 ) -> Result<Vec<usize>, AllocError>
     requires functions { All (λ k. k < length bodies.now) functions.now }
     requires fit { Fit bodies.now first functions.now }
-    ensures copy_bases { IfOk result (λ v. (before : List ℕ) × (length before ≡ length bodies.now) × (v.items ≡ with_bases bodies.now first before functions.now)) }
+    ensures copy_bases { IfOk result (λ v.
+        (before : List ℕ)
+        × (length before ≡ length bodies.now)
+        × (v.items ≡ with_bases bodies.now first before functions.now)) }
     ensures below { IfOk result (λ v. All (λ b. b < 2 ^ 31) v.items) }
 {
     let mut bases = tables.take_bases(alloc, bodies.len())?;

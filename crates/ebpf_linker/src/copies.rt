@@ -35,7 +35,10 @@ fn append(
     requires within { All (λ call. IsWithin (length bases.now) call.target) calls.now }
     requires short { 0 < length calls.now → length out.old.items + length body.now ≤ 2147483647 }
     requires bases { All (λ base. base < 2 ^ 31) bases.now }
-    ensures { OnOk result (out.new.items ≡ out.old.items ++ copied_slots bases.now calls.now (length out.old.items) 0 body.now) }
+    ensures { OnOk result
+        (out.new.items
+        ≡ out.old.items
+        ++ copied_slots bases.now calls.now (length out.old.items) 0 body.now) }
 {
     let mut next = 0;
     for (i, slot) in body.iter().enumerate() {
@@ -62,9 +65,15 @@ pub fn write_copies(
 ) -> Result<Vec<bpf_insn>, AllocError>
     requires bases { length bases.now ≡ length functions.now.bodies.now }
     requires order { All (λ k. k < length functions.now.bodies.now) order.now }
-    requires short { (k : ℕ) → 0 < length (calls_at functions.now.references.now k) → Among order.now k → bodies_slot_count functions.now.bodies.now order.now ≤ 2147483647 }
+    requires short { (k : ℕ)
+        → 0 < length (calls_at functions.now.references.now k)
+        → Among order.now k
+        → bodies_slot_count functions.now.bodies.now order.now ≤ 2147483647 }
     requires below { All (λ b. b < 2 ^ 31) bases.now }
-    ensures { IfOk result (λ out. out.items ≡ linked_copies functions.now.bodies.now functions.now.references.now bases.now 0 order.now) }
+    ensures { IfOk result (λ out.
+        out.items
+        ≡ linked_copies functions.now.bodies.now functions.now.references.now bases.now 0
+        order.now) }
 {
     let mut out = Vec::with_capacity(alloc, size)?;
     for function in order {

@@ -33,7 +33,8 @@ impl Functions<'_> {
         start: usize,
     ) -> Result<Result<ProgramLayout, Fault>, AllocError>
         requires { start < length self.now.bodies.now }
-        ensures { IfOk result (λ answer. IsLayoutAnswer self.now.bodies.now self.now.references.now start answer) }
+        ensures { IfOk result (λ answer.
+            IsLayoutAnswer self.now.bodies.now self.now.references.now start answer) }
     {
         match search(alloc, self, start)? {
             Ok(order) => Ok(Ok(ProgramLayout { start, order })),

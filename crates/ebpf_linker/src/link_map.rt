@@ -56,7 +56,10 @@ fn copies_of(
     requires start { start < length bodies.now }
     requires reached { All (λ k. k < length bodies.now) reached.now }
     requires fit { Fit bodies.now (length (body_at bodies.now start)) reached.now }
-    ensures { IfOk result (λ copies. copies.items ≡ map numbered_copy (copies_from (functions_by_number bodies.now []) 0 (start ∷ reached.now))) }
+    ensures { IfOk result (λ copies.
+        copies.items
+        ≡ map numbered_copy
+        (copies_from (functions_by_number bodies.now []) 0 (start ∷ reached.now))) }
 {
     let mut copies = Vec::new(alloc);
     let mut end = bodies[start].slots.len();
@@ -110,7 +113,9 @@ fn add_references(
 ) -> Result<(), AllocError>
     requires within { All (λ call. IsWithin (length bases.now) call.target) calls.now }
     requires room { base ≤ 2147483647 }
-    ensures { OnOk result (references.new.items ≡ references.old.items ++ references_of_copy bases.now base body.now calls.now) }
+    ensures { OnOk result
+        (references.new.items
+        ≡ references.old.items ++ references_of_copy bases.now base body.now calls.now) }
 {
     for call in calls {
         let Some(reference) = reference_at(body, *call, bases, base) else {
@@ -133,8 +138,12 @@ fn references_of(
     requires bases { length bases.now ≡ length functions.now.bodies.now }
     requires start { start < length functions.now.bodies.now }
     requires reached { All (λ k. k < length functions.now.bodies.now) reached.now }
-    requires fit { Fit functions.now.bodies.now (length (body_at functions.now.bodies.now start)) reached.now }
-    ensures { IfOk result (λ references. references.items ≡ references_of_copies functions.now.bodies.now functions.now.references.now bases.now 0 (start ∷ reached.now)) }
+    requires fit { Fit functions.now.bodies.now (length (body_at functions.now.bodies.now start))
+        reached.now }
+    ensures { IfOk result (λ references.
+        references.items
+        ≡ references_of_copies functions.now.bodies.now functions.now.references.now bases.now 0
+        (start ∷ reached.now)) }
 {
     let mut references = Vec::new(alloc);
     add_references(
@@ -162,7 +171,10 @@ fn link_map_of(
     reached: &[usize],
 ) -> Result<NumberedLinkMap, AllocError>
     requires { IsReady functions.now.bodies.now functions.now.references.now start reached.now }
-    ensures { IfOk result (λ m. IsNumberedLinkMap (functions_by_number functions.now.bodies.now functions.now.references.now) start m) }
+    ensures { IfOk result (λ m.
+        IsNumberedLinkMap
+        (functions_by_number functions.now.bodies.now functions.now.references.now) start
+        m) }
 {
     let bodies = functions.bodies;
     let bases = copy_bases(
@@ -190,7 +202,9 @@ impl Functions<'_> {
         layout: &ProgramLayout,
     ) -> Result<NumberedLinkMap, AllocError>
         requires { IsLaidOut self.now.bodies.now self.now.references.now layout.now }
-        ensures { IfOk result (λ m. IsNumberedLinkMap (functions_by_number self.now.bodies.now self.now.references.now) layout.now.start m) }
+        ensures { IfOk result (λ m.
+            IsNumberedLinkMap (functions_by_number self.now.bodies.now self.now.references.now)
+            layout.now.start m) }
     {
         let reached = &layout.order[1..];
         link_map_of(alloc, self, layout.start, reached)

@@ -34,9 +34,12 @@ fn assemble(
     order: &[usize],
     copies: &[usize],
 ) -> Result<LinkedProgram, AllocError>
-    requires ready { IsReady functions.now.bodies.now functions.now.references.now start copies.now }
+    requires ready { IsReady functions.now.bodies.now functions.now.references.now start
+        copies.now }
     requires order { order.now ≡ start ∷ copies.now }
-    ensures { IfOk result (λ program. IsProgram (functions_by_number functions.now.bodies.now functions.now.references.now) start copies.now program) }
+    ensures { IfOk result (λ program.
+        IsProgram (functions_by_number functions.now.bodies.now functions.now.references.now)
+        start copies.now program) }
 {
     let bodies = functions.bodies;
     let bases = copy_bases(
@@ -70,7 +73,10 @@ impl Functions<'_> {
     /// becomes 4 if the slot is no call.
     pub fn link(&self, alloc: Global, layout: &ProgramLayout) -> Result<LinkedProgram, AllocError>
         requires { IsLaidOut self.now.bodies.now self.now.references.now layout.now }
-        ensures { IfOk result (λ program. (ks : List ℕ) × IsProgram (functions_by_number self.now.bodies.now self.now.references.now) layout.now.start ks program) }
+        ensures { IfOk result (λ program.
+            (ks : List ℕ)
+            × IsProgram (functions_by_number self.now.bodies.now self.now.references.now)
+            layout.now.start ks program) }
     {
         let order = layout.order.as_slice();
         assemble(alloc, self, layout.start, order, &order[1..])

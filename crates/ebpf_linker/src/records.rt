@@ -47,7 +47,9 @@ fn append_line_info(
     base: u32,
 ) -> Result<(), AllocError>
     requires { has_stray base lines.now ≡ false }
-    ensures { OnOk result (out.new.items ≡ out.old.items ++ map (line_moved (first_line lines.now) base) lines.now) }
+    ensures { OnOk result
+        (out.new.items
+        ≡ out.old.items ++ map (line_moved (first_line lines.now) base) lines.now) }
 {
     let Some(line) = lines.first() else {
         return Ok(());
@@ -70,7 +72,8 @@ pub fn func_records(
     requires start { start < length bodies.now }
     requires copies { All (λ k. k < length bodies.now) copies.now }
     requires fit { Fit bodies.now (length (body_at bodies.now start)) copies.now }
-    ensures { IfOk result (λ out. out.items ≡ linked_func_info (functions_by_number bodies.now []) start copies.now) }
+    ensures { IfOk result (λ out.
+        out.items ≡ linked_func_info (functions_by_number bodies.now []) start copies.now) }
 {
     let mut out = Vec::new(alloc);
     out.extend_from_slice(bodies[start].func_info)?;
@@ -93,7 +96,8 @@ pub fn line_records(
     requires start { start < length bodies.now }
     requires copies { All (λ k. k < length bodies.now) copies.now }
     requires fit { Fit bodies.now (length (body_at bodies.now start)) copies.now }
-    ensures { IfOk result (λ out. out.items ≡ linked_line_info (functions_by_number bodies.now []) start copies.now) }
+    ensures { IfOk result (λ out.
+        out.items ≡ linked_line_info (functions_by_number bodies.now []) start copies.now) }
 {
     let mut out = Vec::new(alloc);
     out.extend_from_slice(bodies[start].line_info)?;

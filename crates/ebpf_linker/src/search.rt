@@ -62,7 +62,9 @@ fn has_stray(lines: &[bpf_line_info], base: usize) -> bool
 
 /// The cause why a function can't have a copy at a base, if there is one.
 fn append_fault(body: &Body<'_>, base: usize, callee: usize) -> Option<Fault>
-    ensures { result ≡ content_fault (body_content body.now) base (ProgramTooLong callee) (InvalidLineInfo callee) }
+    ensures { result
+        ≡ content_fault (body_content body.now) base (ProgramTooLong callee)
+        (InvalidLineInfo callee) }
 {
     if base > LIMIT || body.slots.len() > LIMIT - base {
         return Some(Fault::ProgramTooLong { callee });
@@ -102,7 +104,12 @@ impl Progress {
     ) -> Result<Option<Fault>, AllocError>
         requires callee { callee < length bodies.now }
         requires flags { length self.old.is_found.items ≡ length bodies.now }
-        ensures { IfOk result (λ fault. Entered (functions_by_number bodies.now []) top (search_at self.old.order.items self.old.is_found.items self.old.work_list.items self.old.used) (search_at self.new.order.items self.new.is_found.items self.new.work_list.items self.new.used) fault callee) }
+        ensures { IfOk result (λ fault.
+            Entered (functions_by_number bodies.now []) top
+            (search_at self.old.order.items self.old.is_found.items self.old.work_list.items
+            self.old.used)
+            (search_at self.new.order.items self.new.is_found.items self.new.work_list.items
+            self.new.used) fault callee) }
     {
         let body = &bodies[callee];
         if let Some(fault) = append_fault(body, self.used, callee) {
@@ -131,7 +138,13 @@ impl Progress {
         requires start { start < length functions.now.bodies.now }
         requires function { top.function < length functions.now.bodies.now }
         requires flags { length self.old.is_found.items ≡ length functions.now.bodies.now }
-        ensures { IfOk result (λ fault. Advanced (functions_by_number functions.now.bodies.now functions.now.references.now) (checked_calls functions.now.bodies.now functions.now.references.now start) top (search_at self.old.order.items self.old.is_found.items self.old.work_list.items self.old.used) (search_at self.new.order.items self.new.is_found.items self.new.work_list.items self.new.used) fault) }
+        ensures { IfOk result (λ fault.
+            Advanced (functions_by_number functions.now.bodies.now functions.now.references.now)
+            (checked_calls functions.now.bodies.now functions.now.references.now start) top
+            (search_at self.old.order.items self.old.is_found.items self.old.work_list.items
+            self.old.used)
+            (search_at self.new.order.items self.new.is_found.items self.new.work_list.items
+            self.new.used) fault) }
     {
         let list = &functions.references[top.function];
         let Some(call) = list.get(top.next) else {
@@ -155,7 +168,9 @@ impl Progress {
     /// The functions in their order. The flags are taken back and kept for the next search.
     fn finish(self, tables: &Tables) -> Vec<usize>
         requires within { All (λ k. k < length self.is_found.items) self.order.items }
-        requires marked { (k : ℕ) → slice_index_or self.is_found.items k false ≡ true → Among self.order.items k }
+        requires marked { (k : ℕ)
+            → slice_index_or self.is_found.items k false ≡ true
+            → Among self.order.items k }
         ensures { result ≡ self.order }
     {
         let Progress {
@@ -177,7 +192,11 @@ pub fn search(
     start: usize,
 ) -> Result<Result<Vec<usize>, Fault>, AllocError>
     requires { start < length functions.now.bodies.now }
-    ensures { IfOk result (λ answer. Finds (functions_by_number functions.now.bodies.now functions.now.references.now) (checked_references (functions_by_number functions.now.bodies.now functions.now.references.now) start) start answer) }
+    ensures { IfOk result (λ answer.
+        Finds (functions_by_number functions.now.bodies.now functions.now.references.now)
+        (checked_references
+        (functions_by_number functions.now.bodies.now functions.now.references.now)
+        start) start answer) }
 {
     let mut order = Vec::new(alloc);
     order.push(start)?;

@@ -77,7 +77,9 @@ impl Tables {
 #[tactic(auto, using(crate::proofs::Unmarked::unmarked_next))]
 pub fn unmark(flags: &mut Vec<bool>, functions: &[usize])
     requires within { All (λ k. k < length flags.old.items) functions.now }
-    requires marked { (k : ℕ) → slice_index_or flags.old.items k false ≡ true → Among functions.now k }
+    requires marked { (k : ℕ)
+        → slice_index_or flags.old.items k false ≡ true
+        → Among functions.now k }
     ensures { flags.new.items ≡ replicate (length flags.old.items) false }
 {
     for function in functions {

@@ -1,6 +1,23 @@
--- What a program is attached to, as the id of a type, by the name of its section (libbpf 1.5, libbpf.c:
--- libbpf_prepare_prog_load, find_kernel_btf_id, find_attach_btf_id, btf_get_kernel_prefix_kind).
-use Rattle.std.specs.Prelude.{ℕ, ◌==◌, List, [], ◌∷◌, ◌++◌, codes, Option, Some, None, unwrap_or, ◌≡◌, Bool, false, is_some}
+-- What a program is attached to, as the id of a type, by the name of its section (libbpf 1.5,
+-- libbpf.c: libbpf_prepare_prog_load, find_kernel_btf_id, find_attach_btf_id,
+-- btf_get_kernel_prefix_kind).
+use Rattle.std.specs.Prelude.{
+  ℕ,
+  ◌==◌,
+  List,
+  [],
+  ◌∷◌,
+  ◌++◌,
+  codes,
+  Option,
+  Some,
+  None,
+  unwrap_or,
+  ◌≡◌,
+  Bool,
+  false,
+  is_some,
+}
 use Rattle.std.specs.List.{after_first}
 use Rattle.std.specs.Option.{option_map_or}
 use Rattle.ebpf_btf.specs.Strings.{id_of_name}
@@ -9,9 +26,19 @@ use Rattle.ebpf_btf.specs.declared.kind.BtfKind.{BtfKind}
 use Rattle.ebpf_btf.specs.declared.kind.BtfKind.TheVariants as kinds
 use Rattle.ebpf_load_info.specs.KernelNumbers.{without_prefix}
 use Rattle.ebpf_load_info.specs.declared.attach.AttachTarget.{AttachTarget}
-use Rattle.ebpf_load_info.specs.declared.attach.AttachTarget.TheVariants.{NotWanted, Unnamed, Found, NotFound}
+use Rattle.ebpf_load_info.specs.declared.attach.AttachTarget.TheVariants.{
+  NotWanted,
+  Unnamed,
+  Found,
+  NotFound,
+}
 use Rattle.ebpf_load_info.specs.declared.attach.TargetKind.{TargetKind}
-use Rattle.ebpf_load_info.specs.declared.attach.TargetKind.TheVariants.{TracePoint, SecurityHook, Iterator, Function}
+use Rattle.ebpf_load_info.specs.declared.attach.TargetKind.TheVariants.{
+  TracePoint,
+  SecurityHook,
+  Iterator,
+  Function,
+}
 use Rattle.ebpf_parts.specs.ProgramTypes.{without_mark, first_piece, lookup_piece, program_kind}
 use Rattle.ebpf_parts.specs.declared.programs.kind.ProgramKind.{ProgramKind}
 
@@ -77,7 +104,8 @@ type_named name kind types = found_as name (id_of_name types name kind)
 -- a target without a name is none
 abbrev pub target_in : TypeInfo → TargetKind → List ℕ → AttachTarget
 target_in types target [] = Unnamed
-target_in types target (b ∷ name) = type_named (prefix_of target ++ b ∷ name) (kind_of_target target) types
+target_in types target (b ∷ name) =
+    type_named (prefix_of target ++ b ∷ name) (kind_of_target target) types
 
 abbrev pub target_or_none : TypeInfo → Option TargetKind → List ℕ → AttachTarget
 target_or_none types None name = NotWanted
@@ -87,11 +115,13 @@ target_or_none types (Some target) name = target_in types target name
 unfoldable pub attach_target : List ℕ → TypeInfo → AttachTarget
 attach_target section types = target_or_none types (wanted section) (target_name section)
 
--- ---- that the sections whose programs have targets are those of which the table of program kinds says so
+-- ---- that the sections whose programs have targets are those of which the table of program kinds
+-- says so
 
 -- whether a loader wants the id of a type for the programs of a section
 abbrev pub wants_type : List ℕ → Bool
-wants_type section = option_map_or (λ (kind : ProgramKind). kind.wants_target_type) (program_kind section) false
+wants_type section =
+    option_map_or (λ (kind : ProgramKind). kind.wants_target_type) (program_kind section) false
 
 abbrev pub WantedAsKinds : Type 0
 WantedAsKinds = (section : List ℕ) → is_some (wanted section) ≡ wants_type section

@@ -1,5 +1,24 @@
--- The numbers that a kernel knows, by the enumerators of its types (the kernel's include/uapi/linux/bpf.h, enum bpf_func_id and enum bpf_map_type).
-use Rattle.std.specs.Prelude.{ℕ, List, length, drop, nat_eq, Option, Some, None, if◌then◌else◌, Bool, not, ◌&&◌, ◌==◌, [], codes, option_map, find}
+-- The numbers that a kernel knows, by the enumerators of its types (the kernel's
+-- include/uapi/linux/bpf.h, enum bpf_func_id and enum bpf_map_type).
+use Rattle.std.specs.Prelude.{
+  ℕ,
+  List,
+  length,
+  drop,
+  nat_eq,
+  Option,
+  Some,
+  None,
+  if◌then◌else◌,
+  Bool,
+  not,
+  ◌&&◌,
+  ◌==◌,
+  [],
+  codes,
+  option_map,
+  find,
+}
 use Rattle.std.specs.List.{starts_with, list_any}
 use Rattle.std.specs.Str.{is_utf8}
 use Rattle.std.specs.Option.{option_and_then}
@@ -15,14 +34,15 @@ use Rattle.ebpf_btf.specs.declared.kind.BtfKind.TheVariants as kinds
 
 -- what stands behind a prefix, where a text begins with it
 abbrev pub without_prefix : List ℕ → List ℕ → Option (List ℕ)
-without_prefix prefix text = if starts_with nat_eq text prefix then Some (drop (length prefix) text) else None
+without_prefix prefix text =
+    if starts_with nat_eq text prefix then Some (drop (length prefix) text) else None
 
 -- bytes that are a text
 abbrev pub as_text : List ℕ → Option (List ℕ)
 as_text bytes = if is_utf8 bytes then Some bytes else None
 
--- ---- the numbers that a kernel knows, by the enumerators of its types (the kernel's include/uapi/linux/bpf.h, enum
--- bpf_func_id and enum bpf_map_type).
+-- ---- the numbers that a kernel knows, by the enumerators of its types (the kernel's
+-- include/uapi/linux/bpf.h, enum bpf_func_id and enum bpf_map_type).
 
 -- the enumerators of an ENUM
 unfoldable pub enumerators_of : BtfType → List BtfEnum
@@ -31,7 +51,8 @@ enumerators_of _ = []
 
 -- those of an ENUM that has a name
 abbrev pub named_enumerators : TypeInfo → List ℕ → BtfType → Option (List BtfEnum)
-named_enumerators types name t = if is_named types name kinds.Enum t then Some (enumerators_of t) else None
+named_enumerators types name t =
+    if is_named types name kinds.Enum t then Some (enumerators_of t) else None
 
 -- those of the first one
 abbrev pub enumeration : TypeInfo → List ℕ → Option (List BtfEnum)
@@ -52,11 +73,14 @@ map_type_numbering = record { enumeration = codes "bpf_map_type"; end = codes "_
 
 -- whether an enumerator has a number; the one at the end doesn't count
 abbrev pub has_number : TypeInfo → List ℕ → ℕ → BtfEnum → Bool
-has_number types end number e = e.value == number && not (is_text end (text_at types.strings e.name_offset))
+has_number types end number e =
+    e.value == number && not (is_text end (text_at types.strings e.name_offset))
 
 -- whether a kernel knows a number, where its types have the enumeration
 abbrev pub knows : Numbering → TypeInfo → ℕ → Option Bool
-knows numbering types number = option_map (list_any (has_number types numbering.end number)) (enumeration types numbering.enumeration)
+knows numbering types number =
+    option_map (list_any (has_number types numbering.end number))
+    (enumeration types numbering.enumeration)
 
 unfoldable pub knows_helper : TypeInfo → ℕ → Option Bool
 knows_helper = knows helpers
@@ -71,11 +95,15 @@ helper_mark = codes "BPF_FUNC_"
 
 -- the name that an enumerator gives a helper: what stands behind the mark, where it is a text
 abbrev pub name_by : TypeInfo → BtfEnum → Option (List ℕ)
-name_by types e = option_and_then (without_prefix helper_mark) (option_and_then as_text (before_zero (drop e.name_offset types.strings)))
+name_by types e =
+    option_and_then (without_prefix helper_mark)
+    (option_and_then as_text (before_zero (drop e.name_offset types.strings)))
 
 -- the first enumerator with a number
 abbrev pub enumerator_with : Numbering → TypeInfo → ℕ → Option BtfEnum
-enumerator_with numbering types number = option_and_then (find (has_number types numbering.end number)) (enumeration types numbering.enumeration)
+enumerator_with numbering types number =
+    option_and_then (find (has_number types numbering.end number))
+    (enumeration types numbering.enumeration)
 
 unfoldable pub helper_name : TypeInfo → ℕ → Option (List ℕ)
 helper_name types number = option_and_then (name_by types) (enumerator_with helpers types number)

@@ -1,6 +1,23 @@
--- The types of keys and values that maps are created with (BPF_MAP_CREATE: btf_key_type_id and btf_value_type_id;
--- libbpf 1.5, libbpf.c: bpf_object__create_map, bpf_map_find_btf_info, bpf_map__set_value_size).
-use Rattle.std.specs.Prelude.{ℕ, Bool, true, false, ◌==◌, ◌&&◌, ◌||◌, nat_eq, List, [], ◌∷◌, length, slice_get, unwrap_or, if◌then◌else◌}
+-- The types of keys and values that maps are created with (BPF_MAP_CREATE: btf_key_type_id and
+-- btf_value_type_id; libbpf 1.5, libbpf.c: bpf_object__create_map, bpf_map_find_btf_info,
+-- bpf_map__set_value_size).
+use Rattle.std.specs.Prelude.{
+  ℕ,
+  Bool,
+  true,
+  false,
+  ◌==◌,
+  ◌&&◌,
+  ◌||◌,
+  nat_eq,
+  List,
+  [],
+  ◌∷◌,
+  length,
+  slice_get,
+  unwrap_or,
+  if◌then◌else◌,
+}
 use Rattle.std.specs.List.{list_any}
 use Rattle.std.specs.Option.{option_and_then, option_map_or}
 use Rattle.ebpf_btf.specs.Strings.{id_of_name}
@@ -62,22 +79,29 @@ has_value_type _ = false
 abbrev pub stated_size : TypeInfo → ℕ → ℕ
 stated_size types id = unwrap_or (option_and_then size_word (slice_get types.types id)) 0
 
--- Whether a DATASEC is the type of a map's value: the value is as large as the section's data, and as the DATASEC says.
+-- Whether a DATASEC is the type of a map's value: the value is as large as the section's data, and
+-- as the DATASEC says.
 -- Compilers write size 0 there, which loaders replace.
 abbrev pub is_type_of : TypeInfo → LegacyMap → ℕ → Bool
 is_type_of types m id =
-    m.def.value_size == length m.bytes && (stated_size types id == 0 || stated_size types id == m.def.value_size)
+    m.def.value_size == length m.bytes
+    && (stated_size types id == 0 || stated_size types id == m.def.value_size)
 
 abbrev pub data_type : TypeInfo → List ℕ → LegacyMap → ℕ
 data_type types name m =
-    option_map_or (λ id. if is_type_of types m id then id else 0) (id_of_name types name kinds.DataSec) 0
+    option_map_or (λ id. if is_type_of types m id then id else 0)
+    (id_of_name types name kinds.DataSec) 0
 
 -- ---- all maps
 
 -- the ids that the definition of a map states, or that the map of a data section has by its name
 abbrev pub stated_ids : TypeInfo → List ℕ → Map → MapTypeIds
-stated_ids types name (Btf m) = record { key = m.def.btf_key_type_id; value = m.def.btf_value_type_id }
-stated_ids types name (Legacy m) = if has_value_type m.section_kind then record { key = 0; value = data_type types name m } else no_type_ids
+stated_ids types name (Btf m) =
+    record { key = m.def.btf_key_type_id; value = m.def.btf_value_type_id }
+stated_ids types name (Legacy m) =
+    if has_value_type m.section_kind
+    then record { key = 0; value = data_type types name m }
+    else no_type_ids
 
 -- the ids that a map of this name is created with
 unfoldable pub map_type_ids : List ℕ → Map → TypeInfo → MapTypeIds

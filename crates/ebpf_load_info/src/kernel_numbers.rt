@@ -121,7 +121,9 @@ impl<'a> Model for KernelNumbers<'a> {
 
     ghost view = { λ k. k.types.now };
 
-    ghost invariant = { λ k. (k.found.helpers ≡ enumeration k.types.now helpers.enumeration) × (k.found.map_types ≡ enumeration k.types.now map_type_numbering.enumeration) };
+    ghost invariant = { λ k.
+        (k.found.helpers ≡ enumeration k.types.now helpers.enumeration)
+        × (k.found.map_types ≡ enumeration k.types.now map_type_numbering.enumeration) };
 }
 
 impl<'a> KernelNumbers<'a> {

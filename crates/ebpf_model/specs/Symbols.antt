@@ -28,7 +28,8 @@ is_unknown _ = false
 
 -- an extern: without a section, a definition and a type
 abbrev pub is_extern : Symbol → Bool
-is_extern symbol = is_none symbol.section_index && not symbol.is_definition && is_unknown symbol.kind
+is_extern symbol =
+    is_none symbol.section_index && not symbol.is_definition && is_unknown symbol.kind
 
 -- ---- the sections that hold functions
 

@@ -1,5 +1,24 @@
 -- What a pass keeps of a function: all of it but the slots, and how many these are.
-use Rattle.std.specs.Prelude.{◌≡◌, length, Option, Some, None, IsSomeAnd, MatchOption, ◌≤◌, ◌==◌, ◌^◌, ℕ, Bool, false, nat_lt, if◌then◌else◌, List, [], ◌∷◌}
+use Rattle.std.specs.Prelude.{
+  ◌≡◌,
+  length,
+  Option,
+  Some,
+  None,
+  IsSomeAnd,
+  MatchOption,
+  ◌≤◌,
+  ◌==◌,
+  ◌^◌,
+  ℕ,
+  Bool,
+  false,
+  nat_lt,
+  if◌then◌else◌,
+  List,
+  [],
+  ◌∷◌,
+}
 use Rattle.std.specs.FinMap.{FinMap, get, entries}
 use Rattle.std.specs.Option.{option_copied}
 use Rattle.std.specs.Ordering.{nat_cmp}
@@ -9,21 +28,27 @@ use Rattle.ebpf_model.specs.Symbols.{FunctionKey}
 use Rattle.ebpf_model.specs.declared.function.Function.{Function}
 use Rattle.ebpf_model.specs.declared.walk.Walk.{Walk}
 
--- name, address, section, place in it, records and sizes of records stay, and there are as many slots
+-- name, address, section, place in it, records and sizes of records stay, and there are as many
+-- slots
 pub record KeepsShape (before after : Function) : Type 0 where
   pub others : after ≡ record before { instructions = after.instructions }
   pub slots : length after.instructions ≡ length before.instructions
 
 -- the same keys, at each of which the function keeps its shape
 abbrev pub KeepShapes : FinMap key_cmp Function → FinMap key_cmp Function → Type 0
-KeepShapes before after = (key : FunctionKey) → MatchOption (get before key) (get after key ≡ None) (λ f. IsSomeAnd (get after key) (KeepsShape f))
+KeepShapes before after =
+    (key : FunctionKey)
+    → MatchOption (get before key) (get after key ≡ None) (λ f.
+    IsSomeAnd (get after key) (KeepsShape f))
 
 -- ---- a walk over the relocations of sections, in step with functions and their slots
 
--- the relocation at an offset of a section, which is a number of 64 bits (ELF-64 gABI, 'Relocation': r_offset)
+-- the relocation at an offset of a section, which is a number of 64 bits (ELF-64 gABI,
+-- 'Relocation': r_offset)
 abbrev pub found_at : Option (FinMap nat_cmp ElfRelocation) → ℕ → Option ElfRelocation
 found_at None offset = None
-found_at (Some section_relocations) offset = if nat_lt offset (2 ^ 64) then get section_relocations offset else None
+found_at (Some section_relocations) offset =
+    if nat_lt offset (2 ^ 64) then get section_relocations offset else None
 
 -- the relocations of the section that the walk is in
 abbrev pub walked_relocations : Walk → Option (FinMap nat_cmp ElfRelocation)
@@ -38,7 +63,8 @@ ahead_in None = []
 ahead_in (Some list) = list
 
 -- the next one and those ahead of it; where there is no next one there are none
-abbrev pub left : Option (ℕ × ElfRelocation) → Option (List (ℕ × ElfRelocation)) → List (ℕ × ElfRelocation)
+abbrev pub left : Option (ℕ × ElfRelocation) → Option (List (ℕ × ElfRelocation))
+    → List (ℕ × ElfRelocation)
 left None ahead = []
 left (Some e) ahead = e ∷ ahead_in ahead
 
@@ -63,6 +89,8 @@ pub record IsBefore (walk : Walk) (offset : ℕ) : Type 0 where
   pub are_left : left_in walk ≡ entries_from from (entries_or_none (walked_relocations walk))
 
 -- the walk is over the relocations of its section, and has not passed the end of its function
-pub record IsWithinFunction (relocations : FinMap nat_cmp (FinMap nat_cmp ElfRelocation)) (walk : Walk) : Type 0 where
+pub record IsWithinFunction (relocations : FinMap nat_cmp (FinMap nat_cmp ElfRelocation))
+    (walk : Walk)
+    : Type 0 where
   pub section_relocations : walked_relocations walk ≡ get relocations walk.section
   pub before : IsBefore walk walk.function_end

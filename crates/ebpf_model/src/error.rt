@@ -106,7 +106,8 @@ impl EbpfRelocationError {
     /// An error of a function or a program with this name. Want of memory, also where it is the name that finds
     /// none, has the empty text for the name.
     pub fn with_name(alloc: Global, name: &str, error: RelocationError) -> EbpfRelocationError
-        ensures named { MatchBool (is_memory_at result) ⊤ (result ≡ record { function = name.now; error = error }) }
+        ensures named { MatchBool (is_memory_at result) ⊤
+            (result ≡ record { function = name.now; error = error }) }
         ensures memory { NamesNoneForMemory result }
     {
         if is_slot_memory(&error) {

@@ -3,8 +3,8 @@
 ghost use Rattle.std.specs.Prelude.{◌≡◌, ◌+◌, ◌*◌, length};
 
 use ebpf_base::{Items, Text};
-use ebpf_elf::SectionIndex;
 use ebpf_btf_ext::{FuncSecInfo, LineSecInfo};
+use ebpf_elf::SectionIndex;
 use ebpf_parts::ProgramSection;
 use ebpf_parts::insn::bpf_insn;
 use std::alloc::AllocError;

@@ -28,7 +28,8 @@ pub struct Walk<'a> {
 
 /// The offset of a slot in its section, where it fits.
 fn offset_of(function: &Function, slot: usize) -> Option<u64>
-    ensures { MatchOption result (2 ^ 64 ≤ function.now.section_offset + 8 * slot) (λ offset. offset ≡ function.now.section_offset + 8 * slot) }
+    ensures { MatchOption result (2 ^ 64 ≤ function.now.section_offset + 8 * slot) (λ offset.
+        offset ≡ function.now.section_offset + 8 * slot) }
 {
     let Some(bytes) = (slot as u64).checked_mul(8) else {
         return None;
@@ -41,7 +42,8 @@ fn all_from(
     section_relocations: Option<&ByOffset<Relocation>>,
     offset: u64,
 ) -> Option<btree_map::Range<'_, u64, Relocation>>
-    ensures { ahead_in result ≡ entries_from offset (entries_or_none (option_copied section_relocations.entry)) }
+    ensures { ahead_in result
+        ≡ entries_from offset (entries_or_none (option_copied section_relocations.entry)) }
 {
     match section_relocations {
         Some(section_relocations) => Some(section_relocations.from_number(offset)),
@@ -91,7 +93,8 @@ impl<'a> Walk<'a> {
         section: usize,
         offset: u64,
     ) -> Walk<'a>
-        ensures section_relocations { walked_relocations result ≡ option_copied section_relocations.entry }
+        ensures section_relocations { walked_relocations result
+            ≡ option_copied section_relocations.entry }
         ensures section { result.section ≡ section }
         ensures function_end { result.function_end ≡ offset }
         ensures before { IsBefore result offset }
@@ -124,7 +127,8 @@ impl<'a> Walk<'a> {
 
     /// The first relocation that is not passed, with its offset.
     pub fn peek(&self) -> Option<(u64, Relocation)>
-        ensures { MatchOption result (left_in self.now ≡ []) (λ e. left_in self.now ≡ e ∷ ahead_in self.now.ahead) }
+        ensures { MatchOption result (left_in self.now ≡ []) (λ e.
+            left_in self.now ≡ e ∷ ahead_in self.now.ahead) }
     {
         self.next
     }
@@ -132,14 +136,16 @@ impl<'a> Walk<'a> {
     /// Passes that relocation.
     pub fn pass(&mut self)
         ensures left { left_in self.new ≡ ahead_in self.old.ahead }
-        ensures others { self.new ≡ record self.old { next = self.new.next; ahead = self.new.ahead } }
+        ensures others { self.new
+            ≡ record self.old { next = self.new.next; ahead = self.new.ahead } }
     {
         self.next = take_first(&mut self.ahead);
     }
 
     /// Begins anew at an offset.
     fn begin_anew(&mut self, offset: u64)
-        ensures others { self.new ≡ record self.old { next = self.new.next; ahead = self.new.ahead } }
+        ensures others { self.new
+            ≡ record self.old { next = self.new.next; ahead = self.new.ahead } }
         ensures before { IsBefore self.new offset }
         ensures none { is_passed self.new.next offset ≡ false }
     {
@@ -152,7 +158,8 @@ impl<'a> Walk<'a> {
     #[tactic(auto, using(crate::proofs::InStep::one_passed))]
     fn pass_some(&mut self, offset: u64)
         requires { IsBefore self.old offset }
-        ensures others { self.new ≡ record self.old { next = self.new.next; ahead = self.new.ahead } }
+        ensures others { self.new
+            ≡ record self.old { next = self.new.next; ahead = self.new.ahead } }
         ensures before { IsBefore self.new offset }
         ensures none { is_passed self.new.next offset ≡ false }
     {
@@ -168,8 +175,10 @@ impl<'a> Walk<'a> {
     #[tactic(auto, using(crate::proofs::InStep::all_passed))]
     pub fn pass_all(&mut self, offset: u64)
         requires { IsBefore self.old offset }
-        ensures left { left_in self.new ≡ entries_from offset (entries_or_none (walked_relocations self.old)) }
-        ensures others { self.new ≡ record self.old { next = self.new.next; ahead = self.new.ahead } }
+        ensures left { left_in self.new
+            ≡ entries_from offset (entries_or_none (walked_relocations self.old)) }
+        ensures others { self.new
+            ≡ record self.old { next = self.new.next; ahead = self.new.ahead } }
         ensures before { IsBefore self.new offset }
     {
         self.pass_some(offset);
@@ -180,7 +189,8 @@ impl<'a> Walk<'a> {
     fn at(&mut self, offset: u64) -> Option<Relocation>
         requires { IsBefore self.old offset }
         ensures relocation { result ≡ found_at (walked_relocations self.old) offset }
-        ensures others { self.new ≡ record self.old { next = self.new.next; ahead = self.new.ahead } }
+        ensures others { self.new
+            ≡ record self.old { next = self.new.next; ahead = self.new.ahead } }
         ensures before { IsBefore self.new offset }
     {
         self.pass_some(offset);
@@ -191,8 +201,10 @@ impl<'a> Walk<'a> {
     #[tactic(auto, using(crate::proofs::InStep::found_past))]
     pub fn relocation_of(&mut self, function: &Function, slot: usize) -> Option<Relocation>
         requires { IsBefore self.old (function.now.section_offset + 8 * slot) }
-        ensures relocation { result ≡ found_at (walked_relocations self.old) (function.now.section_offset + 8 * slot) }
-        ensures others { self.new ≡ record self.old { next = self.new.next; ahead = self.new.ahead } }
+        ensures relocation { result
+            ≡ found_at (walked_relocations self.old) (function.now.section_offset + 8 * slot) }
+        ensures others { self.new
+            ≡ record self.old { next = self.new.next; ahead = self.new.ahead } }
         ensures before { IsBefore self.new (function.now.section_offset + 8 * slot) }
     {
         match offset_of(function, slot) {
@@ -206,7 +218,8 @@ impl<'a> Walk<'a> {
     #[tactic(auto, using(crate::proofs::InStep::later))]
     fn reach(&mut self, relocations: &'a BySection<ByOffset<Relocation>>, function: &Function)
         requires { IsWithinFunction relocations.now self.old }
-        ensures section_relocations { walked_relocations self.new ≡ get relocations.now function.now.section_index.0 }
+        ensures section_relocations { walked_relocations self.new
+            ≡ get relocations.now function.now.section_index.0 }
         ensures section { self.new.section ≡ function.now.section_index.0 }
         ensures before { IsBefore self.new function.now.section_offset }
     {
@@ -224,9 +237,11 @@ impl<'a> Walk<'a> {
     /// Goes on to a function.
     pub fn go_to(&mut self, relocations: &'a BySection<ByOffset<Relocation>>, function: &Function)
         requires { IsWithinFunction relocations.now self.old }
-        ensures section_relocations { walked_relocations self.new ≡ get relocations.now function.now.section_index.0 }
+        ensures section_relocations { walked_relocations self.new
+            ≡ get relocations.now function.now.section_index.0 }
         ensures section { self.new.section ≡ function.now.section_index.0 }
-        ensures function_end { self.new.function_end ≡ function.now.section_offset + 8 * length function.now.instructions }
+        ensures function_end { self.new.function_end
+            ≡ function.now.section_offset + 8 * length function.now.instructions }
         ensures before { IsBefore self.new function.now.section_offset }
     {
         self.reach(relocations, function);

@@ -5,7 +5,8 @@ use Rattle.ebpf_elf.specs.Headers.{ei_data}
 use Rattle.ebpf_object.specs.Objects.{object_as, object_of, parse_fault, parse_fault_as}
 use Rattle.ebpf_parts.specs.declared.parse_mode.ParseMode.TheVariants.{Lenient}
 
--- of a little-endian file that strict parsing takes both readings give one object, and the broad one finds no fault
+-- of a little-endian file that strict parsing takes both readings give one object, and the broad
+-- one finds no fault
 abbrev pub ObjectsAgree : Type 0
 ObjectsAgree =
     (bytes : List ℕ) → ei_data bytes ≡ Little → parse_fault bytes ≡ None

@@ -1,5 +1,21 @@
 -- Linking the programs of an object with the functions that they reach.
-use Rattle.std.specs.Prelude.{◌≡◌, ℕ, Bool, List, map, Some, MatchBool, slice_get, Option, None, Result, Ok, Err, ⊤, option_and_then}
+use Rattle.std.specs.Prelude.{
+  ◌≡◌,
+  ℕ,
+  Bool,
+  List,
+  map,
+  Some,
+  MatchBool,
+  slice_get,
+  Option,
+  None,
+  Result,
+  Ok,
+  Err,
+  ⊤,
+  option_and_then,
+}
 use Rattle.std.specs.FinMap.{FinMap, get, entries}
 use Rattle.std.specs.List.{list_any}
 use Rattle.std.specs.Ordering.{eq_by_cmp}
@@ -51,21 +67,33 @@ replaced (Some f) (Some g) = Some g
 
 -- linking the programs leaves one map of functions
 abbrev pub OneLinking : Type 0
-OneLinking = (parts : LinkableValue) (programs : List ProgramValue) (after other : FinMap key_cmp Function)
-    → ProgramsAreLinked parts programs after → ProgramsAreLinked parts programs other → after ≡ other
+OneLinking =
+    (parts : LinkableValue) (programs : List ProgramValue) (after other : FinMap key_cmp Function)
+    → ProgramsAreLinked parts programs after → ProgramsAreLinked parts programs other
+    → after ≡ other
 
 -- ---- what the maps of programs tell of once the programs are linked
 
 -- once programs are linked, the function of each is the linked program that its map tells of
 abbrev pub MapsTellOfLinked : Type 0
-MapsTellOfLinked = (parts : LinkableValue) (programs : List ProgramValue) (after : FinMap key_cmp Function) → ProgramsAreLinked parts programs after
-    → (i : ℕ) (program : ProgramValue) → slice_get programs i ≡ Some program → (m : LinkMap) (a : IsLinkMapAt parts (key_of program) m)
-    → (function : Function) × (get after (key_of program) ≡ Some function) × (b : IsLinked parts (key_of program) function) × MatchesLinked parts (key_of program) m function a b
+MapsTellOfLinked =
+    (parts : LinkableValue) (programs : List ProgramValue) (after : FinMap key_cmp Function)
+    → ProgramsAreLinked parts programs after
+    → (i : ℕ) (program : ProgramValue)
+    → slice_get programs i ≡ Some program
+    → (m : LinkMap) (a : IsLinkMapAt parts (key_of program) m)
+    → (function : Function)
+    × (get after (key_of program) ≡ Some function)
+    × (b : IsLinked parts (key_of program) function)
+    × MatchesLinked parts (key_of program) m function a b
 
 -- ---- what the linked programs of an object are made of
 
 -- the map of a program, or its refusal; want of memory fits beside both
-abbrev pub MapsProgram : LinkableValue → ProgramValue → Result (Option LinkMap) EbpfRelocationError → Type 0
+abbrev pub MapsProgram : LinkableValue
+    → ProgramValue
+    → Result (Option LinkMap) EbpfRelocationError
+    → Type 0
 MapsProgram parts program (Ok (Some m)) = IsLinkMapAt parts (key_of program) m
 MapsProgram parts program (Ok None) = ⊥
 MapsProgram parts program (Err e) = MatchBool (is_memory_at e) ⊤ (IsProgramRefusal parts program e)
@@ -74,4 +102,5 @@ MapsProgram parts program (Err e) = MatchBool (is_memory_at e) ⊤ (IsProgramRef
 
 -- the function at the key of the program with a name
 abbrev pub function_of_named_program : Object → List ℕ → Option Function
-function_of_named_program o name = option_and_then (λ p. get o.functions (p.section_index, p.address)) (get o.programs name)
+function_of_named_program o name =
+    option_and_then (λ p. get o.functions (p.section_index, p.address)) (get o.programs name)

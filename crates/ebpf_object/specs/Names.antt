@@ -1,5 +1,15 @@
 -- The names of sections, by their indices.
-use Rattle.std.specs.Prelude.{ℕ, ◌==◌, List, Option, option_and_then, Some, None, fold, if◌then◌else◌}
+use Rattle.std.specs.Prelude.{
+  ℕ,
+  ◌==◌,
+  List,
+  Option,
+  option_and_then,
+  Some,
+  None,
+  fold,
+  if◌then◌else◌,
+}
 use Rattle.std.specs.List.{find, list_any}
 use Rattle.std.specs.FinMap.{FinMap, entries, get, insert, contains_key}
 use Rattle.std.specs.Ordering.{nat_cmp}
@@ -12,7 +22,8 @@ use Rattle.ebpf_parts.specs.declared.maps.either.Map.{Map}
 
 -- the name of the section with an index, where there is one and it can be read
 abbrev pub name_in_file : List ℕ → ℕ → Option (List ℕ)
-name_in_file bytes index = option_and_then section_name (find (λ s. s.index == index) (sections bytes))
+name_in_file bytes index =
+    option_and_then section_name (find (λ s. s.index == index) (sections bytes))
 
 -- ---- the sections that functions stand in
 
@@ -25,8 +36,13 @@ has_function_in functions section = list_any (λ e. section == e.0.0) (entries f
 -- a name at its map's section, where none is there
 abbrev pub with_map_name : FinMap nat_cmp (List ℕ) → List ℕ → Option Map → FinMap nat_cmp (List ℕ)
 with_map_name found name None = found
-with_map_name found name (Some m) = if contains_key found (section_index_of m) then found else insert found (section_index_of m) name
+with_map_name found name (Some m) =
+    if contains_key found (section_index_of m)
+    then found
+    else insert found (section_index_of m) name
 
 -- names, one after the other
-abbrev pub with_map_names : FinMap text_cmp Map → FinMap nat_cmp (List ℕ) → List (List ℕ) → FinMap nat_cmp (List ℕ)
-with_map_names maps found names = fold (λ kept name. with_map_name kept name (get maps name)) found names
+abbrev pub with_map_names : FinMap text_cmp Map → FinMap nat_cmp (List ℕ) → List (List ℕ)
+    → FinMap nat_cmp (List ℕ)
+with_map_names maps found names =
+    fold (λ kept name. with_map_name kept name (get maps name)) found names

@@ -1,4 +1,5 @@
--- The object that the bytes of a file are. Its tables and the first fault of a file are those of what it has.
+-- The object that the bytes of a file are. Its tables and the first fault of a file are those of
+-- what it has.
 use Rattle.std.specs.Prelude.{ℕ, List}
 use Rattle.ebpf_elf.specs.Headers.{ei_data}
 use Rattle.ebpf_object.specs.declared.object.Object.{Object}
@@ -8,7 +9,14 @@ use Rattle.ebpf_parsing.specs.LicenseAndVersion.{license_as, kernel_version_of}
 use Rattle.ebpf_parts.specs.declared.parse_mode.ParseMode.{ParseMode}
 use Rattle.ebpf_parts.specs.declared.parse_mode.ParseMode.TheVariants.{Strict}
 pub use Rattle.ebpf_parsing.specs.FileContents.{maps, programs, parse_fault, parse_fault_as}
-unfoldable pub use Rattle.ebpf_parsing.specs.FileContents.{maps_as, programs_as, functions, relocation_tables, section_infos}
+unfoldable pub use
+    Rattle.ebpf_parsing.specs.FileContents.{
+      maps_as,
+      programs_as,
+      functions,
+      relocation_tables,
+      section_infos,
+    }
 
 abbrev pub object_as : ParseMode → List ℕ → Object
 object_as mode bytes = record {

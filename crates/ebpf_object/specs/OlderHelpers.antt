@@ -1,6 +1,19 @@
 -- Calls of helper functions that older kernels lack, and of the older functions in their place
 -- (helper functions by their numbers in the kernel's `bpf_func_id`).
-use Rattle.std.specs.Prelude.{◌≡◌, ℤ, pos, Bool, true, false, ◌&&◌, ◌||◌, map, MatchBool, option_map, if◌then◌else◌}
+use Rattle.std.specs.Prelude.{
+  ◌≡◌,
+  ℤ,
+  pos,
+  Bool,
+  true,
+  false,
+  ◌&&◌,
+  ◌||◌,
+  map,
+  MatchBool,
+  option_map,
+  if◌then◌else◌,
+}
 use Rattle.std.specs.FinMap.{FinMap, get, entries}
 use Rattle.std.specs.List.{list_any}
 use Rattle.std.specs.Ordering.{int_eq}
@@ -38,7 +51,10 @@ reads_text helper = int_eq helper probe_read_user_str || int_eq helper probe_rea
 
 -- the function that every kernel has, in the place of one that older kernels lack
 abbrev pub older_helper : ℤ → ℤ
-older_helper helper = if reads_bytes helper then probe_read else (if reads_text helper then probe_read_str else helper)
+older_helper helper =
+    if reads_bytes helper
+    then probe_read
+    else (if reads_text helper then probe_read_str else helper)
 
 abbrev pub calls_newer : bpf_insn → Bool
 calls_newer slot = is_helper_call slot && (reads_bytes slot.imm || reads_text slot.imm)
@@ -56,14 +72,20 @@ sanitized false f = record f { instructions = map older f.instructions }
 abbrev pub have_newer : FinMap key_cmp Function → Bool
 have_newer functions = list_any (λ e. list_any calls_newer e.1.instructions) (entries functions)
 
--- where a newer helper function is called, one answer for all functions; else none is asked for, and they stay
-abbrev pub AreSanitized : (Bool → Type 0) → FinMap key_cmp Function → FinMap key_cmp Function → Type 0
+-- where a newer helper function is called, one answer for all functions; else none is asked for,
+-- and they stay
+abbrev pub AreSanitized : (Bool → Type 0) → FinMap key_cmp Function → FinMap key_cmp Function
+    → Type 0
 AreSanitized IsAnswer before after =
     MatchBool (have_newer before)
-    ((answer : Bool) × IsAnswer answer × ((key : FunctionKey) → get after key ≡ option_map (sanitized answer) (get before key)))
+    ((answer : Bool)
+    × IsAnswer answer
+    × ((key : FunctionKey) → get after key ≡ option_map (sanitized answer) (get before key)))
     (after ≡ before)
 
 -- twice is once, where the answers are alike
 abbrev pub TwiceIsOnce : Type 0
 TwiceIsOnce = (answer : Bool) (before after again : FinMap key_cmp Function)
-    → AreSanitized (λ a. a ≡ answer) before after → AreSanitized (λ a. a ≡ answer) after again → again ≡ after
+    → AreSanitized (λ a. a ≡ answer) before after
+    → AreSanitized (λ a. a ≡ answer) after again
+    → again ≡ after

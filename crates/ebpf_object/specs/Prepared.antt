@@ -1,5 +1,22 @@
--- A file, prepared: its object after the chosen stages, one after the other, or the fault of the first that has one.
-use Rattle.std.specs.Prelude.{◌≡◌, ⊤, ℕ, Bool, true, false, List, [], Some, None, MatchBool, ◌||◌, Result, Ok, Err}
+-- A file, prepared: its object after the chosen stages, one after the other, or the fault of the
+-- first that has one.
+use Rattle.std.specs.Prelude.{
+  ◌≡◌,
+  ⊤,
+  ℕ,
+  Bool,
+  true,
+  false,
+  List,
+  [],
+  Some,
+  None,
+  MatchBool,
+  ◌||◌,
+  Result,
+  Ok,
+  Err,
+}
 use Rattle.ebpf_core_relo.specs.Records.{without_texts_at}
 use Rattle.ebpf_core_relo.specs.Records as types_relocation
 use Rattle.ebpf_ksyms.specs.Addresses as resolving
@@ -8,18 +25,37 @@ use Rattle.ebpf_ksyms.specs.declared.error.KsymsError.{KsymsError}
 use Rattle.ebpf_ksyms.specs.declared.error.KsymsError.TheVariants.{KallsymsAccessError}
 use Rattle.ebpf_model.specs.Memory as relocating
 use Rattle.ebpf_object.specs.Objects.{object_as, parse_fault_as}
-use Rattle.ebpf_object.specs.Stages.{RelocatesTypes, TypesFault, fds_fault, Resolves, ResolvingFault, with_externs_if, externs_fault_if, LinksPrograms, LinkingFault, Chosen}
+use Rattle.ebpf_object.specs.Stages.{
+  RelocatesTypes,
+  TypesFault,
+  fds_fault,
+  Resolves,
+  ResolvingFault,
+  with_externs_if,
+  externs_fault_if,
+  LinksPrograms,
+  LinkingFault,
+  Chosen,
+}
 use Rattle.ebpf_object.specs.Stages as stage
 use Rattle.ebpf_object.specs.declared.object.Object.{Object}
 use Rattle.ebpf_object.specs.declared.prepare_error.PrepareError.{PrepareError}
-use Rattle.ebpf_object.specs.declared.prepare_error.PrepareError.TheVariants.{Parse, Types, Maps, Ksyms, Externs, Calls, OutOfMemory}
+use Rattle.ebpf_object.specs.declared.prepare_error.PrepareError.TheVariants.{
+  Parse,
+  Types,
+  Maps,
+  Ksyms,
+  Externs,
+  Calls,
+  OutOfMemory,
+}
 use Rattle.ebpf_parts.specs.Memory as parsing
 use Rattle.ebpf_parts.specs.declared.parse_mode.ParseMode.{ParseMode}
 
 -- ---- the stages in order, for what is chosen and the lines of the kernel's symbols
 
--- From an object to what the stages leave of it: relocated to types, then with descriptors, then with externs resolved,
--- then as linking begins. All descriptors and all externs can be written.
+-- From an object to what the stages leave of it: relocated to types, then with descriptors, then
+-- with externs resolved, then as linking begins. All descriptors and all externs can be written.
 pub record Stages (steps : Chosen) (lines : Source) (o after : Object) : Type 0 where
   pub relocated : Object
   pub fds_written : Object
@@ -35,7 +71,8 @@ pub record Stages (steps : Chosen) (lines : Source) (o after : Object) : Type 0 
 
 -- ---- the fault of a stage
 
--- the steps before programs are linked, before externs are written, before they are resolved, before descriptors are written
+-- the steps before programs are linked, before externs are written, before they are resolved,
+-- before descriptors are written
 abbrev pub before_calls : Chosen → Chosen
 before_calls steps = record steps { calls = false }
 
@@ -49,7 +86,8 @@ abbrev pub before_maps : Chosen → Chosen
 before_maps steps = record (before_resolution steps) { descriptors = None }
 
 -- a fault in what some steps leave of an object
-pub record IsFaultAfter (steps : Chosen) (lines : Source) (o : Object) (Fault : Object → Type 0) : Type 0 where
+pub record IsFaultAfter (steps : Chosen) (lines : Source) (o : Object) (Fault : Object → Type 0)
+    : Type 0 where
   pub before : Object
   pub stages : Stages steps lines o before
   pub fault : Fault before
@@ -58,10 +96,17 @@ module _ (steps : Chosen) (lines : Source) where
   -- the fault of a stage, in what the steps before it leave
   abbrev pub IsStageFault : Object → PrepareError → Type 0
   IsStageFault o (Types e) = TypesFault steps.target o e
-  IsStageFault o (Maps e) = IsFaultAfter (before_maps steps) lines o (λ before. fds_fault steps.descriptors before ≡ Some e)
-  IsStageFault o (Ksyms e) = IsFaultAfter (before_resolution steps) lines o (λ before. ResolvingFault steps.kernel lines before e)
-  IsStageFault o (Externs e) = IsFaultAfter (before_externs steps) lines o (λ before. externs_fault_if steps.externs before ≡ Some e)
-  IsStageFault o (Calls e) = IsFaultAfter (before_calls steps) lines o (λ before. LinkingFault steps.calls before e)
+  IsStageFault o (Maps e) =
+      IsFaultAfter (before_maps steps) lines o (λ before.
+      fds_fault steps.descriptors before ≡ Some e)
+  IsStageFault o (Ksyms e) =
+      IsFaultAfter (before_resolution steps) lines o (λ before.
+      ResolvingFault steps.kernel lines before e)
+  IsStageFault o (Externs e) =
+      IsFaultAfter (before_externs steps) lines o (λ before.
+      externs_fault_if steps.externs before ≡ Some e)
+  IsStageFault o (Calls e) =
+      IsFaultAfter (before_calls steps) lines o (λ before. LinkingFault steps.calls before e)
   IsStageFault o _ = ⊥
 
   -- the object of a file, prepared
@@ -72,7 +117,8 @@ module _ (steps : Chosen) (lines : Source) where
   -- the first fault: the file's own, or that of a stage of its object
   abbrev pub IsFirstPrepareFault : ParseMode → List ℕ → PrepareError → Type 0
   IsFirstPrepareFault mode bytes (Parse e) = parse_fault_as mode bytes ≡ Some e
-  IsFirstPrepareFault mode bytes e = (parse_fault_as mode bytes ≡ None) × IsStageFault (object_as mode bytes) e
+  IsFirstPrepareFault mode bytes e =
+      (parse_fault_as mode bytes ≡ None) × IsStageFault (object_as mode bytes) e
 
 -- an object as the bytes of a file are parsed in a reading
 pub record IsParsed (mode : ParseMode) (bytes : List ℕ) (o : Object) : Type 0 where
@@ -103,8 +149,8 @@ NamesNothing _ = ⊤
 abbrev pub RefusesPreparing : (PrepareError → Type 0) → PrepareError → Type 0
 RefusesPreparing Fault e = MatchBool (is_prepare_memory e) (NamesNothing e) (Fault e)
 
--- ---- preparing has one result, where the bytes of the kernel's symbols are known: texts for people aside, want of memory, and
--- a line that can't be read
+-- ---- preparing has one result, where the bytes of the kernel's symbols are known: texts for
+-- people aside, want of memory, and a line that can't be read
 
 abbrev pub Answer : Type 0
 Answer = Result Object PrepareError
@@ -140,15 +186,25 @@ MayStage steps lines o (Err e) = RefusesPreparing (IsStageFault steps lines o) e
 -- what preparing may answer of a file in a reading
 abbrev pub MayPrepare : Chosen → Source → ParseMode → List ℕ → Answer → Type 0
 MayPrepare steps lines mode bytes (Ok o) = IsPrepared steps lines mode bytes o
-MayPrepare steps lines mode bytes (Err e) = RefusesPreparing (IsFirstPrepareFault steps lines mode bytes) e
+MayPrepare steps lines mode bytes (Err e) =
+    RefusesPreparing (IsFirstPrepareFault steps lines mode bytes) e
 
 -- any two of these answers are the same
 abbrev pub IsOne : (Answer → Type 0) → Type 0
-IsOne May = (r s : Answer) → May r → May s → is_open r ≡ false → is_open s ≡ false → answer_without_texts r ≡ answer_without_texts s
+IsOne May =
+    (r s : Answer)
+    → May r
+    → May s
+    → is_open r ≡ false
+    → is_open s ≡ false
+    → answer_without_texts r ≡ answer_without_texts s
 
 -- of an object, and of a file
 abbrev pub OneStaging : Type 0
-OneStaging = (steps : Chosen) (lines : List ℕ) (o : Object) → IsOne (MayStage steps (Reader (Some lines)) o)
+OneStaging =
+    (steps : Chosen) (lines : List ℕ) (o : Object) → IsOne (MayStage steps (Reader (Some lines)) o)
 
 abbrev pub OnePreparation : Type 0
-OnePreparation = (steps : Chosen) (lines : List ℕ) (mode : ParseMode) (bytes : List ℕ) → IsOne (MayPrepare steps (Reader (Some lines)) mode bytes)
+OnePreparation =
+    (steps : Chosen) (lines : List ℕ) (mode : ParseMode) (bytes : List ℕ)
+    → IsOne (MayPrepare steps (Reader (Some lines)) mode bytes)

@@ -1,5 +1,24 @@
 -- What is chosen of the passes over an object.
-use Rattle.std.specs.Prelude.{ℕ, ℤ, pos, ◌+ℤ◌, Bool, List, [], ◌∷◌, map, Option, option_map, is_some, ◌≡◌, true, false, Some, None, Err}
+use Rattle.std.specs.Prelude.{
+  ℕ,
+  ℤ,
+  pos,
+  ◌+ℤ◌,
+  Bool,
+  List,
+  [],
+  ◌∷◌,
+  map,
+  Option,
+  option_map,
+  is_some,
+  ◌≡◌,
+  true,
+  false,
+  Some,
+  None,
+  Err,
+}
 use Rattle.std.specs.Option.{option_copied}
 use Rattle.std.specs.FinMap.{FinMap, get}
 use Rattle.std.specs.Int.{w32, saturate_signed}
@@ -13,7 +32,14 @@ use Rattle.ebpf_ksyms.specs.Sources.{IsRefusedFrom, IsResolvedFrom, Source}
 use Rattle.ebpf_ksyms.specs.declared.error.KsymsError.{KsymsError}
 use Rattle.ebpf_model.specs.declared.error.EbpfRelocationError.{EbpfRelocationError}
 use Rattle.ebpf_object.specs.LinkedPrograms.{linkable_of, programs_in_order, ProgramsAreLinked}
-use Rattle.ebpf_object.specs.WrittenSlots.{relocated_slots, AreRelocatedToTypes, with_maps, maps_fault, with_externs, externs_fault}
+use Rattle.ebpf_object.specs.WrittenSlots.{
+  relocated_slots,
+  AreRelocatedToTypes,
+  with_maps,
+  maps_fault,
+  with_externs,
+  externs_fault,
+}
 use Rattle.ebpf_object.specs.Names.{has_function_in}
 use Rattle.ebpf_object.specs.declared.object.Object.{Object}
 use Rattle.ebpf_object.specs.declared.prepare.Steps.{Steps}
@@ -39,10 +65,12 @@ following n = saturate_signed w32 (n +ℤ pos 1)
 -- names with descriptors, from the number behind one on
 abbrev pub numbered_descriptors : ℤ → List (List ℕ) → List Descriptor
 numbered_descriptors n [] = []
-numbered_descriptors n (name ∷ names) = (name, following n) ∷ numbered_descriptors (following n) names
+numbered_descriptors n (name ∷ names) =
+    (name, following n) ∷ numbered_descriptors (following n) names
 
--- The types to relocate to, the descriptors of maps, and the kernel's types to resolve externs with, if it has any: each
--- where its pass is chosen. The last two say whether externs are written, and whether programs are linked.
+-- The types to relocate to, the descriptors of maps, and the kernel's types to resolve externs
+-- with, if it has any: each where its pass is chosen. The last two say whether externs are written,
+-- and whether programs are linked.
 pub record Chosen : Type 0 where
   pub target : Option TypeInfo
   pub descriptors : Option (List Descriptor)
@@ -59,15 +87,17 @@ chosen steps = record {
   calls = steps.calls;
 }
 
--- ---- the stages of preparing an object: what each leaves of it, and how it refuses it. A stage that is not chosen leaves
--- it as it is
+-- ---- the stages of preparing an object: what each leaves of it, and how it refuses it. A stage
+-- that is not chosen leaves it as it is
 
 -- ---- types
 
 -- the object relocated to a kernel's types
 abbrev pub RelocatesTypes : Option TypeInfo → Object → Object → Type 0
 RelocatesTypes None o after = after ≡ o
-RelocatesTypes (Some target) o after = AreRelocatedToTypes o target after.functions × (after ≡ record o { functions = after.functions })
+RelocatesTypes (Some target) o after =
+    AreRelocatedToTypes o target after.functions
+    × (after ≡ record o { functions = after.functions })
 
 -- the first record that can't be applied
 abbrev pub TypesFault : Option TypeInfo → Object → BtfRelocationError → Type 0
@@ -87,12 +117,14 @@ own_maps maps descriptors = filter_map (own_map maps) descriptors
 -- the object with the descriptors of its own maps
 abbrev pub fds_written : Option (List Descriptor) → Object → Object
 fds_written None o = o
-fds_written (Some descriptors) o = with_maps o (has_function_in o.functions) (own_maps o.maps descriptors)
+fds_written (Some descriptors) o =
+    with_maps o (has_function_in o.functions) (own_maps o.maps descriptors)
 
 -- the first relocation whose descriptor can't be written
 abbrev pub fds_fault : Option (List Descriptor) → Object → Option EbpfRelocationError
 fds_fault None o = None
-fds_fault (Some descriptors) o = maps_fault o (has_function_in o.functions) (own_maps o.maps descriptors)
+fds_fault (Some descriptors) o =
+    maps_fault o (has_function_in o.functions) (own_maps o.maps descriptors)
 
 -- ---- externs
 
@@ -100,7 +132,8 @@ fds_fault (Some descriptors) o = maps_fault o (has_function_in o.functions) (own
 abbrev pub Resolves : Option (Option TypeInfo) → Source → Object → Object → Type 0
 Resolves None lines o after = after ≡ o
 Resolves (Some kernel) lines o after =
-    IsResolvedFrom lines o.btf kernel o.externs after.externs × (after ≡ record o { externs = after.externs })
+    IsResolvedFrom lines o.btf kernel o.externs after.externs
+    × (after ≡ record o { externs = after.externs })
 
 -- the least fault of resolving
 abbrev pub ResolvingFault : Option (Option TypeInfo) → Source → Object → KsymsError → Type 0
@@ -123,13 +156,15 @@ externs_fault_if true o = externs_fault o
 abbrev pub LinksPrograms : Bool → Object → Object → Type 0
 LinksPrograms false o after = after ≡ o
 LinksPrograms true o after =
-    ProgramsAreLinked (linkable_of o (has_function_in o.functions)) (programs_in_order o.programs) after.functions
+    ProgramsAreLinked (linkable_of o (has_function_in o.functions)) (programs_in_order o.programs)
+    after.functions
     × (after ≡ record o { functions = after.functions })
 
 -- the first program that can't be linked
 abbrev pub LinkingFault : Bool → Object → EbpfRelocationError → Type 0
 LinkingFault false o e = ⊥
-LinkingFault true o e = IsFirstRefusal (linkable_of o (has_function_in o.functions)) (programs_in_order o.programs) e
+LinkingFault true o e =
+    IsFirstRefusal (linkable_of o (has_function_in o.functions)) (programs_in_order o.programs) e
 
 -- ---- the refusal of one stage, in that stage's own variant
 

@@ -14,6 +14,7 @@ has_extern test externs = list_any (λ e. test e.1) (entries externs)
 abbrev pub has_typed : Option TypeInfo → FinMap text_cmp ExternDesc → Bool
 has_typed btf externs = is_some btf && has_extern (λ x. x.is_typed) externs
 
--- whether there is type information, and an extern whose type is compared and which may not stay unresolved
+-- whether there is type information, and an extern whose type is compared and which may not stay
+-- unresolved
 abbrev pub has_strong_typed : Option TypeInfo → FinMap text_cmp ExternDesc → Bool
 has_strong_typed btf externs = is_some btf && has_extern (λ x. x.is_typed && not x.is_weak) externs

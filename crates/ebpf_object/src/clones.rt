@@ -78,7 +78,14 @@ fn copy_ext(ext: &Option<BtfExt>) -> Result<Option<BtfExt>, AllocError>
 
 /// A copy of the fields that an object's programs and functions share.
 fn copy_carried(object: &Object) -> Result<Carried, AllocError>
-    ensures { IfOk result (λ copy. copy ≡ record { license = object.now.license; kernel_version = object.now.kernel_version; btf = object.now.btf; btf_ext = object.now.btf_ext }) }
+    ensures { IfOk result (λ copy.
+        copy
+        ≡ record {
+          license = object.now.license;
+          kernel_version = object.now.kernel_version;
+          btf = object.now.btf;
+          btf_ext = object.now.btf_ext;
+        }) }
 {
     Ok(Carried {
         license: object.license.copied()?,
@@ -90,7 +97,15 @@ fn copy_carried(object: &Object) -> Result<Carried, AllocError>
 
 /// A copy of the tables that sections give.
 fn copy_object_tables(object: &Object) -> Result<ObjectTables, AllocError>
-    ensures { IfOk result (λ copy. copy ≡ record { maps = object.now.maps; programs = object.now.programs; functions = object.now.functions; relocations = object.now.relocations; section_infos = object.now.section_infos }) }
+    ensures { IfOk result (λ copy.
+        copy
+        ≡ record {
+          maps = object.now.maps;
+          programs = object.now.programs;
+          functions = object.now.functions;
+          relocations = object.now.relocations;
+          section_infos = object.now.section_infos;
+        }) }
 {
     Ok(ObjectTables {
         maps: copy_names(&object.maps)?,

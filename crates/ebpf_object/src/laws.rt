@@ -15,16 +15,16 @@ pub use ebpf_core_relo::laws::{
     records_alone_are_carried, records_are_refused, records_have_slots, written_slots_carry,
 };
 pub use ebpf_parsing::laws::{
-    lenient_refuses_no_name, externs_are_unresolved, functions_stand_at_their_keys, functions_tile,
-    later_entries_stand, maps_have_their_symbols, programs_have_functions,
+    externs_are_unresolved, functions_stand_at_their_keys, functions_tile, later_entries_stand,
+    lenient_refuses_no_name, maps_have_their_symbols, programs_have_functions,
     relocation_tables_are_of_code, relocations_name_symbols, relocations_stand_at_their_offsets,
     sections_tile, strict_gives_nothing_lenient, symbols_stand_at_their_indices,
 };
 pub use ebpf_parts::laws::{kinds_of_names_agree, names_are_read};
-pub use ebpf_reloc::pass_laws::{offsets_add_up, passes_keep_shapes};
 pub use ebpf_reloc::laws::{
     link_maps_match, link_maps_refuse_alike, one_link_map, one_result, plain_slots_stay,
 };
+pub use ebpf_reloc::pass_laws::{offsets_add_up, passes_keep_shapes};
 
 /// What `Object::patch_map_data` makes of the maps' data, byte by byte: of the variables whose value has a byte for a
 /// place, the one whose name is the greatest in byte order gives it, and each other byte is as before.

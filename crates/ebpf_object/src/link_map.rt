@@ -25,8 +25,13 @@ pub struct ProgramMaps<'a> {
 impl ProgramMaps<'_> {
     /// The link map of a program with this name.
     fn map_of(&self, name: &str, program: &Program) -> Result<LinkMap, EbpfRelocationError>
-        ensures mapped { IfOk result (λ m. IsLinkMapAt (read self.now.functions.parts) (key_of (program_value name.now program.now)) m) }
-        ensures fault { IfErr result (λ e. MatchBool (is_memory_at e) ⊤ (IsProgramRefusal (read self.now.functions.parts) (program_value name.now program.now) e)) }
+        ensures mapped { IfOk result (λ m.
+            IsLinkMapAt (read self.now.functions.parts)
+            (key_of (program_value name.now program.now)) m) }
+        ensures fault { IfErr result (λ e.
+            MatchBool (is_memory_at e) ⊤
+            (IsProgramRefusal (read self.now.functions.parts)
+            (program_value name.now program.now) e)) }
         ensures memory { IfErr result NamesNoneForMemory }
     {
         let alloc = self.object.allocator();
@@ -44,7 +49,9 @@ impl ProgramMaps<'_> {
     ///
     /// Those of `Object::link_map`.
     pub fn of(&self, name: &str) -> Result<Option<LinkMap>, EbpfRelocationError>
-        ensures program { MatchOption (map.get self.now.object.now.programs name.now) (result ≡ Ok None) (λ p. MapsProgram (read self.now.functions.parts) (program_value name.now p) result) }
+        ensures program { MatchOption (map.get self.now.object.now.programs name.now)
+            (result ≡ Ok None) (λ p.
+            MapsProgram (read self.now.functions.parts) (program_value name.now p) result) }
         ensures memory { IfErr result NamesNoneForMemory }
     {
         let Some(program) = self.object.programs.get(name) else {
@@ -69,7 +76,9 @@ impl Object {
         text_sections: &'a HashSet<usize>,
     ) -> Result<ProgramMaps<'a>, EbpfRelocationError>
         ensures object { IfOk result (λ m. m.object.now ≡ self.now) }
-        ensures parts { IfOk result (λ m. read m.functions.parts ≡ linkable_of self.now (text_sections_in text_sections.now)) }
+        ensures parts { IfOk result (λ m.
+            read m.functions.parts
+            ≡ linkable_of self.now (text_sections_in text_sections.now)) }
         ensures memory { IfErr result (λ e. is_memory_at e ≡ true) }
         ensures unnamed { IfErr result NamesNoneForMemory }
     {
@@ -105,7 +114,9 @@ impl Object {
         name: &str,
         text_sections: &HashSet<usize>,
     ) -> Result<Option<LinkMap>, EbpfRelocationError>
-        ensures program { MatchOption (map.get self.now.programs name.now) (result ≡ Ok None) (λ p. MapsProgram (linkable_of self.now (text_sections_in text_sections.now)) (program_value name.now p) result) }
+        ensures program { MatchOption (map.get self.now.programs name.now) (result ≡ Ok None) (λ p.
+            MapsProgram (linkable_of self.now (text_sections_in text_sections.now))
+            (program_value name.now p) result) }
         ensures memory { IfErr result NamesNoneForMemory }
     {
         if !self.programs.contains_key(name) {

@@ -8,4 +8,4 @@ pub use ebpf_btf_ext::{
     BtfExt, FuncInfo, FuncSecInfo, LineInfo, LineSecInfo, bpf_func_info, bpf_line_info,
 };
 pub use ebpf_model::{ExternDesc, Function, Program, Symbol};
-pub use ebpf_parts::{EbpfSectionKind, ParseError, ProgramSection, ParseMode, Relocation, Section};
+pub use ebpf_parts::{EbpfSectionKind, ParseError, ParseMode, ProgramSection, Relocation, Section};

@@ -8,8 +8,8 @@ ghost use Rattle.ebpf_parts.specs.Memory.{is_parse_memory};
 
 use ebpf_base::{ByIndex, ByKey, ByName, ByOffset, BySection, Items};
 use ebpf_btf::{Btf, Endianness};
-use ebpf_elf::SectionIndex;
 use ebpf_btf_ext::BtfExt;
+use ebpf_elf::SectionIndex;
 use ebpf_model::{ExternDesc, Function, Program, Symbol};
 use ebpf_parsing::FileContents;
 use ebpf_parts::maps::Map;

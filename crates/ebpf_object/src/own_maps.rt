@@ -53,7 +53,8 @@ impl Object {
 /// names have that one.
 #[tactic(auto, using(crate::proofs::Staging::one_with_descriptor, ebpf_base::proofs::Lists::rest_none))]
 pub fn numbered_descriptors(alloc: Global, names: &[Text]) -> Result<Vec<(&str, i32)>, AllocError>
-    ensures { IfOk result (λ named. map descriptor_of named.items ≡ numbered_descriptors (pos 0) names.now) }
+    ensures { IfOk result (λ named.
+        map descriptor_of named.items ≡ numbered_descriptors (pos 0) names.now) }
 {
     let mut numbered = Vec::with_capacity(alloc, names.len())?;
     let mut descriptor: i32 = 0;
@@ -71,7 +72,8 @@ fn own_maps<'a>(
     maps: &'a ByName<Map>,
     descriptors: &[(&'a str, i32)],
 ) -> Result<Vec<MapWithFd<'a>>, AllocError>
-    ensures { IfOk result (λ own. map given_map own.items ≡ own_maps maps.now (map descriptor_of descriptors.now)) }
+    ensures { IfOk result (λ own.
+        map given_map own.items ≡ own_maps maps.now (map descriptor_of descriptors.now)) }
 {
     let mut own = Vec::with_capacity(alloc, descriptors.len())?;
     for (name, descriptor) in descriptors {
@@ -89,9 +91,19 @@ fn relocate_listed(
     maps: Vec<MapWithFd<'_>>,
     text_sections: &HashSet<usize>,
 ) -> Result<(), EbpfRelocationError>
-    ensures ok { OnOk result (object.new ≡ with_maps object.old (text_sections_in text_sections.now) (map given_map maps.entry.items)) }
-    ensures sound { OnOk result (maps_fault object.old (text_sections_in text_sections.now) (map given_map maps.entry.items) ≡ None) }
-    ensures fault { IfErr result (λ e. MatchBool (is_memory_at e) (e ≡ out_of_memory) (maps_fault object.old (text_sections_in text_sections.now) (map given_map maps.entry.items) ≡ Some e)) }
+    ensures ok { OnOk result
+        (object.new
+        ≡ with_maps object.old (text_sections_in text_sections.now)
+        (map given_map maps.entry.items)) }
+    ensures sound { OnOk result
+        (maps_fault object.old (text_sections_in text_sections.now)
+        (map given_map maps.entry.items)
+        ≡ None) }
+    ensures fault { IfErr result (λ e.
+        MatchBool (is_memory_at e) (e ≡ out_of_memory)
+        (maps_fault object.old (text_sections_in text_sections.now)
+        (map given_map maps.entry.items)
+        ≡ Some e)) }
     ensures unchanged { OnErr result (object.new ≡ object.old) }
 {
     object.relocate_maps(maps.into_iter(), text_sections)
@@ -105,9 +117,20 @@ fn relocate_some(
     maps: &ByName<Map>,
     descriptors: &[(&str, i32)],
 ) -> Result<(), PrepareError>
-    ensures ok { OnOk result (object.new ≡ with_maps object.old (has_function_in object.old.functions) (own_maps maps.now (map descriptor_of descriptors.now))) }
-    ensures sound { OnOk result (maps_fault object.old (has_function_in object.old.functions) (own_maps maps.now (map descriptor_of descriptors.now)) ≡ None) }
-    ensures fault { IfErr result (RefusesPreparing (Wrapped Maps (λ e. maps_fault object.old (has_function_in object.old.functions) (own_maps maps.now (map descriptor_of descriptors.now)) ≡ Some e))) }
+    ensures ok { OnOk result
+        (object.new
+        ≡ with_maps object.old (has_function_in object.old.functions)
+        (own_maps maps.now (map descriptor_of descriptors.now))) }
+    ensures sound { OnOk result
+        (maps_fault object.old (has_function_in object.old.functions)
+        (own_maps maps.now (map descriptor_of descriptors.now))
+        ≡ None) }
+    ensures fault { IfErr result
+        (RefusesPreparing
+        (Wrapped Maps (λ e.
+        maps_fault object.old (has_function_in object.old.functions)
+        (own_maps maps.now (map descriptor_of descriptors.now))
+        ≡ Some e))) }
     ensures unchanged { OnErr result (object.new ≡ object.old) }
 {
     let own = own_maps(alloc, maps, descriptors)?;
@@ -130,9 +153,14 @@ pub fn relocate_own_maps(
     object: &mut Object,
     descriptors: &[(&str, i32)],
 ) -> Result<(), PrepareError>
-    ensures ok { OnOk result (object.new ≡ fds_written (Some (map descriptor_of descriptors.now)) object.old) }
-    ensures sound { OnOk result (fds_fault (Some (map descriptor_of descriptors.now)) object.old ≡ None) }
-    ensures fault { IfErr result (RefusesPreparing (Wrapped Maps (λ e. fds_fault (Some (map descriptor_of descriptors.now)) object.old ≡ Some e))) }
+    ensures ok { OnOk result
+        (object.new ≡ fds_written (Some (map descriptor_of descriptors.now)) object.old) }
+    ensures sound { OnOk result
+        (fds_fault (Some (map descriptor_of descriptors.now)) object.old ≡ None) }
+    ensures fault { IfErr result
+        (RefusesPreparing
+        (Wrapped Maps (λ e.
+        fds_fault (Some (map descriptor_of descriptors.now)) object.old ≡ Some e))) }
     ensures unchanged { OnErr result (object.new ≡ object.old) }
 {
     let maps = mem::replace(&mut object.maps, ByName::new(alloc));

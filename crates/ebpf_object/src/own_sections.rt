@@ -19,8 +19,13 @@ impl Object {
     ///
     /// Those of `relocate_calls`. After a refusal the object is as it was.
     pub fn relocate_own_calls(&mut self) -> Result<(), EbpfRelocationError>
-        ensures functions { OnOk result (ProgramsAreLinked (linkable_of self.old (has_function_in self.old.functions)) (programs_in_order self.old.programs) self.new.functions) }
-        ensures fault { IfErr result (λ e. MatchBool (is_memory_at e) ⊤ (IsFirstRefusal (linkable_of self.old (has_function_in self.old.functions)) (programs_in_order self.old.programs) e)) }
+        ensures functions { OnOk result
+            (ProgramsAreLinked (linkable_of self.old (has_function_in self.old.functions))
+            (programs_in_order self.old.programs) self.new.functions) }
+        ensures fault { IfErr result (λ e.
+            MatchBool (is_memory_at e) ⊤
+            (IsFirstRefusal (linkable_of self.old (has_function_in self.old.functions))
+            (programs_in_order self.old.programs) e)) }
         ensures memory { IfErr result NamesNoneForMemory }
         ensures others_stay { self.new ≡ record self.old { functions = self.new.functions } }
         ensures unchanged { OnErr result (self.new ≡ self.old) }
@@ -39,7 +44,9 @@ impl Object {
     ///
     /// Those of `link_map`.
     pub fn own_link_map(&self, name: &str) -> Result<Option<LinkMap>, EbpfRelocationError>
-        ensures program { MatchOption (map.get self.now.programs name.now) (result ≡ Ok None) (λ p. MapsProgram (linkable_of self.now (has_function_in self.now.functions)) (program_value name.now p) result) }
+        ensures program { MatchOption (map.get self.now.programs name.now) (result ≡ Ok None) (λ p.
+            MapsProgram (linkable_of self.now (has_function_in self.now.functions))
+            (program_value name.now p) result) }
         ensures memory { IfErr result NamesNoneForMemory }
     {
         if !self.programs.contains_key(name) {

@@ -47,7 +47,8 @@ fn run_all<K: SymbolSource>(
 ) -> Result<Object, PrepareError>
     ensures stages { IfOk result (Stages (chosen steps.now) (K.source kallsyms) object) }
     ensures others_stay { IfOk result (KeepsOthers object) }
-    ensures fault { IfErr result (RefusesPreparing (IsStageFault (chosen steps.now) (K.source kallsyms) object)) }
+    ensures fault { IfErr result
+        (RefusesPreparing (IsStageFault (chosen steps.now) (K.source kallsyms) object)) }
 {
     let mut prepared = object;
     match run_stages(alloc, &mut prepared, steps, kallsyms) {
@@ -69,10 +70,17 @@ pub fn prepare_object<K: SymbolSource>(
     kallsyms: K,
 ) -> Result<Object, PrepareError>
     ensures stages { IfOk result (Stages (chosen steps.now) (K.source kallsyms) object) }
-    ensures headline { (mode : ParseMode) (file : List ℕ) → IsParsed mode file object → IfOk result (Headline (chosen steps.now) (K.source kallsyms) mode file) }
+    ensures headline { (mode : ParseMode) (file : List ℕ)
+        → IsParsed mode file object
+        → IfOk result (Headline (chosen steps.now) (K.source kallsyms) mode file) }
     ensures others_stay { IfOk result (KeepsOthers object) }
-    ensures fault { IfErr result (RefusesPreparing (IsStageFault (chosen steps.now) (K.source kallsyms) object)) }
-    ensures first_fault { (mode : ParseMode) (file : List ℕ) → IsParsed mode file object → IfErr result (RefusesPreparing (IsFirstPrepareFault (chosen steps.now) (K.source kallsyms) mode file)) }
+    ensures fault { IfErr result
+        (RefusesPreparing (IsStageFault (chosen steps.now) (K.source kallsyms) object)) }
+    ensures first_fault { (mode : ParseMode) (file : List ℕ)
+        → IsParsed mode file object
+        → IfErr result
+        (RefusesPreparing
+        (IsFirstPrepareFault (chosen steps.now) (K.source kallsyms) mode file)) }
 {
     run_all(alloc, object, steps, kallsyms)
 }
@@ -90,10 +98,17 @@ pub fn prepare_copy<K: SymbolSource>(
     kallsyms: K,
 ) -> Result<Object, PrepareError>
     ensures stages { IfOk result (Stages (chosen steps.now) (K.source kallsyms) object.now) }
-    ensures headline { (mode : ParseMode) (file : List ℕ) → IsParsed mode file object.now → IfOk result (Headline (chosen steps.now) (K.source kallsyms) mode file) }
+    ensures headline { (mode : ParseMode) (file : List ℕ)
+        → IsParsed mode file object.now
+        → IfOk result (Headline (chosen steps.now) (K.source kallsyms) mode file) }
     ensures others_stay { IfOk result (KeepsOthers object.now) }
-    ensures fault { IfErr result (RefusesPreparing (IsStageFault (chosen steps.now) (K.source kallsyms) object.now)) }
-    ensures first_fault { (mode : ParseMode) (file : List ℕ) → IsParsed mode file object.now → IfErr result (RefusesPreparing (IsFirstPrepareFault (chosen steps.now) (K.source kallsyms) mode file)) }
+    ensures fault { IfErr result
+        (RefusesPreparing (IsStageFault (chosen steps.now) (K.source kallsyms) object.now)) }
+    ensures first_fault { (mode : ParseMode) (file : List ℕ)
+        → IsParsed mode file object.now
+        → IfErr result
+        (RefusesPreparing
+        (IsFirstPrepareFault (chosen steps.now) (K.source kallsyms) mode file)) }
 {
     let Ok(copy) = object.clone() else {
         return Err(PrepareError::OutOfMemory);
@@ -113,11 +128,19 @@ pub fn prepare_in_place<K: SymbolSource>(
     steps: &Steps<'_>,
     kallsyms: K,
 ) -> Result<(), PrepareError>
-    ensures stages { OnOk result (Stages (chosen steps.now) (K.source kallsyms) object.old object.new) }
-    ensures headline { (mode : ParseMode) (file : List ℕ) → IsParsed mode file object.old → OnOk result (Headline (chosen steps.now) (K.source kallsyms) mode file object.new) }
+    ensures stages { OnOk result
+        (Stages (chosen steps.now) (K.source kallsyms) object.old object.new) }
+    ensures headline { (mode : ParseMode) (file : List ℕ)
+        → IsParsed mode file object.old
+        → OnOk result (Headline (chosen steps.now) (K.source kallsyms) mode file object.new) }
     ensures others_stay { KeepsOthers object.old object.new }
-    ensures fault { IfErr result (RefusesPreparing (IsStageFault (chosen steps.now) (K.source kallsyms) object.old)) }
-    ensures first_fault { (mode : ParseMode) (file : List ℕ) → IsParsed mode file object.old → IfErr result (RefusesPreparing (IsFirstPrepareFault (chosen steps.now) (K.source kallsyms) mode file)) }
+    ensures fault { IfErr result
+        (RefusesPreparing (IsStageFault (chosen steps.now) (K.source kallsyms) object.old)) }
+    ensures first_fault { (mode : ParseMode) (file : List ℕ)
+        → IsParsed mode file object.old
+        → IfErr result
+        (RefusesPreparing
+        (IsFirstPrepareFault (chosen steps.now) (K.source kallsyms) mode file)) }
     ensures unchanged { OnErr result (object.new ≡ object.old) }
 {
     let Ok(functions) = copy_keys(&object.functions) else {
@@ -153,9 +176,12 @@ pub fn prepare<K: SymbolSource>(
     steps: &Steps<'_>,
     kallsyms: K,
 ) -> Result<Object, PrepareError>
-    ensures headline { IfOk result (Headline (chosen steps.now) (K.source kallsyms) Strict bytes.now) }
+    ensures headline { IfOk result
+        (Headline (chosen steps.now) (K.source kallsyms) Strict bytes.now) }
     ensures others_stay { IfOk result (λ o. KeepsOthers (object_of bytes.now) o) }
-    ensures fault { IfErr result (RefusesPreparing (IsFirstPrepareFault (chosen steps.now) (K.source kallsyms) Strict bytes.now)) }
+    ensures fault { IfErr result
+        (RefusesPreparing
+        (IsFirstPrepareFault (chosen steps.now) (K.source kallsyms) Strict bytes.now)) }
 {
     match Object::parse(alloc, bytes) {
         Ok(object) => prepare_object(alloc, object, steps, kallsyms),

@@ -33,7 +33,8 @@ fn typed_among(externs: &BTreeMap<String, ExternDesc>) -> bool
 
 /// As `typed_among`, of the externs that may not stay unresolved.
 fn strong_typed_among(externs: &BTreeMap<String, ExternDesc>) -> bool
-    ensures found { result ≡ list_any (λ x. x.is_typed && not x.is_weak) (values_of externs.now.entries) }
+    ensures found { result
+        ≡ list_any (λ x. x.is_typed && not x.is_weak) (values_of externs.now.entries) }
     ensures rising { IsStrictlySortedBy string_cmp (keys_of externs.now.entries) }
 {
     externs.values().any(|x| x.is_typed && !x.is_weak)
@@ -100,7 +101,8 @@ pub fn section_name<'a>(file: &ElfFile<'a>, index: usize) -> Option<&'a str>
 impl Object {
     /// The indices of the sections that functions stand in, by their keys. `Err` only where memory was refused.
     pub fn text_sections(&self, alloc: Global) -> Result<HashSet<usize>, AllocError>
-        ensures { IfOk result (λ sections. text_sections_in sections ≡ has_function_in self.now.functions) }
+        ensures { IfOk result (λ sections.
+            text_sections_in sections ≡ has_function_in self.now.functions) }
     {
         let mut sections = HashSet::new(alloc);
         for (key, _) in self.functions.iter() {
@@ -112,7 +114,9 @@ impl Object {
     /// Whether the file has a section `license`, and so states the license. Else `license` is the default `GPL`.
     pub fn states_license(&self) -> bool
         ensures named { result ≡ map.contains_key self.now.section_infos (codes "license") }
-        ensures stated { (mode : ParseMode) (file : List ℕ) → IsParsed mode file self.now → result ≡ is_some (first_section_named (codes "license") file) }
+        ensures stated { (mode : ParseMode) (file : List ℕ)
+            → IsParsed mode file self.now
+            → result ≡ is_some (first_section_named (codes "license") file) }
     {
         self.section_infos.contains_key("license")
     }

@@ -44,7 +44,8 @@ fn programs_named<'a>(
     programs: &'a ByName<Program>,
     names: &[&'a str],
 ) -> Result<Vec<ProgramKey<'a>>, AllocError>
-    ensures { IfOk result (λ keys. keys.items ≡ flat_map (program_with programs.now) (lent_bytes names.now)) }
+    ensures { IfOk result (λ keys.
+        keys.items ≡ flat_map (program_with programs.now) (lent_bytes names.now)) }
 {
     let mut keys = Vec::with_capacity(alloc, names.len())?;
     for name in names {
@@ -67,14 +68,19 @@ pub fn programs_in_order<'a>(
 
 /// Puts a function in the place of the one at a key.
 fn take_place(functions: &mut ByKey<Function>, key: (usize, u64), function: Function)
-    ensures { (q : FunctionKey) → map.get functions.new q ≡ (if eq_by_cmp key_cmp q key then replaced (map.get functions.old q) (Some function) else map.get functions.old q) }
+    ensures { (q : FunctionKey)
+        → map.get functions.new q
+        ≡ (if eq_by_cmp key_cmp q key
+        then replaced (map.get functions.old q) (Some function)
+        else map.get functions.old q) }
 {
     let _before = functions.replace(key, function);
 }
 
 /// Puts functions in the places of those at their keys. One whose key has no function is dropped. No memory is taken.
 pub fn take_places(functions: &mut ByKey<Function>, linked: ByKey<Function>)
-    ensures { (q : FunctionKey) → map.get functions.new q ≡ replaced (map.get functions.old q) (map.get linked q) }
+    ensures { (q : FunctionKey)
+        → map.get functions.new q ≡ replaced (map.get functions.old q) (map.get linked q) }
 {
     for (key, function) in linked.into_map() {
         take_place(functions, key, function);
@@ -87,8 +93,13 @@ impl Object {
         &self,
         text_sections: &HashSet<usize>,
     ) -> Result<ByKey<Function>, EbpfRelocationError>
-        ensures linked { IfOk result (λ linked. AreLinked (linkable_of self.now (text_sections_in text_sections.now)) (programs_in_order self.now.programs) linked) }
-        ensures fault { IfErr result (λ e. MatchBool (is_memory_at e) ⊤ (IsFirstRefusal (linkable_of self.now (text_sections_in text_sections.now)) (programs_in_order self.now.programs) e)) }
+        ensures linked { IfOk result (λ linked.
+            AreLinked (linkable_of self.now (text_sections_in text_sections.now))
+            (programs_in_order self.now.programs) linked) }
+        ensures fault { IfErr result (λ e.
+            MatchBool (is_memory_at e) ⊤
+            (IsFirstRefusal (linkable_of self.now (text_sections_in text_sections.now))
+            (programs_in_order self.now.programs) e)) }
         ensures memory { IfErr result NamesNoneForMemory }
     {
         let alloc = self.allocator();
@@ -120,8 +131,13 @@ impl Object {
         &mut self,
         text_sections: &HashSet<usize>,
     ) -> Result<(), EbpfRelocationError>
-        ensures functions { OnOk result (ProgramsAreLinked (linkable_of self.old (text_sections_in text_sections.now)) (programs_in_order self.old.programs) self.new.functions) }
-        ensures fault { IfErr result (λ e. MatchBool (is_memory_at e) ⊤ (IsFirstRefusal (linkable_of self.old (text_sections_in text_sections.now)) (programs_in_order self.old.programs) e)) }
+        ensures functions { OnOk result
+            (ProgramsAreLinked (linkable_of self.old (text_sections_in text_sections.now))
+            (programs_in_order self.old.programs) self.new.functions) }
+        ensures fault { IfErr result (λ e.
+            MatchBool (is_memory_at e) ⊤
+            (IsFirstRefusal (linkable_of self.old (text_sections_in text_sections.now))
+            (programs_in_order self.old.programs) e)) }
         ensures memory { IfErr result NamesNoneForMemory }
         ensures others_stay { self.new ≡ record self.old { functions = self.new.functions } }
         ensures unchanged { OnErr result (self.new ≡ self.old) }

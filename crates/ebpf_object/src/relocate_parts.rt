@@ -23,7 +23,9 @@ impl Object {
     /// The slots of the functions that its CO-RE relocations write, by the functions' keys.
     fn relocated_slots(&self, target: &Btf) -> Result<ByKey<Items<bpf_insn>>, BtfRelocationError>
         ensures slots { IfOk result (λ slots. relocated_slots self.now target.now ≡ Ok slots) }
-        ensures fault { IfErr result (λ e. MatchBool (is_memory_in_section e) (e.section ≡ []) (relocated_slots self.now target.now ≡ Err (without_texts_at e))) }
+        ensures fault { IfErr result (λ e.
+            MatchBool (is_memory_in_section e) (e.section ≡ [])
+            (relocated_slots self.now target.now ≡ Err (without_texts_at e))) }
     {
         let alloc = self.allocator();
         let (Some(local), Some(relocations)) = (&self.btf, &self.btf_ext) else {
@@ -53,8 +55,11 @@ impl Object {
     /// the slot can't carry what was found. `OutOfMemory`, with an empty name, only where memory was refused. After a
     /// refusal the object is as it was.
     pub fn relocate_btf(&mut self, target: &Btf) -> Result<(), BtfRelocationError>
-        ensures functions { OnOk result (AreRelocatedToTypes self.old target.now self.new.functions) }
-        ensures fault { IfErr result (λ e. MatchBool (is_memory_in_section e) (e.section ≡ []) (relocated_slots self.old target.now ≡ Err (without_texts_at e))) }
+        ensures functions { OnOk result
+            (AreRelocatedToTypes self.old target.now self.new.functions) }
+        ensures fault { IfErr result (λ e.
+            MatchBool (is_memory_in_section e) (e.section ≡ [])
+            (relocated_slots self.old target.now ≡ Err (without_texts_at e))) }
         ensures others_stay { self.new ≡ record self.old { functions = self.new.functions } }
         ensures unchanged { OnErr result (self.new ≡ self.old) }
     {
@@ -92,8 +97,15 @@ impl Object {
     ) -> Result<(), EbpfRelocationError>
         requires can { I.can_next maps }
         requires ends { IsFinite (I.remaining maps) }
-        ensures ok { OnOk result (HoldsOfGivenMaps I.next_gives maps (λ given. (self.new ≡ with_maps self.old (text_sections_in text_sections.now) given) × (maps_fault self.old (text_sections_in text_sections.now) given ≡ None))) }
-        ensures fault { IfErr result (λ e. MatchBool (is_memory_at e) (e ≡ out_of_memory) (HoldsOfGivenMaps I.next_gives maps (λ given. maps_fault self.old (text_sections_in text_sections.now) given ≡ Some e))) }
+        ensures ok { OnOk result
+            (HoldsOfGivenMaps I.next_gives maps (λ given.
+            (self.new ≡ with_maps self.old (text_sections_in text_sections.now) given)
+            × (maps_fault self.old (text_sections_in text_sections.now) given ≡ None))) }
+        ensures fault { IfErr result (λ e.
+            MatchBool (is_memory_at e) (e ≡ out_of_memory)
+            (HoldsOfGivenMaps I.next_gives maps (λ given.
+            maps_fault self.old (text_sections_in text_sections.now) given
+            ≡ Some e))) }
         ensures others_stay { self.new ≡ record self.old { functions = self.new.functions } }
         ensures err { OnErr result (self.new ≡ self.old) }
     {

@@ -36,8 +36,13 @@ impl Object {
     ) -> Result<(), KsymsError>
         requires can { I.can_next lines }
         requires ends { IsFinite (I.remaining lines) }
-        ensures ok { OnOk result (IsResolved I.next_gives lines self.old.btf (option_copied kernel_btf.entry) self.old.externs self.new.externs) }
-        ensures fault { IfErr result (λ e. MatchBool (is_ksyms_memory e) ⊤ (IsResolutionFault I.next_gives lines self.old.btf (option_copied kernel_btf.entry) self.old.externs e)) }
+        ensures ok { OnOk result
+            (IsResolved I.next_gives lines self.old.btf (option_copied kernel_btf.entry)
+            self.old.externs self.new.externs) }
+        ensures fault { IfErr result (λ e.
+            MatchBool (is_ksyms_memory e) ⊤
+            (IsResolutionFault I.next_gives lines self.old.btf
+            (option_copied kernel_btf.entry) self.old.externs e)) }
         ensures others_stay { self.new ≡ record self.old { externs = self.new.externs } }
         ensures unchanged { OnErr result (self.new ≡ self.old) }
     {
@@ -57,8 +62,13 @@ impl Object {
         kernel_btf: Option<&Btf>,
         symbols: S,
     ) -> Result<(), KsymsError>
-        ensures ok { OnOk result (IsResolvedFrom (S.source symbols) self.old.btf (option_copied kernel_btf.entry) self.old.externs self.new.externs) }
-        ensures fault { IfErr result (λ e. MatchBool (is_ksyms_memory e) ⊤ (IsRefusedFrom (S.source symbols) self.old.btf (option_copied kernel_btf.entry) self.old.externs e)) }
+        ensures ok { OnOk result
+            (IsResolvedFrom (S.source symbols) self.old.btf (option_copied kernel_btf.entry)
+            self.old.externs self.new.externs) }
+        ensures fault { IfErr result (λ e.
+            MatchBool (is_ksyms_memory e) ⊤
+            (IsRefusedFrom (S.source symbols) self.old.btf (option_copied kernel_btf.entry)
+            self.old.externs e)) }
         ensures others_stay { self.new ≡ record self.old { externs = self.new.externs } }
         ensures unchanged { OnErr result (self.new ≡ self.old) }
     {
@@ -80,8 +90,13 @@ impl Object {
         kernel_btf: Option<&Btf>,
         kallsyms: R,
     ) -> Result<(), KsymsError>
-        ensures ok { OnOk result (IsResolvedIn (R.remaining kallsyms) self.old.btf (option_copied kernel_btf.entry) self.old.externs self.new.externs) }
-        ensures fault { IfErr result (λ e. MatchBool (is_ksyms_memory e) ⊤ (IsRefusedIn (R.remaining kallsyms) self.old.btf (option_copied kernel_btf.entry) self.old.externs e)) }
+        ensures ok { OnOk result
+            (IsResolvedIn (R.remaining kallsyms) self.old.btf (option_copied kernel_btf.entry)
+            self.old.externs self.new.externs) }
+        ensures fault { IfErr result (λ e.
+            MatchBool (is_ksyms_memory e) ⊤
+            (IsRefusedIn (R.remaining kallsyms) self.old.btf
+            (option_copied kernel_btf.entry) self.old.externs e)) }
         ensures others_stay { self.new ≡ record self.old { externs = self.new.externs } }
         ensures unchanged { OnErr result (self.new ≡ self.old) }
     {
@@ -92,8 +107,13 @@ impl Object {
     /// those of a reader. It is refused exactly where there is a fault: `KallsymsAccessError` is that of the first line
     /// that is not UTF-8, where lines are wanted, of kind `InvalidData`.
     pub fn resolve_text(&mut self, kernel_btf: Option<&Btf>, text: &[u8]) -> Result<(), KsymsError>
-        ensures ok { OnOk result (IsResolvedBy text.now self.old.btf (option_copied kernel_btf.entry) self.old.externs self.new.externs) }
-        ensures fault { IfErr result (λ e. MatchBool (is_ksyms_memory e) ⊤ (IsRefusedBy text.now self.old.btf (option_copied kernel_btf.entry) self.old.externs e)) }
+        ensures ok { OnOk result
+            (IsResolvedBy text.now self.old.btf (option_copied kernel_btf.entry)
+            self.old.externs self.new.externs) }
+        ensures fault { IfErr result (λ e.
+            MatchBool (is_ksyms_memory e) ⊤
+            (IsRefusedBy text.now self.old.btf (option_copied kernel_btf.entry)
+            self.old.externs e)) }
         ensures others_stay { self.new ≡ record self.old { externs = self.new.externs } }
         ensures unchanged { OnErr result (self.new ≡ self.old) }
     {

@@ -78,7 +78,9 @@ fn write_function(function: &mut Function)
 /// Writes the helper functions that every kernel has into each function, without memory.
 #[tactic(auto, using(crate::proofs::Sanitizing::older_functions))]
 fn write_each(functions: &mut ByKey<Function>)
-    ensures { (key : FunctionKey) → finite.get functions.new key ≡ option_map (sanitized false) (finite.get functions.old key) }
+    ensures { (key : FunctionKey)
+        → finite.get functions.new key
+        ≡ option_map (sanitized false) (finite.get functions.old key) }
 {
     functions.write_values(|function| write_function(function));
 }

@@ -31,8 +31,14 @@ fn add<'a>(
     name: &str,
     patches: Vec<Patch<'a>>,
 ) -> Result<Vec<Patch<'a>>, ParseError>
-    ensures patches { IfOk result (λ all. map value_of all.items ≡ map value_of patches.entry.items ++ patches_at lookup.now.symbols.now lookup.now.maps.now name.now (finite.get (globals_of globals.now.entries) name.now)) }
-    ensures fault { Refuses is_parse_memory result (patch_fault_at lookup.now.symbols.now lookup.now.maps.now name.now (finite.get (globals_of globals.now.entries) name.now)) }
+    ensures patches { IfOk result (λ all.
+        map value_of all.items
+        ≡ map value_of patches.entry.items
+        ++ patches_at lookup.now.symbols.now lookup.now.maps.now name.now
+        (finite.get (globals_of globals.now.entries) name.now)) }
+    ensures fault { Refuses is_parse_memory result
+        (patch_fault_at lookup.now.symbols.now lookup.now.maps.now name.now
+        (finite.get (globals_of globals.now.entries) name.now)) }
 {
     let mut patches = patches;
     let Some((bytes, must_exist)) = value_at(globals, name) else {
@@ -55,8 +61,19 @@ fn add_all<'a>(
     globals: &HashMap<&str, (&'a [u8], bool)>,
     names: &[&str],
 ) -> Result<Vec<Patch<'a>>, ParseError>
-    ensures patches { IfOk result (λ all. map value_of all.items ≡ flat_map (λ name. patches_at lookup.now.symbols.now lookup.now.maps.now name (finite.get (globals_of globals.now.entries) name)) (lent_bytes names.now)) }
-    ensures fault { Refuses is_parse_memory result (first_some (λ name. patch_fault_at lookup.now.symbols.now lookup.now.maps.now name (finite.get (globals_of globals.now.entries) name)) (lent_bytes names.now)) }
+    ensures patches { IfOk result (λ all.
+        map value_of all.items
+        ≡ flat_map
+        (λ name.
+        patches_at lookup.now.symbols.now lookup.now.maps.now name
+        (finite.get (globals_of globals.now.entries) name))
+        (lent_bytes names.now)) }
+    ensures fault { Refuses is_parse_memory result
+        (first_some
+        (λ name.
+        patch_fault_at lookup.now.symbols.now lookup.now.maps.now name
+        (finite.get (globals_of globals.now.entries) name))
+        (lent_bytes names.now)) }
 {
     let mut patches = Vec::new(alloc);
     for name in names {
@@ -74,8 +91,12 @@ impl Object {
         &self,
         globals: &HashMap<&str, (&'a [u8], bool)>,
     ) -> Result<Vec<Patch<'a>>, ParseError>
-        ensures patches { IfOk result (λ all. map value_of all.items ≡ patches_of self.now.symbol_table self.now.maps (globals_of globals.now.entries)) }
-        ensures fault { Refuses is_parse_memory result (patches_fault self.now.symbol_table self.now.maps (globals_of globals.now.entries)) }
+        ensures patches { IfOk result (λ all.
+            map value_of all.items
+            ≡ patches_of self.now.symbol_table self.now.maps (globals_of globals.now.entries)) }
+        ensures fault { Refuses is_parse_memory result
+            (patches_fault self.now.symbol_table self.now.maps
+            (globals_of globals.now.entries)) }
     {
         let alloc = self.allocator();
         let Ok(names) = names_of(alloc, globals) else {
@@ -111,8 +132,14 @@ impl Object {
         &mut self,
         globals: HashMap<&str, (&[u8], bool)>,
     ) -> Result<(), ParseError>
-        ensures maps { OnOk result (self.new.maps ≡ all_patched self.old.maps (patches_of self.old.symbol_table self.old.maps (globals_of globals.entry.entries))) }
-        ensures fault { Refuses is_parse_memory result (patches_fault self.old.symbol_table self.old.maps (globals_of globals.entry.entries)) }
+        ensures maps { OnOk result
+            (self.new.maps
+            ≡ all_patched self.old.maps
+            (patches_of self.old.symbol_table self.old.maps
+            (globals_of globals.entry.entries))) }
+        ensures fault { Refuses is_parse_memory result
+            (patches_fault self.old.symbol_table self.old.maps
+            (globals_of globals.entry.entries)) }
         ensures others_stay { self.new ≡ record self.old { maps = self.new.maps } }
         ensures unchanged { OnErr result (self.new ≡ self.old) }
     {

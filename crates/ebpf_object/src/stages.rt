@@ -19,7 +19,9 @@ use std::alloc::Global;
 #[tactic(auto, using(crate::proofs::Staging::wrapped))]
 fn relocate_types(object: &mut Object, target: Option<&Btf>) -> Result<(), PrepareError>
     ensures ok { OnOk result (RelocatesTypes (option_copied target.entry) object.old object.new) }
-    ensures fault { IfErr result (RefusesPreparing (Wrapped Types (TypesFault (option_copied target.entry) object.old))) }
+    ensures fault { IfErr result
+        (RefusesPreparing
+        (Wrapped Types (TypesFault (option_copied target.entry) object.old))) }
     ensures others_stay { KeepsOthers object.old object.new }
 {
     let Some(target) = target else {
@@ -37,9 +39,13 @@ fn write_map_fds(
     object: &mut Object,
     descriptors: Option<&[(&str, i32)]>,
 ) -> Result<(), PrepareError>
-    ensures ok { OnOk result (object.new ≡ fds_written (descriptors_of descriptors.entry) object.old) }
+    ensures ok { OnOk result
+        (object.new ≡ fds_written (descriptors_of descriptors.entry) object.old) }
     ensures sound { OnOk result (fds_fault (descriptors_of descriptors.entry) object.old ≡ None) }
-    ensures fault { IfErr result (RefusesPreparing (Wrapped Maps (λ e. fds_fault (descriptors_of descriptors.entry) object.old ≡ Some e))) }
+    ensures fault { IfErr result
+        (RefusesPreparing
+        (Wrapped Maps (λ e.
+        fds_fault (descriptors_of descriptors.entry) object.old ≡ Some e))) }
     ensures others_stay { KeepsOthers object.old object.new }
 {
     let Some(descriptors) = descriptors else {
@@ -55,8 +61,14 @@ fn resolve<K: SymbolSource>(
     kernel: Option<Option<&Btf>>,
     kallsyms: K,
 ) -> Result<(), PrepareError>
-    ensures ok { OnOk result (Resolves (option_map option_copied kernel.entry) (K.source kallsyms) object.old object.new) }
-    ensures fault { IfErr result (RefusesPreparing (Wrapped Ksyms (ResolvingFault (option_map option_copied kernel.entry) (K.source kallsyms) object.old))) }
+    ensures ok { OnOk result
+        (Resolves (option_map option_copied kernel.entry) (K.source kallsyms) object.old
+        object.new) }
+    ensures fault { IfErr result
+        (RefusesPreparing
+        (Wrapped Ksyms
+        (ResolvingFault (option_map option_copied kernel.entry) (K.source kallsyms)
+        object.old))) }
     ensures others_stay { KeepsOthers object.old object.new }
 {
     let Some(kernel) = kernel else {
@@ -73,7 +85,10 @@ fn resolve<K: SymbolSource>(
 fn write_externs(object: &mut Object, kernel: Option<Option<&Btf>>) -> Result<(), PrepareError>
     ensures ok { OnOk result (object.new ≡ with_externs_if (is_some kernel.entry) object.old) }
     ensures sound { OnOk result (externs_fault_if (is_some kernel.entry) object.old ≡ None) }
-    ensures fault { IfErr result (RefusesPreparing (Wrapped Externs (λ e. externs_fault_if (is_some kernel.entry) object.old ≡ Some e))) }
+    ensures fault { IfErr result
+        (RefusesPreparing
+        (Wrapped Externs (λ e.
+        externs_fault_if (is_some kernel.entry) object.old ≡ Some e))) }
     ensures others_stay { KeepsOthers object.old object.new }
 {
     if kernel.is_none() {
@@ -89,7 +104,8 @@ fn write_externs(object: &mut Object, kernel: Option<Option<&Btf>>) -> Result<()
 #[tactic(auto, using(crate::proofs::Staging::wrapped))]
 fn link_programs(alloc: Global, object: &mut Object, calls: bool) -> Result<(), PrepareError>
     ensures ok { OnOk result (LinksPrograms calls object.old object.new) }
-    ensures fault { IfErr result (RefusesPreparing (Wrapped Calls (LinkingFault calls object.old))) }
+    ensures fault { IfErr result
+        (RefusesPreparing (Wrapped Calls (LinkingFault calls object.old))) }
     ensures others_stay { KeepsOthers object.old object.new }
 {
     if !calls {
@@ -111,7 +127,8 @@ pub fn run_stages<K: SymbolSource>(
 ) -> Result<(), PrepareError>
     ensures ok { OnOk result (Stages (chosen steps.now) (K.source kallsyms) object.old object.new) }
     ensures others_stay { KeepsOthers object.old object.new }
-    ensures fault { IfErr result (RefusesPreparing (IsStageFault (chosen steps.now) (K.source kallsyms) object.old)) }
+    ensures fault { IfErr result
+        (RefusesPreparing (IsStageFault (chosen steps.now) (K.source kallsyms) object.old)) }
 {
     relocate_types(object, steps.target_btf)?;
     write_map_fds(alloc, object, steps.map_fds)?;

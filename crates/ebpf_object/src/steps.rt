@@ -10,7 +10,14 @@ use ebpf_btf::Btf;
 impl<'a> Steps<'a> {
     /// No pass: the object stays as it was parsed.
     pub fn none() -> Steps<'a>
-        ensures { chosen result ≡ record { target = None; descriptors = None; kernel = None; externs = false; calls = false } }
+        ensures { chosen result
+            ≡ record {
+              target = None;
+              descriptors = None;
+              kernel = None;
+              externs = false;
+              calls = false;
+            } }
     {
         Steps {
             target_btf: None,
@@ -26,7 +33,14 @@ impl<'a> Steps<'a> {
     /// The maps pass refuses a slot only where no map of its section has one: else the slot gets the descriptor of another
     /// map of that section. A name that the object lacks is passed over.
     pub fn all(kernel: &'a Btf, descriptors: &'a [(&'a str, i32)]) -> Steps<'a>
-        ensures { chosen result ≡ record { target = Some kernel.now; descriptors = Some (map descriptor_of descriptors.now); kernel = Some (Some kernel.now); externs = true; calls = true } }
+        ensures { chosen result
+            ≡ record {
+              target = Some kernel.now;
+              descriptors = Some (map descriptor_of descriptors.now);
+              kernel = Some (Some kernel.now);
+              externs = true;
+              calls = true;
+            } }
     {
         Steps::all_with(Some(kernel), descriptors)
     }
@@ -34,7 +48,14 @@ impl<'a> Steps<'a> {
     /// All passes, as `all` says, but that functions are relocated to a kernel's types only where these are given, and that
     /// externs are resolved by its symbols alone where they aren't.
     pub fn all_with(kernel: Option<&'a Btf>, descriptors: &'a [(&'a str, i32)]) -> Steps<'a>
-        ensures { chosen result ≡ record { target = option_copied kernel.entry; descriptors = Some (map descriptor_of descriptors.now); kernel = Some (option_copied kernel.entry); externs = true; calls = true } }
+        ensures { chosen result
+            ≡ record {
+              target = option_copied kernel.entry;
+              descriptors = Some (map descriptor_of descriptors.now);
+              kernel = Some (option_copied kernel.entry);
+              externs = true;
+              calls = true;
+            } }
     {
         Steps {
             target_btf: kernel,
@@ -56,7 +77,9 @@ impl<'a> Steps<'a> {
 
     /// These steps, with descriptors of the object's maps, as `all` says.
     pub fn with_descriptors(self, descriptors: &'a [(&'a str, i32)]) -> Steps<'a>
-        ensures { chosen result ≡ record (chosen self.entry) { descriptors = Some (map descriptor_of descriptors.now) } }
+        ensures { chosen result
+            ≡ record (chosen self.entry)
+            { descriptors = Some (map descriptor_of descriptors.now) } }
     {
         let map_fds = Some(descriptors);
         Steps { map_fds, ..self }
@@ -64,7 +87,8 @@ impl<'a> Steps<'a> {
 
     /// These steps, with externs resolved by a kernel's types and symbols, and written.
     pub fn with_externs(self, kernel: &'a Btf) -> Steps<'a>
-        ensures { chosen result ≡ record (chosen self.entry) { kernel = Some (Some kernel.now); externs = true } }
+        ensures { chosen result
+            ≡ record (chosen self.entry) { kernel = Some (Some kernel.now); externs = true } }
     {
         Steps {
             externs: Some(Some(kernel)),
@@ -75,7 +99,8 @@ impl<'a> Steps<'a> {
     /// These steps, with externs resolved by a kernel's symbols alone, and written: for a kernel whose types aren't known.
     /// A strong extern whose type is to be compared is then refused.
     pub fn with_externs_by_symbols(self) -> Steps<'a>
-        ensures { chosen result ≡ record (chosen self.entry) { kernel = Some None; externs = true } }
+        ensures { chosen result
+            ≡ record (chosen self.entry) { kernel = Some None; externs = true } }
     {
         Steps {
             externs: Some(None),

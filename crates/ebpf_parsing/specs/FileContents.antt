@@ -1,5 +1,5 @@
--- What a file has: its tables, each put together from the sections in order, so that the later of two entries with one
--- key stands, and its first fault.
+-- What a file has: its tables, each put together from the sections in order, so that the later of
+-- two entries with one key stands, and its first fault.
 use Rattle.std.specs.FinMap.{FinMap, empty}
 use Rattle.std.specs.List.{flat_map}
 use Rattle.std.specs.Ordering.{nat_cmp}
@@ -22,13 +22,42 @@ use Rattle.ebpf_parts.specs.declared.error.ParseError.TheVariants.{ElfError}
 use Rattle.ebpf_parts.specs.declared.maps.either.Map.{Map}
 use Rattle.ebpf_parts.specs.declared.parse_mode.ParseMode.{ParseMode}
 use Rattle.ebpf_parts.specs.declared.parse_mode.ParseMode.TheVariants.{Strict}
-use Rattle.ebpf_parsing.specs.FileTypes.{types_of_file, externs_of, file_externs_fault, ext_of, type_info_names, file_types_fault}
-use Rattle.ebpf_parsing.specs.OfSection.{maps_in, programs_in, functions_in, relocations_in, fault_in}
+use Rattle.ebpf_parsing.specs.FileTypes.{
+  types_of_file,
+  externs_of,
+  file_externs_fault,
+  ext_of,
+  type_info_names,
+  file_types_fault,
+}
+use Rattle.ebpf_parsing.specs.OfSection.{
+  maps_in,
+  programs_in,
+  functions_in,
+  relocations_in,
+  fault_in,
+}
 use Rattle.ebpf_parsing.specs.declared.file_contents.FileContents.{FileContents}
 use Rattle.ebpf_parsing.specs.declared.object_tables.ObjectTables.{ObjectTables}
-use Rattle.ebpf_sections.specs.LicenseAndVersion.{license_as, license_fault_as, kernel_version_of, version_fault}
-use Rattle.ebpf_sections.specs.Sections.{section_info_entry, order_fault_as, other_sections, object_sections}
-use Rattle.ebpf_sections.specs.Symbols.{file_symbols, symbol_table, symbols_fault, SymbolValue, section_symbols}
+use Rattle.ebpf_sections.specs.LicenseAndVersion.{
+  license_as,
+  license_fault_as,
+  kernel_version_of,
+  version_fault,
+}
+use Rattle.ebpf_sections.specs.Sections.{
+  section_info_entry,
+  order_fault_as,
+  other_sections,
+  object_sections,
+}
+use Rattle.ebpf_sections.specs.Symbols.{
+  file_symbols,
+  symbol_table,
+  symbols_fault,
+  SymbolValue,
+  section_symbols,
+}
 use Rattle.ebpf_sections.specs.declared.metadata.FileMetadata.{FileMetadata}
 
 -- ---- the sections of an object: all but those of type information
@@ -43,13 +72,16 @@ own_symbols bytes s = symbols_at (file_symbols bytes) s
 -- ---- the entries of each table, in order
 
 unfoldable pub map_entries : ParseMode → Option TypeInfo → List ℕ → List (List ℕ × Map)
-map_entries mode types bytes = flat_map (λ s. maps_in mode types s (own_symbols bytes s)) (object_sections bytes)
+map_entries mode types bytes =
+    flat_map (λ s. maps_in mode types s (own_symbols bytes s)) (object_sections bytes)
 
 unfoldable pub program_entries : ParseMode → List ℕ → Option ℕ → List ℕ → List (List ℕ × Program)
-program_entries mode license version bytes = flat_map (λ s. programs_in mode license version s (own_symbols bytes s)) (object_sections bytes)
+program_entries mode license version bytes =
+    flat_map (λ s. programs_in mode license version s (own_symbols bytes s)) (object_sections bytes)
 
 unfoldable pub function_entries : Option ExtInfo → List ℕ → List (FunctionKey × Function)
-function_entries ext bytes = flat_map (λ s. functions_in ext s (own_symbols bytes s)) (object_sections bytes)
+function_entries ext bytes =
+    flat_map (λ s. functions_in ext s (own_symbols bytes s)) (object_sections bytes)
 
 unfoldable pub relocation_entries : List ℕ → List (ℕ × FinMap nat_cmp ElfRelocation)
 relocation_entries bytes = flat_map relocations_in (object_sections bytes)
@@ -63,7 +95,8 @@ unfoldable pub maps_as : ParseMode → List ℕ → FinMap text_cmp Map
 maps_as mode bytes = put_all empty (map_entries mode (types_of_file bytes) bytes)
 
 unfoldable pub programs_as : ParseMode → List ℕ → FinMap text_cmp Program
-programs_as mode bytes = put_all empty (program_entries mode (license_as mode bytes) (kernel_version_of bytes) bytes)
+programs_as mode bytes =
+    put_all empty (program_entries mode (license_as mode bytes) (kernel_version_of bytes) bytes)
 
 unfoldable pub functions : List ℕ → FinMap key_cmp Function
 functions bytes = put_all empty (function_entries (ext_of bytes) bytes)
@@ -117,13 +150,15 @@ contents_as mode bytes = record {
 
 -- of one section, beside the file's types
 abbrev pub read_fault : ParseMode → Option TypeInfo → List ℕ → SectionOf → Option ParseError
-read_fault mode types bytes s = or_else (section_fault s) (fault_in mode types (section_of s) (section_symbols (file_symbols bytes) s.index))
+read_fault mode types bytes s =
+    or_else (section_fault s)
+    (fault_in mode types (section_of s) (section_symbols (file_symbols bytes) s.index))
 
 unfoldable pub sections_fault : ParseMode → Option TypeInfo → List ℕ → Option ParseError
 sections_fault mode types bytes = first_some (read_fault mode types bytes) (other_sections bytes)
 
--- of a file, in the order of the steps: the file, code in the big-endian order, the license and the version, the
--- symbols, the type information, the externs, the sections
+-- of a file, in the order of the steps: the file, code in the big-endian order, the license and the
+-- version, the symbols, the type information, the externs, the sections
 abbrev pub parse_fault_as : ParseMode → List ℕ → Option ParseError
 parse_fault_as mode bytes =
     or_else (option_map ElfError (first_in (faults bytes)))

@@ -1,7 +1,22 @@
--- The type information of a file, its records on instructions, and its externs: its sections `.BTF` and `.BTF.ext`
--- (libbpf's names).
+-- The type information of a file, its records on instructions, and its externs: its sections `.BTF`
+-- and `.BTF.ext` (libbpf's names).
 use Rattle.std.specs.FinMap.{FinMap, empty}
-use Rattle.std.specs.Prelude.{ℕ, Bool, false, not, ◌==◌, length, List, [], Option, Some, None, Result, codes, option_map}
+use Rattle.std.specs.Prelude.{
+  ℕ,
+  Bool,
+  false,
+  not,
+  ◌==◌,
+  length,
+  List,
+  [],
+  Option,
+  Some,
+  None,
+  Result,
+  codes,
+  option_map,
+}
 use Rattle.std.specs.Result.{result_ok}
 use Rattle.ebpf_base.specs.Faults.{or_else, fault_of}
 use Rattle.ebpf_base.specs.Maps.{put_all, text_cmp}
@@ -21,8 +36,8 @@ use Rattle.ebpf_parts.specs.declared.error.ParseError.TheVariants.{BtfError}
 use Rattle.ebpf_sections.specs.Sections.{section_info_entry, first_section_named}
 use Rattle.ebpf_sections.specs.Symbols.{file_symbols, SymbolValue, weak_named}
 
--- ---- the type information of a file, and its records on instructions: its sections `.BTF` and `.BTF.ext` (libbpf's
--- names)
+-- ---- the type information of a file, and its records on instructions: its sections `.BTF` and
+-- `.BTF.ext` (libbpf's names)
 
 -- a section's index, by its name
 abbrev pub names_in : Option SectionOf → List (List ℕ × SectionIndex)
@@ -40,7 +55,8 @@ btf_in o (Some s) = result_ok (read_types o s)
 
 abbrev pub types_fault_in : Endianness → Option SectionOf → Option ParseError
 types_fault_in o None = None
-types_fault_in o (Some s) = or_else (section_fault s) (option_map BtfError (fault_of (read_types o s)))
+types_fault_in o (Some s) =
+    or_else (section_fault s) (option_map BtfError (fault_of (read_types o s)))
 
 -- ---- the records of `.BTF.ext`, their names in the strings of the types
 
@@ -53,7 +69,8 @@ ext_in o types (Some s) = result_ok (read_ext_section o types s)
 
 abbrev pub ext_fault_in : Endianness → TypeInfo → Option SectionOf → Option ParseError
 ext_fault_in o types None = None
-ext_fault_in o types (Some s) = or_else (section_fault s) (option_map BtfError (fault_of (read_ext_section o types s)))
+ext_fault_in o types (Some s) =
+    or_else (section_fault s) (option_map BtfError (fault_of (read_ext_section o types s)))
 
 -- ---- of a file: the first section of each name, `.BTF.ext` only beside types
 
@@ -115,7 +132,8 @@ externs_beside symbols (Some types) = externs types (weak_named symbols)
 
 abbrev pub externs_fault_beside : List SymbolValue → Option TypeInfo → Option ParseError
 externs_fault_beside symbols None = None
-externs_fault_beside symbols (Some types) = option_map BtfError (extern_declarations_fault types (weak_named symbols))
+externs_fault_beside symbols (Some types) =
+    option_map BtfError (extern_declarations_fault types (weak_named symbols))
 
 -- of a file: its types, with those that externs add
 unfoldable pub types_of_file : List ℕ → Option TypeInfo

@@ -2,7 +2,21 @@
 use Rattle.std.specs.FinMap.{FinMap, get}
 use Rattle.std.specs.List.{flat_map, find}
 use Rattle.std.specs.Ordering.{nat_cmp}
-use Rattle.std.specs.Prelude.{◌≡◌, ◌≢◌, ◌⊎◌, ℕ, false, List, Some, None, slice_get, ◌<◌, ◌^◌, length, ◌==◌}
+use Rattle.std.specs.Prelude.{
+  ◌≡◌,
+  ◌≢◌,
+  ◌⊎◌,
+  ℕ,
+  false,
+  List,
+  Some,
+  None,
+  slice_get,
+  ◌<◌,
+  ◌^◌,
+  length,
+  ◌==◌,
+}
 use Rattle.ebpf_base.specs.Maps.{key_cmp}
 use Rattle.ebpf_base.specs.declared.endianness.Endianness.TheVariants.{Little}
 use Rattle.ebpf_elf.specs.Headers.{ei_data}
@@ -15,27 +29,54 @@ use Rattle.ebpf_model.specs.declared.symbol.Symbol.{Symbol}
 use Rattle.ebpf_parts.specs.Maps.{section_index_of, symbol_index_of}
 use Rattle.ebpf_parts.specs.Sections.{SectionValue}
 use Rattle.ebpf_parts.specs.Slots.{slots_of}
-use Rattle.ebpf_parts.specs.declared.error.ParseError.TheVariants.{InvalidProgramSection, BigEndianCode}
+use Rattle.ebpf_parts.specs.declared.error.ParseError.TheVariants.{
+  InvalidProgramSection,
+  BigEndianCode,
+}
 use Rattle.ebpf_parts.specs.declared.maps.either.Map.{Map}
 use Rattle.ebpf_parts.specs.declared.program_section.ProgramSection.TheVariants.{Other}
 use Rattle.ebpf_parts.specs.declared.parse_mode.ParseMode.{ParseMode}
 use Rattle.ebpf_parts.specs.declared.parse_mode.ParseMode.TheVariants.{Lenient}
-use Rattle.ebpf_parts.specs.declared.section.EbpfSectionKind.TheVariants.{Data, Rodata, Bss, Text, Program as Programs}
-use Rattle.ebpf_parsing.specs.FileContents.{maps_as, programs_as, functions, relocation_tables, parse_fault_as, own_symbols, maps, programs, parse_fault}
+use Rattle.ebpf_parts.specs.declared.section.EbpfSectionKind.TheVariants.{
+  Data,
+  Rodata,
+  Bss,
+  Text,
+  Program as Programs,
+}
+use Rattle.ebpf_parsing.specs.FileContents.{
+  maps_as,
+  programs_as,
+  functions,
+  relocation_tables,
+  parse_fault_as,
+  own_symbols,
+  maps,
+  programs,
+  parse_fault,
+}
 use Rattle.ebpf_parsing.specs.FileTypes.{externs_of, ext_of}
 use Rattle.ebpf_parsing.specs.Maps.{data_map}
 use Rattle.ebpf_sections.specs.LicenseAndVersion.{license_of, license_as}
 use Rattle.ebpf_sections.specs.Records.{FuncAndLineInfo, func_and_line_info_of}
 use Rattle.ebpf_sections.specs.Relocations.{relocations_by_offset}
 use Rattle.ebpf_sections.specs.Sections.{object_sections}
-use Rattle.ebpf_sections.specs.Symbols.{file_symbols, symbol_table, symbol_of, symbol_entry, SymbolValue}
+use Rattle.ebpf_sections.specs.Symbols.{
+  file_symbols,
+  symbol_table,
+  symbol_of,
+  symbol_entry,
+  SymbolValue,
+}
 use Rattle.ebpf_sections.specs.Texts.{text_functions, text_fault}
 
 -- ---- what stands in the tables of each file
 
 -- at the key (section, address) stands a function of this section, at this address
 abbrev pub FunctionsAtTheirKeys : Type 0
-FunctionsAtTheirKeys = (bytes : List ℕ) (section address : ℕ) (f : Function) → get (functions bytes) (section, address) ≡ Some f
+FunctionsAtTheirKeys =
+    (bytes : List ℕ) (section address : ℕ) (f : Function)
+    → get (functions bytes) (section, address) ≡ Some f
     → (f.section_index.0 ≡ section) × (f.address ≡ address)
 
 -- at the index i stands the symbol i of the file's symbol table, with a name
@@ -48,15 +89,23 @@ pub record IsFileSymbol (bytes : List ℕ) (i : ℕ) (y : Symbol) : Type 0 where
   pub named : y.name ≡ Some name
 
 abbrev pub SymbolsAtTheirIndices : Type 0
-SymbolsAtTheirIndices = (bytes : List ℕ) (i : ℕ) (y : Symbol) → get (symbol_table (file_symbols bytes)) i ≡ Some y → IsFileSymbol bytes i y
+SymbolsAtTheirIndices =
+    (bytes : List ℕ) (i : ℕ) (y : Symbol)
+    → get (symbol_table (file_symbols bytes)) i ≡ Some y
+    → IsFileSymbol bytes i y
 
--- at the offset o of a section stands a relocation with this offset, and no section has a table without relocations
+-- at the offset o of a section stands a relocation with this offset, and no section has a table
+-- without relocations
 abbrev pub RelocationsAtTheirOffsets : Type 0
-RelocationsAtTheirOffsets = (bytes : List ℕ) (section : ℕ) (table : FinMap nat_cmp ElfRelocation) → get (relocation_tables bytes) section ≡ Some table
-    → ((o : ℕ) (r : ElfRelocation) → get table o ≡ Some r → r.offset ≡ o) × ((o : ℕ) × ((r : ElfRelocation) × (get table o ≡ Some r)))
+RelocationsAtTheirOffsets =
+    (bytes : List ℕ) (section : ℕ) (table : FinMap nat_cmp ElfRelocation)
+    → get (relocation_tables bytes) section ≡ Some table
+    → ((o : ℕ) (r : ElfRelocation) → get table o ≡ Some r → r.offset ≡ o)
+    × ((o : ℕ) × ((r : ElfRelocation) × (get table o ≡ Some r)))
 
 -- the relocations of a section of code: Text or Program
-pub record IsTableOfCode (bytes : List ℕ) (number : ℕ) (table : FinMap nat_cmp ElfRelocation) : Type 0 where
+pub record IsTableOfCode (bytes : List ℕ) (number : ℕ) (table : FinMap nat_cmp ElfRelocation)
+    : Type 0 where
   pub index : ℕ
   pub section : SectionValue
   pub here : slice_get (object_sections bytes) index ≡ Some section
@@ -66,16 +115,25 @@ pub record IsTableOfCode (bytes : List ℕ) (number : ℕ) (table : FinMap nat_c
 
 -- only sections of code have a table of relocations, each its own
 abbrev pub TablesOfCode : Type 0
-TablesOfCode = (bytes : List ℕ) (section : ℕ) (table : FinMap nat_cmp ElfRelocation) → get (relocation_tables bytes) section ≡ Some table → IsTableOfCode bytes section table
+TablesOfCode =
+    (bytes : List ℕ) (section : ℕ) (table : FinMap nat_cmp ElfRelocation)
+    → get (relocation_tables bytes) section ≡ Some table
+    → IsTableOfCode bytes section table
 
 -- in a file without a fault no relocation names symbol 0, which is none
 abbrev pub RelocationsNameSymbols : Type 0
-RelocationsNameSymbols = (mode : ParseMode) (bytes : List ℕ) → parse_fault_as mode bytes ≡ None → (section : ℕ) (table : FinMap nat_cmp ElfRelocation) → get (relocation_tables bytes) section ≡ Some table
+RelocationsNameSymbols =
+    (mode : ParseMode) (bytes : List ℕ)
+    → parse_fault_as mode bytes ≡ None
+    → (section : ℕ) (table : FinMap nat_cmp ElfRelocation)
+    → get (relocation_tables bytes) section ≡ Some table
     → (o : ℕ) (r : ElfRelocation) → get table o ≡ Some r → r.symbol_index ≢ 0
 
 -- a program's key is that of a function
 abbrev pub ProgramsHaveFunctions : Type 0
-ProgramsHaveFunctions = (mode : ParseMode) (bytes : List ℕ) (name : List ℕ) (p : Program) → get (programs_as mode bytes) name ≡ Some p
+ProgramsHaveFunctions =
+    (mode : ParseMode) (bytes : List ℕ) (name : List ℕ) (p : Program)
+    → get (programs_as mode bytes) name ≡ Some p
     → (f : Function) × (get (functions bytes) (p.section_index, p.address) ≡ Some f)
 
 -- the table has a symbol i, with this name and in this section
@@ -87,7 +145,9 @@ pub record IsSymbolIn (bytes : List ℕ) (i : ℕ) (name : List ℕ) (section : 
 
 -- the symbol of a map, where it has one, has the map's name and is in the map's section
 abbrev pub MapsHaveTheirSymbols : Type 0
-MapsHaveTheirSymbols = (mode : ParseMode) (bytes : List ℕ) (name : List ℕ) (m : Map) → get (maps_as mode bytes) name ≡ Some m
+MapsHaveTheirSymbols =
+    (mode : ParseMode) (bytes : List ℕ) (name : List ℕ) (m : Map)
+    → get (maps_as mode bytes) name ≡ Some m
     → (i : ℕ) → symbol_index_of m ≡ Some i → IsSymbolIn bytes i name (section_index_of m)
 
 -- the map of a section of data with this name
@@ -101,25 +161,33 @@ pub record IsDataMap (bytes : List ℕ) (name : List ℕ) (m : Map) : Type 0 whe
 
 -- any other map is that of a section of data
 abbrev pub OtherMapsAreOfData : Type 0
-OtherMapsAreOfData = (mode : ParseMode) (bytes : List ℕ) (name : List ℕ) (m : Map) → get (maps_as mode bytes) name ≡ Some m → symbol_index_of m ≡ None → IsDataMap bytes name m
+OtherMapsAreOfData =
+    (mode : ParseMode) (bytes : List ℕ) (name : List ℕ) (m : Map)
+    → get (maps_as mode bytes) name ≡ Some m
+    → symbol_index_of m ≡ None
+    → IsDataMap bytes name m
 
 -- an extern is not resolved: it has no id and no address
 abbrev pub ExternsAreUnresolved : Type 0
-ExternsAreUnresolved = (bytes : List ℕ) (name : List ℕ) (x : ExternDesc) → get (externs_of bytes) name ≡ Some x
+ExternsAreUnresolved =
+    (bytes : List ℕ) (name : List ℕ) (x : ExternDesc) → get (externs_of bytes) name ≡ Some x
     → (x.kernel_btf_id ≡ None) × ((x.ksym_addr ≡ None) × (x.is_resolved ≡ false))
 
 -- ---- that the functions of a Text section tile it
 
--- where a Text section has no fault, its functions in order of their offset, concatenated, are the slots of its data
+-- where a Text section has no fault, its functions in order of their offset, concatenated, are the
+-- slots of its data
 abbrev pub FunctionsTile : Type 0
 FunctionsTile = (infos : FuncAndLineInfo) (s : SectionValue) (symbols : List SymbolValue)
-    → text_fault s symbols ≡ None → flat_map (λ f. f.instructions) (text_functions infos s symbols) ≡ slots_of s.bytes
+    → text_fault s symbols ≡ None
+    → flat_map (λ f. f.instructions) (text_functions infos s symbols) ≡ slots_of s.bytes
 
 -- ---- the functions that an object's table has of each Text section
 
--- a Text section of a file without a fault, by its place among the sections that are read; as each slice,
--- the file has fewer than 2 ^ 64 bytes
-pub record IsTextSection (mode : ParseMode) (bytes : List ℕ) (n : ℕ) (s : SectionValue) : Type 0 where
+-- a Text section of a file without a fault, by its place among the sections that are read; as each
+-- slice, the file has fewer than 2 ^ 64 bytes
+pub record IsTextSection (mode : ParseMode) (bytes : List ℕ) (n : ℕ) (s : SectionValue)
+    : Type 0 where
   pub short : length bytes < 2 ^ 64
   pub clear : parse_fault_as mode bytes ≡ None
   pub here : slice_get (object_sections bytes) n ≡ Some s
@@ -127,30 +195,46 @@ pub record IsTextSection (mode : ParseMode) (bytes : List ℕ) (n : ℕ) (s : Se
 
 -- the functions that its symbols give, in order of their offset
 abbrev pub own_functions : List ℕ → SectionValue → List Function
-own_functions bytes s = text_functions (func_and_line_info_of (ext_of bytes) s.name) s (own_symbols bytes s)
+own_functions bytes s =
+    text_functions (func_and_line_info_of (ext_of bytes) s.name) s (own_symbols bytes s)
 
 -- each function's offset is below those of the functions behind it
 abbrev pub OffsetsRise : List Function → Type 0
-OffsetsRise fs = (i j : ℕ) (f g : Function) → i < j → slice_get fs i ≡ Some f → slice_get fs j ≡ Some g → f.section_offset < g.section_offset
+OffsetsRise fs =
+    (i j : ℕ) (f g : Function) → i < j → slice_get fs i ≡ Some f → slice_get fs j ≡ Some g
+    → f.section_offset < g.section_offset
 
 -- the functions that a table has of a section, in order of their offset
-pub record AreInOrder (table : FinMap key_cmp Function) (number : ℕ) (fs : List Function) : Type 0 where
+pub record AreInOrder (table : FinMap key_cmp Function) (number : ℕ) (fs : List Function)
+    : Type 0 where
   pub rise : OffsetsRise fs
-  pub stand : (i : ℕ) (f : Function) → slice_get fs i ≡ Some f → get table (number, f.address) ≡ Some f
-  pub all : (address : ℕ) (f : Function) → get table (number, address) ≡ Some f → (i : ℕ) × (slice_get fs i ≡ Some f)
+  pub stand : (i : ℕ) (f : Function) → slice_get fs i ≡ Some f
+      → get table (number, f.address) ≡ Some f
+  pub all : (address : ℕ) (f : Function) → get table (number, address) ≡ Some f
+      → (i : ℕ) × (slice_get fs i ≡ Some f)
 
 -- the table has at each address of the section the function that begins there,
 abbrev pub AtEachAddress : Type 0
-AtEachAddress = (mode : ParseMode) (bytes : List ℕ) (n : ℕ) (s : SectionValue) → IsTextSection mode bytes n s
-    → (address : ℕ) → get (functions bytes) (s.index.0, address) ≡ find (λ f. f.address == address) (own_functions bytes s)
+AtEachAddress =
+    (mode : ParseMode) (bytes : List ℕ) (n : ℕ) (s : SectionValue) → IsTextSection mode bytes n s
+    → (address : ℕ)
+    → get (functions bytes) (s.index.0, address)
+    ≡ find (λ f. f.address == address) (own_functions bytes s)
 
 -- and just these, also where the section's addresses begin again at 0 behind 2 ^ 64;
 abbrev pub InOrder : Type 0
-InOrder = (mode : ParseMode) (bytes : List ℕ) (n : ℕ) (s : SectionValue) → IsTextSection mode bytes n s → AreInOrder (functions bytes) s.index.0 (own_functions bytes s)
+InOrder =
+    (mode : ParseMode) (bytes : List ℕ) (n : ℕ) (s : SectionValue)
+    → IsTextSection mode bytes n s
+    → AreInOrder (functions bytes) s.index.0 (own_functions bytes s)
 
 -- concatenated in order of their offset they are the slots of the section's data
 abbrev pub SectionsTile : Type 0
-SectionsTile = (mode : ParseMode) (bytes : List ℕ) (n : ℕ) (s : SectionValue) → IsTextSection mode bytes n s → (fs : List Function) → AreInOrder (functions bytes) s.index.0 fs
+SectionsTile =
+    (mode : ParseMode) (bytes : List ℕ) (n : ℕ) (s : SectionValue)
+    → IsTextSection mode bytes n s
+    → (fs : List Function)
+    → AreInOrder (functions bytes) s.index.0 fs
     → flat_map (λ f. f.instructions) fs ≡ slots_of s.bytes
 
 -- ---- what the two readings of a file have in common, and what each of them alone answers
@@ -164,11 +248,13 @@ pub record IsReadAlike (bytes : List ℕ) : Type 0 where
 
 -- so is each little-endian file that strict parsing takes
 abbrev pub ModesAgree : Type 0
-ModesAgree = (bytes : List ℕ) → ei_data bytes ≡ Little → parse_fault bytes ≡ None → IsReadAlike bytes
+ModesAgree =
+    (bytes : List ℕ) → ei_data bytes ≡ Little → parse_fault bytes ≡ None → IsReadAlike bytes
 
 -- lenient parsing refuses no file for a section's name
 abbrev pub LenientRefusesNoName : Type 0
-LenientRefusesNoName = (bytes name : List ℕ) → parse_fault_as Lenient bytes ≢ Some (InvalidProgramSection name)
+LenientRefusesNoName =
+    (bytes name : List ℕ) → parse_fault_as Lenient bytes ≢ Some (InvalidProgramSection name)
 
 -- strict parsing refuses no file for the order of its code
 abbrev pub StrictTakesBothOrders : Type 0
@@ -176,4 +262,5 @@ StrictTakesBothOrders = (bytes : List ℕ) → parse_fault bytes ≢ Some BigEnd
 
 -- in strict parsing each program has a kind of the table
 abbrev pub StrictKindsAreNamed : Type 0
-StrictKindsAreNamed = (bytes name : List ℕ) (p : Program) → get (programs bytes) name ≡ Some p → p.section ≢ Other
+StrictKindsAreNamed =
+    (bytes name : List ℕ) (p : Program) → get (programs bytes) name ≡ Some p → p.section ≢ Other

@@ -1,13 +1,36 @@
 -- The maps of data sections, of sections of fixed structs, and of sections of declarations.
 use Rattle.std.specs.FinMap.{get}
-use Rattle.std.specs.Prelude.{ℕ, ◌^◌, not, List, [], ◌∷◌, Option, None, nat_lt, replicate, ◌+◌, length, map, Some, ◌==◌, if◌then◌else◌, slice_range}
+use Rattle.std.specs.Prelude.{
+  ℕ,
+  ◌^◌,
+  not,
+  List,
+  [],
+  ◌∷◌,
+  Option,
+  None,
+  nat_lt,
+  replicate,
+  ◌+◌,
+  length,
+  map,
+  Some,
+  ◌==◌,
+  if◌then◌else◌,
+  slice_range,
+}
 use Rattle.ebpf_base.specs.Faults.{first_of, or_else, first_some}
 use Rattle.ebpf_base.specs.Numbers.{number_at}
 use Rattle.ebpf_base.specs.declared.endianness.Endianness.TheVariants.{Little}
 use Rattle.ebpf_btf_decls.specs.Maps.{btf_maps, btf_maps_fault, TypesInMode}
 use Rattle.ebpf_parts.specs.Sections.{SectionValue}
 use Rattle.ebpf_parts.specs.declared.error.ParseError.{ParseError}
-use Rattle.ebpf_parts.specs.declared.error.ParseError.TheVariants.{InvalidMapDefinition, InvalidSymbol, NoSymbolsForSection, NoBTF}
+use Rattle.ebpf_parts.specs.declared.error.ParseError.TheVariants.{
+  InvalidMapDefinition,
+  InvalidSymbol,
+  NoSymbolsForSection,
+  NoBTF,
+}
 use Rattle.ebpf_parts.specs.declared.maps.definition.bpf_map_def.{bpf_map_def}
 use Rattle.ebpf_parts.specs.declared.maps.either.Map.{Map}
 use Rattle.ebpf_parts.specs.declared.maps.either.Map.TheVariants.{Legacy}
@@ -59,15 +82,15 @@ data_maps s = (s.name, data_map s) ∷ []
 unfoldable pub data_map_fault : SectionValue → Option ParseError
 data_map_fault s = first_of ((not (nat_lt s.size (2 ^ 32)), InvalidMapDefinition s.name) ∷ [])
 
--- ---- the maps of a section `maps`: each symbol names a fixed struct of seven numbers (libbpf's `struct
--- bpf_map_def`, with the id and the pinning that loaders before it knew)
+-- ---- the maps of a section `maps`: each symbol names a fixed struct of seven numbers (libbpf's
+-- `struct bpf_map_def`, with the id and the pinning that loaders before it knew)
 
 -- the bytes from the symbol's address on, as many as its size
 abbrev pub struct_bytes : SectionValue → SymbolValue → List ℕ
 struct_bytes s y = slice_range s.bytes y.address (y.address + y.size)
 
--- The number of four bytes from an offset of the struct on, little endian in each file. A struct may end
--- before its last two numbers; a byte that it lacks is zero.
+-- The number of four bytes from an offset of the struct on, little endian in each file. A struct
+-- may end before its last two numbers; a byte that it lacks is zero.
 unfoldable pub word_at : List ℕ → ℕ → ℕ
 word_at bytes offset = number_at Little 4 bytes offset
 
@@ -114,17 +137,22 @@ legacy_maps s symbols = map (legacy_entry s) symbols
 
 unfoldable pub legacy_maps_fault : SectionValue → List SymbolValue → Option ParseError
 legacy_maps_fault s symbols =
-    or_else (first_of ((length symbols == 0, NoSymbolsForSection s.name) ∷ [])) (first_some (legacy_fault s) symbols)
+    or_else (first_of ((length symbols == 0, NoSymbolsForSection s.name) ∷ []))
+    (first_some (legacy_fault s) symbols)
 
 -- ---- the BTF-defined maps of a section as `.maps` (libbpf's names)
 
 -- by name; without types there are none
-unfoldable pub btf_defined_maps : Option TypesInMode → SectionValue → List SymbolValue → List (List ℕ × Map)
+unfoldable pub btf_defined_maps : Option TypesInMode → SectionValue → List SymbolValue
+    → List (List ℕ × Map)
 btf_defined_maps None s symbols = []
-btf_defined_maps (Some d) s symbols = btf_maps d.mode d.types (get (symbol_indices_by_name symbols)) s.index.0 s.name
+btf_defined_maps (Some d) s symbols =
+    btf_maps d.mode d.types (get (symbol_indices_by_name symbols)) s.index.0 s.name
 
 -- no types, no symbol, then the faults of the maps
-unfoldable pub btf_defined_maps_fault : Option TypesInMode → SectionValue → List SymbolValue → Option ParseError
+unfoldable pub btf_defined_maps_fault : Option TypesInMode → SectionValue → List SymbolValue
+    → Option ParseError
 btf_defined_maps_fault None s symbols = Some NoBTF
 btf_defined_maps_fault (Some d) s symbols =
-    or_else (first_of ((length symbols == 0, NoSymbolsForSection s.name) ∷ [])) (btf_maps_fault d.mode d.types (get (symbol_indices_by_name symbols)) s.index.0 s.name)
+    or_else (first_of ((length symbols == 0, NoSymbolsForSection s.name) ∷ []))
+    (btf_maps_fault d.mode d.types (get (symbol_indices_by_name symbols)) s.index.0 s.name)

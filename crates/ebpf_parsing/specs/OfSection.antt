@@ -17,8 +17,23 @@ use Rattle.ebpf_parts.specs.declared.error.ParseError.TheVariants.{NoSymbolsForS
 use Rattle.ebpf_parts.specs.declared.maps.either.Map.{Map}
 use Rattle.ebpf_parts.specs.declared.parse_mode.ParseMode.{ParseMode}
 use Rattle.ebpf_parts.specs.declared.section.EbpfSectionKind.{EbpfSectionKind}
-use Rattle.ebpf_parts.specs.declared.section.EbpfSectionKind.TheVariants.{Maps, BtfMaps, Data, Rodata, Bss, Text, Program as Programs}
-use Rattle.ebpf_parsing.specs.Maps.{btf_defined_maps, btf_defined_maps_fault, data_maps, data_map_fault, legacy_maps, legacy_maps_fault}
+use Rattle.ebpf_parts.specs.declared.section.EbpfSectionKind.TheVariants.{
+  Maps,
+  BtfMaps,
+  Data,
+  Rodata,
+  Bss,
+  Text,
+  Program as Programs,
+}
+use Rattle.ebpf_parsing.specs.Maps.{
+  btf_defined_maps,
+  btf_defined_maps_fault,
+  data_maps,
+  data_map_fault,
+  legacy_maps,
+  legacy_maps_fault,
+}
 use Rattle.ebpf_sections.specs.Programs.{with_key, programs_of, program_functions, programs_fault}
 use Rattle.ebpf_sections.specs.Records.{FuncAndLineInfo, func_and_line_info_of}
 use Rattle.ebpf_sections.specs.Relocations.{relocation_table_at}
@@ -26,7 +41,8 @@ use Rattle.ebpf_sections.specs.Symbols.{SymbolValue}
 use Rattle.ebpf_sections.specs.Texts.{text_functions, text_fault}
 
 -- the maps, by name
-abbrev pub maps_by : EbpfSectionKind → ParseMode → Option TypeInfo → SectionValue → List SymbolValue → List (List ℕ × Map)
+abbrev pub maps_by : EbpfSectionKind → ParseMode → Option TypeInfo → SectionValue → List SymbolValue
+    → List (List ℕ × Map)
 maps_by Data mode types s symbols = data_maps s
 maps_by Rodata mode types s symbols = data_maps s
 maps_by Bss mode types s symbols = data_maps s
@@ -34,25 +50,32 @@ maps_by Maps mode types s symbols = legacy_maps s symbols
 maps_by BtfMaps mode types s symbols = btf_defined_maps (types_in_mode mode types) s symbols
 maps_by _ mode types s symbols = []
 
-unfoldable pub maps_in : ParseMode → Option TypeInfo → SectionValue → List SymbolValue → List (List ℕ × Map)
+unfoldable pub maps_in : ParseMode → Option TypeInfo → SectionValue → List SymbolValue
+    → List (List ℕ × Map)
 maps_in mode types s symbols = maps_by s.kind mode types s symbols
 
 -- the programs, by name, each with the object's license and kernel version
-abbrev pub programs_by : EbpfSectionKind → ParseMode → List ℕ → Option ℕ → SectionValue → List SymbolValue → List (List ℕ × Program)
-programs_by Programs mode license version s symbols = programs_of license version s symbols (section_as mode s.name)
+abbrev pub programs_by : EbpfSectionKind → ParseMode → List ℕ → Option ℕ → SectionValue
+    → List SymbolValue → List (List ℕ × Program)
+programs_by Programs mode license version s symbols =
+    programs_of license version s symbols (section_as mode s.name)
 programs_by _ mode license version s symbols = []
 
-unfoldable pub programs_in : ParseMode → List ℕ → Option ℕ → SectionValue → List SymbolValue → List (List ℕ × Program)
+unfoldable pub programs_in : ParseMode → List ℕ → Option ℕ → SectionValue → List SymbolValue
+    → List (List ℕ × Program)
 programs_in mode license version s symbols = programs_by s.kind mode license version s symbols
 
 -- the functions, by section and address, each with what `.BTF.ext` says of it
-abbrev pub functions_by : EbpfSectionKind → FuncAndLineInfo → SectionValue → List SymbolValue → List Function
+abbrev pub functions_by : EbpfSectionKind → FuncAndLineInfo → SectionValue → List SymbolValue
+    → List Function
 functions_by Programs infos s symbols = program_functions infos s symbols
 functions_by Text infos s symbols = text_functions infos s symbols
 functions_by _ infos s symbols = []
 
-unfoldable pub functions_in : Option ExtInfo → SectionValue → List SymbolValue → List (FunctionKey × Function)
-functions_in ext s symbols = map with_key (functions_by s.kind (func_and_line_info_of ext s.name) s symbols)
+unfoldable pub functions_in : Option ExtInfo → SectionValue → List SymbolValue
+    → List (FunctionKey × Function)
+functions_in ext s symbols =
+    map with_key (functions_by s.kind (func_and_line_info_of ext s.name) s symbols)
 
 -- the relocations, by section and offset
 abbrev pub relocations_by : EbpfSectionKind → SectionValue → List (ℕ × FinMap nat_cmp ElfRelocation)
@@ -64,9 +87,12 @@ unfoldable pub relocations_in : SectionValue → List (ℕ × FinMap nat_cmp Elf
 relocations_in s = relocations_by s.kind s
 
 -- the faults of a Program section: its name, no symbol, then the programs by symbol
-unfoldable pub program_section_faults : ParseMode → SectionValue → List SymbolValue → Option ParseError
+unfoldable pub program_section_faults : ParseMode → SectionValue → List SymbolValue
+    → Option ParseError
 program_section_faults mode s symbols =
-    or_else (section_fault_as mode s.name) (or_else (first_of ((length symbols == 0, NoSymbolsForSection s.name) ∷ [])) (programs_fault s symbols))
+    or_else (section_fault_as mode s.name)
+    (or_else (first_of ((length symbols == 0, NoSymbolsForSection s.name) ∷ []))
+    (programs_fault s symbols))
 
 -- the faults of the functions of a section of code
 abbrev pub functions_fault : EbpfSectionKind → SectionValue → List SymbolValue → Option ParseError
@@ -74,7 +100,8 @@ functions_fault Programs s symbols = programs_fault s symbols
 functions_fault Text s symbols = text_fault s symbols
 functions_fault _ s symbols = None
 
-abbrev pub fault_by : EbpfSectionKind → ParseMode → Option TypeInfo → SectionValue → List SymbolValue → Option ParseError
+abbrev pub fault_by : EbpfSectionKind → ParseMode → Option TypeInfo → SectionValue
+    → List SymbolValue → Option ParseError
 fault_by Programs mode types s symbols = program_section_faults mode s symbols
 fault_by Text mode types s symbols = text_fault s symbols
 fault_by Data mode types s symbols = data_map_fault s
@@ -84,5 +111,6 @@ fault_by Maps mode types s symbols = legacy_maps_fault s symbols
 fault_by BtfMaps mode types s symbols = btf_defined_maps_fault (types_in_mode mode types) s symbols
 fault_by _ mode types s symbols = None
 
-unfoldable pub fault_in : ParseMode → Option TypeInfo → SectionValue → List SymbolValue → Option ParseError
+unfoldable pub fault_in : ParseMode → Option TypeInfo → SectionValue → List SymbolValue
+    → Option ParseError
 fault_in mode types s symbols = fault_by s.kind mode types s symbols

@@ -16,8 +16,8 @@ use crate::file_types::{FileExterns, FileTypes};
 use crate::object_tables::{ObjectTables, read_sections};
 use ebpf_base::{ByIndex, ByName, Items};
 use ebpf_btf::{Btf, Endianness};
-use ebpf_elf::{ElfFile, SectionIndex};
 use ebpf_btf_ext::BtfExt;
+use ebpf_elf::{ElfFile, SectionIndex};
 use ebpf_model::{ExternDesc, Symbol};
 use ebpf_parts::{ParseError, ParseMode};
 use ebpf_sections::license::{read_license, read_version};
@@ -70,7 +70,8 @@ fn read_head(
     ensures section_infos { IfOk result (λ head. head.section_infos ≡ type_info_names file.now) }
     ensures types_clear { OnOk result (file_types_fault file.now ≡ None) }
     ensures externs_clear { OnOk result (file_externs_fault file.now ≡ None) }
-    ensures fault { Refuses is_parse_memory result (or_else (file_types_fault file.now) (file_externs_fault file.now)) }
+    ensures fault { Refuses is_parse_memory result
+        (or_else (file_types_fault file.now) (file_externs_fault file.now)) }
 {
     let types = FileTypes::read(alloc, file, tables)?;
     let declared = FileExterns::read(alloc, file, types.btf)?;
@@ -98,10 +99,13 @@ fn read_sections_and_symbols(
 ) -> Result<(ObjectTables, ByIndex<Symbol>), ParseError>
     requires tables { AreTablesOf file.now tables.now.groups }
     requires names { lent_bytes symbols.names.items ≡ names_of (file_symbols file.now) }
-    requires grouped { (q : ℕ) → group_at symbols.groups.groups q ≡ section_symbols (file_symbols file.now) q }
-    ensures object_tables { IfOk result (λ p. p.0 ≡ object_tables_of metadata.now section_infos file.now) }
+    requires grouped { (q : ℕ)
+        → group_at symbols.groups.groups q ≡ section_symbols (file_symbols file.now) q }
+    ensures object_tables { IfOk result (λ p.
+        p.0 ≡ object_tables_of metadata.now section_infos file.now) }
     ensures symbol_table { IfOk result (λ p. p.1 ≡ symbol_table (file_symbols file.now)) }
-    ensures fault { Refuses is_parse_memory result (sections_fault metadata.now.mode metadata.now.btf file.now) }
+    ensures fault { Refuses is_parse_memory result
+        (sections_fault metadata.now.mode metadata.now.btf file.now) }
 {
     let object_tables = read_sections(
         alloc,
@@ -129,12 +133,14 @@ fn read_tables(
     ghost mode: { ParseMode }
     requires tables { AreTablesOf file.now tables.now.groups }
     requires names { lent_bytes symbols.names.items ≡ names_of (file_symbols file.now) }
-    requires grouped { (q : ℕ) → group_at symbols.groups.groups q ≡ section_symbols (file_symbols file.now) q }
+    requires grouped { (q : ℕ)
+        → group_at symbols.groups.groups q ≡ section_symbols (file_symbols file.now) q }
     requires metadata { head.metadata ≡ metadata_as mode file.now }
     requires externs { head.externs ≡ externs_of file.now }
     requires section_infos { head.section_infos ≡ type_info_names file.now }
     ensures file_contents { IfOk result (λ c. c ≡ contents_as mode file.now) }
-    ensures fault { Refuses is_parse_memory result (sections_fault mode (types_of_file file.now) file.now) }
+    ensures fault { Refuses is_parse_memory result
+        (sections_fault mode (types_of_file file.now) file.now) }
 {
     let FileHead {
         metadata,
@@ -167,7 +173,13 @@ fn read_parts(
 ) -> Result<FileContents, ParseError>
     requires tables { AreTablesOf file.now tables.now.groups }
     ensures file_contents { IfOk result (λ c. c ≡ contents_as mode file.now) }
-    ensures fault { Refuses is_parse_memory result (or_else (license_fault_as mode file.now) (or_else (version_fault file.now) (or_else (symbols_fault file.now) (or_else (file_types_fault file.now) (or_else (file_externs_fault file.now) (sections_fault mode (types_of_file file.now) file.now)))))) }
+    ensures fault { Refuses is_parse_memory result
+        (or_else (license_fault_as mode file.now)
+        (or_else (version_fault file.now)
+        (or_else (symbols_fault file.now)
+        (or_else (file_types_fault file.now)
+        (or_else (file_externs_fault file.now)
+        (sections_fault mode (types_of_file file.now) file.now)))))) }
 {
     let license = read_license(alloc, file, tables, mode)?;
     let kernel_version = read_version(alloc, file, tables)?;

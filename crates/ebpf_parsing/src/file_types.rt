@@ -17,8 +17,8 @@ ghost use Rattle.ebpf_sections.specs.Symbols.{file_symbols, symbols_fault};
 use ebpf_base::ByName;
 use ebpf_btf::{Btf, Endianness};
 use ebpf_btf_decls::{collect_externs, may_declare_externs, parse_error};
-use ebpf_elf::{ElfFile, SectionIndex};
 use ebpf_btf_ext::BtfExt;
+use ebpf_elf::{ElfFile, SectionIndex};
 use ebpf_model::ExternDesc;
 use ebpf_parts::{ParseError, Section};
 use ebpf_sections::relocations::RelocationTable;
@@ -30,7 +30,8 @@ use std::alloc::Global;
 #[tactic(auto, using(crate::proofs::TypeErrors::refused))]
 fn btf_in(alloc: Global, order: Endianness, bytes: &[u8]) -> Result<Btf, ParseError>
     ensures types { IfOk result (λ types. result_ok (type_info_of order bytes.now) ≡ Some types) }
-    ensures fault { Refuses is_parse_memory result (option_map TypeFault (fault_of (type_info_of order bytes.now))) }
+    ensures fault { Refuses is_parse_memory result
+        (option_map TypeFault (fault_of (type_info_of order bytes.now))) }
 {
     match Btf::parse(alloc, bytes, order) {
         Ok(types) => Ok(types),
@@ -41,8 +42,10 @@ fn btf_in(alloc: Global, order: Endianness, bytes: &[u8]) -> Result<Btf, ParseEr
 /// The info entries and CO-RE relocations in the bytes of `.BTF.ext`.
 #[tactic(auto, using(crate::proofs::TypeErrors::refused))]
 fn ext_in(alloc: Global, order: Endianness, bytes: &[u8], types: &Btf) -> Result<BtfExt, ParseError>
-    ensures infos { IfOk result (λ infos. result_ok (read_ext order bytes.now types.now.strings) ≡ Some infos) }
-    ensures fault { Refuses is_parse_memory result (option_map TypeFault (fault_of (read_ext order bytes.now types.now.strings))) }
+    ensures infos { IfOk result (λ infos.
+        result_ok (read_ext order bytes.now types.now.strings) ≡ Some infos) }
+    ensures fault { Refuses is_parse_memory result
+        (option_map TypeFault (fault_of (read_ext order bytes.now types.now.strings))) }
 {
     match BtfExt::parse(alloc, bytes, order, types) {
         Ok(infos) => Ok(infos),
@@ -56,7 +59,8 @@ pub fn remember(
     section_infos: &mut ByName<SectionIndex>,
     section: &Section<'_>,
 ) -> Result<(), ParseError>
-    ensures put { OnOk result (section_infos.new ≡ put_all section_infos.old (section_info_entry section.now)) }
+    ensures put { OnOk result
+        (section_infos.new ≡ put_all section_infos.old (section_info_entry section.now)) }
     ensures memory { IfErr result (λ e. is_parse_memory e ≡ true) }
 {
     section_infos.insert(String::from_str(alloc, section.name)?, section.index)?;
@@ -73,7 +77,8 @@ fn read_types(
 ) -> Result<Option<Btf>, ParseError>
     requires tables { AreTablesOf file.now tables.now.groups }
     ensures types { IfOk result (λ types. types ≡ btf_of file.now) }
-    ensures names { OnOk result (section_infos.new ≡ put_all section_infos.old (type_names file.now)) }
+    ensures names { OnOk result
+        (section_infos.new ≡ put_all section_infos.old (type_names file.now)) }
     ensures fault { Refuses is_parse_memory result (btf_fault file.now) }
 {
     let Some(section) = file.section_by_name(".BTF") else {
@@ -95,9 +100,12 @@ fn read_ext_section(
     section_infos: &mut ByName<SectionIndex>,
 ) -> Result<Option<BtfExt>, ParseError>
     requires tables { AreTablesOf file.now tables.now.groups }
-    ensures infos { IfOk result (λ infos. infos ≡ ext_in (ei_data file.now) types.now (ext_section file.now)) }
-    ensures names { OnOk result (section_infos.new ≡ put_all section_infos.old (names_in (ext_section file.now))) }
-    ensures fault { Refuses is_parse_memory result (ext_fault_in (ei_data file.now) types.now (ext_section file.now)) }
+    ensures infos { IfOk result (λ infos.
+        infos ≡ ext_in (ei_data file.now) types.now (ext_section file.now)) }
+    ensures names { OnOk result
+        (section_infos.new ≡ put_all section_infos.old (names_in (ext_section file.now))) }
+    ensures fault { Refuses is_parse_memory result
+        (ext_fault_in (ei_data file.now) types.now (ext_section file.now)) }
 {
     let Some(section) = file.section_by_name(".BTF.ext") else {
         return Ok(None);
@@ -118,7 +126,8 @@ fn read_ext_beside(
 ) -> Result<Option<BtfExt>, ParseError>
     requires tables { AreTablesOf file.now tables.now.groups }
     ensures infos { IfOk result (λ infos. infos ≡ ext_beside file.now types.now) }
-    ensures names { OnOk result (section_infos.new ≡ put_all section_infos.old (ext_names_beside file.now types.now)) }
+    ensures names { OnOk result
+        (section_infos.new ≡ put_all section_infos.old (ext_names_beside file.now types.now)) }
     ensures fault { Refuses is_parse_memory result (ext_fault_beside file.now types.now) }
 {
     let Some(types) = types else {
@@ -146,7 +155,8 @@ impl FileTypes {
         requires tables { AreTablesOf file.now tables.now.groups }
         ensures btf { IfOk result (λ types. types.btf ≡ btf_of file.now) }
         ensures btf_ext { IfOk result (λ types. types.btf_ext ≡ ext_of file.now) }
-        ensures section_infos { IfOk result (λ types. types.section_infos ≡ type_info_names file.now) }
+        ensures section_infos { IfOk result (λ types.
+            types.section_infos ≡ type_info_names file.now) }
         ensures fault { Refuses is_parse_memory result (file_types_fault file.now) }
     {
         let mut section_infos = ByName::new(alloc);
@@ -177,8 +187,10 @@ impl FileExterns {
     ) -> Result<FileExterns, ParseError>
         requires names { symbols_fault file.now ≡ None }
         ensures types { IfOk result (λ found. found.btf ≡ option_map extern_types types) }
-        ensures externs { IfOk result (λ found. found.externs ≡ externs_beside (file_symbols file.now) types) }
-        ensures fault { Refuses is_parse_memory result (externs_fault_beside (file_symbols file.now) types) }
+        ensures externs { IfOk result (λ found.
+            found.externs ≡ externs_beside (file_symbols file.now) types) }
+        ensures fault { Refuses is_parse_memory result
+            (externs_fault_beside (file_symbols file.now) types) }
     {
         let Some(mut btf) = types else {
             return Ok(FileExterns {

@@ -204,7 +204,8 @@ fn put_each(
     symbols: &[NamedSymbol<'_>],
 ) -> Result<(), ParseError>
     ensures put { OnOk result (maps.new ≡ put_all maps.old (legacy_maps section.now symbols.now)) }
-    ensures fault { Refuses is_parse_memory result (first_some (legacy_fault section.now) symbols.now) }
+    ensures fault { Refuses is_parse_memory result
+        (first_some (legacy_fault section.now) symbols.now) }
 {
     for symbol in symbols {
         let map = legacy_map(alloc, section, symbol)?;
@@ -261,8 +262,10 @@ pub fn put_btf_defined_maps(
     symbols: &[NamedSymbol<'_>],
 ) -> Result<(), ParseError>
     ensures stays { types.new ≡ types.old }
-    ensures put { OnOk result (maps.new ≡ put_all maps.old (btf_defined_maps types.old section.now symbols.now)) }
-    ensures fault { Refuses is_parse_memory result (btf_defined_maps_fault types.old section.now symbols.now) }
+    ensures put { OnOk result
+        (maps.new ≡ put_all maps.old (btf_defined_maps types.old section.now symbols.now)) }
+    ensures fault { Refuses is_parse_memory result
+        (btf_defined_maps_fault types.old section.now symbols.now) }
 {
     let Some(types) = types else {
         return Err(ParseError::NoBTF);

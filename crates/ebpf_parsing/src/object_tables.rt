@@ -24,8 +24,8 @@ use crate::file_types::remember;
 use crate::maps::{find_btf_defined_maps, put_btf_defined_maps, put_data_map, put_legacy_maps};
 use ebpf_base::{ByKey, ByName, ByOffset, BySection, Text};
 use ebpf_btf_decls::BtfDefinedMaps;
-use ebpf_elf::{ElfFile, ElfSection, SectionIndex};
 use ebpf_btf_ext::BtfExt;
+use ebpf_elf::{ElfFile, ElfSection, SectionIndex};
 use ebpf_model::{Function, Program};
 use ebpf_parts::maps::Map;
 use ebpf_parts::{EbpfSectionKind, ParseError, ProgramSection, Relocation, Section};
@@ -81,7 +81,10 @@ fn put_table(
     tables: &[RelocationTable<'_>],
 ) -> Result<(), ParseError>
     requires { AreOfOneFile tables.now }
-    ensures put { OnOk result (relocations.new ≡ put_all relocations.old (relocation_table_at section (flat_map table_entries tables.now))) }
+    ensures put { OnOk result
+        (relocations.new
+        ≡ put_all relocations.old
+        (relocation_table_at section (flat_map table_entries tables.now))) }
     ensures memory { IfErr result (λ e. is_parse_memory e ≡ true) }
 {
     let kept = by_offset(alloc, tables)?;
@@ -101,7 +104,11 @@ fn put_relocations(
     tables: &[RelocationTable<'_>],
 ) -> Result<(), ParseError>
     requires { AreOfOneFile tables.now }
-    ensures put { OnOk result (relocations.new ≡ put_all relocations.old (relocations_in (with_relocations (flat_map table_entries tables.now) section.now))) }
+    ensures put { OnOk result
+        (relocations.new
+        ≡ put_all relocations.old
+        (relocations_in
+        (with_relocations (flat_map table_entries tables.now) section.now))) }
     ensures memory { IfErr result (λ e. is_parse_memory e ≡ true) }
 {
     match section.kind {
@@ -120,8 +127,13 @@ fn put_code(
     section: &Section<'_>,
     symbols: &[NamedSymbol<'_>],
 ) -> Result<(), ParseError>
-    ensures put { OnOk result (functions.new ≡ put_all functions.old (map with_key (functions_by section.now.kind records.now section.now symbols.now))) }
-    ensures fault { Refuses is_parse_memory result (functions_fault section.now.kind section.now symbols.now) }
+    ensures put { OnOk result
+        (functions.new
+        ≡ put_all functions.old
+        (map with_key
+        (functions_by section.now.kind records.now section.now symbols.now))) }
+    ensures fault { Refuses is_parse_memory result
+        (functions_fault section.now.kind section.now symbols.now) }
 {
     match section.kind {
         EbpfSectionKind::Program => put_functions(alloc, functions, records, section, symbols),
@@ -152,8 +164,14 @@ impl ObjectTables {
         section: &Section<'_>,
         symbols: &[NamedSymbol<'_>],
     ) -> Result<(), ParseError>
-        ensures put { OnOk result (self.new ≡ record self.old { functions = put_all self.old.functions (functions_in inputs.now.btf_ext section.now symbols.now) }) }
-        ensures fault { Refuses is_parse_memory result (functions_fault section.now.kind section.now symbols.now) }
+        ensures put { OnOk result
+            (self.new
+            ≡ record self.old {
+              functions = put_all self.old.functions
+                  (functions_in inputs.now.btf_ext section.now symbols.now);
+            }) }
+        ensures fault { Refuses is_parse_memory result
+            (functions_fault section.now.kind section.now symbols.now) }
     {
         let alloc = inputs.alloc;
         if let Some(records) = inputs.records.of(section.name) {
@@ -172,8 +190,17 @@ impl ObjectTables {
         symbols: &[NamedSymbol<'_>],
     ) -> Result<(), ParseError>
         requires { section.now.kind ≡ Programs }
-        ensures put { OnOk result (self.new ≡ record self.old { programs = put_all self.old.programs (programs_of inputs.now.license inputs.now.kernel_version section.now symbols.now (section_as inputs.now.mode section.now.name)); functions = put_all self.old.functions (functions_in inputs.now.btf_ext section.now symbols.now) }) }
-        ensures fault { Refuses is_parse_memory result (program_section_faults inputs.now.mode section.now symbols.now) }
+        ensures put { OnOk result
+            (self.new
+            ≡ record self.old {
+              programs = put_all self.old.programs
+                  (programs_of inputs.now.license inputs.now.kernel_version section.now
+                  symbols.now (section_as inputs.now.mode section.now.name));
+              functions = put_all self.old.functions
+                  (functions_in inputs.now.btf_ext section.now symbols.now);
+            }) }
+        ensures fault { Refuses is_parse_memory result
+            (program_section_faults inputs.now.mode section.now symbols.now) }
     {
         let alloc = inputs.alloc;
         let kind = ProgramSection::read(alloc, section.name, inputs.metadata.mode)?;
@@ -204,8 +231,15 @@ impl ObjectTables {
     ) -> Result<(), ParseError>
         ensures inputs { inputs.new ≡ inputs.old }
         ensures others { OnOk result (self.new.relocations ≡ self.old.relocations) }
-        ensures put { OnOk result (record self.new { relocations = put_all self.old.relocations (relocations_in section.now); section_infos = put_all self.new.section_infos ((section.now.name, section.now.index) ∷ []) } ≡ added_last last.now inputs.old self.old section.now symbols.now) }
-        ensures fault { Refuses is_parse_memory result (fault_in inputs.old.mode inputs.old.btf section.now symbols.now) }
+        ensures put { OnOk result
+            (record self.new {
+              relocations = put_all self.old.relocations (relocations_in section.now);
+              section_infos = put_all self.new.section_infos
+                  ((section.now.name, section.now.index) ∷ []);
+            }
+            ≡ added_last last.now inputs.old self.old section.now symbols.now) }
+        ensures fault { Refuses is_parse_memory result
+            (fault_in inputs.old.mode inputs.old.btf section.now symbols.now) }
     {
         let alloc = inputs.alloc;
         match section.kind {
@@ -238,10 +272,17 @@ impl ObjectTables {
         tables: &[RelocationTable<'_>],
         symbols: &[NamedSymbol<'_>],
     ) -> Result<(), ParseError>
-        requires { tables.now ≡ filter (λ r. relocated_section r == section.now.index) (relocation_sections section.now.file) }
+        requires { tables.now
+            ≡ filter (λ r. relocated_section r == section.now.index)
+            (relocation_sections section.now.file) }
         ensures inputs { inputs.new ≡ inputs.old }
-        ensures put { OnOk result (self.new ≡ added_last last.now inputs.old self.old (section_of section.now) symbols.now) }
-        ensures fault { Refuses is_parse_memory result (or_else (section_fault section.now) (fault_in inputs.old.mode inputs.old.btf (section_of section.now) symbols.now)) }
+        ensures put { OnOk result
+            (self.new
+            ≡ added_last last.now inputs.old self.old (section_of section.now) symbols.now) }
+        ensures fault { Refuses is_parse_memory result
+            (or_else (section_fault section.now)
+            (fault_in inputs.old.mode inputs.old.btf (section_of section.now)
+            symbols.now)) }
     {
         let alloc = inputs.alloc;
         let section = read_section(alloc, section, tables)?;
@@ -280,10 +321,13 @@ fn read_by_last(
     last: &ByName<usize>,
 ) -> Result<ObjectTables, ParseError>
     requires tables { AreTablesOf file.now tables.now.groups }
-    requires grouped { (q : ℕ) → group_at symbols.now.groups q ≡ section_symbols (file_symbols file.now) q }
+    requires grouped { (q : ℕ)
+        → group_at symbols.now.groups q ≡ section_symbols (file_symbols file.now) q }
     requires last { last.now ≡ last_data (object_sections file.now) }
-    ensures object_tables { IfOk result (λ p. p ≡ object_tables_of inputs.old section_infos file.now) }
-    ensures fault { Refuses is_parse_memory result (sections_fault inputs.old.mode inputs.old.btf file.now) }
+    ensures object_tables { IfOk result (λ p.
+        p ≡ object_tables_of inputs.old section_infos file.now) }
+    ensures fault { Refuses is_parse_memory result
+        (sections_fault inputs.old.mode inputs.old.btf file.now) }
 {
     let mut object_tables = ObjectTables::new(inputs.alloc, section_infos);
     for section in file.sections() {
@@ -306,9 +350,12 @@ pub fn read_sections(
     symbols: &Groups<NamedSymbol<'_>>,
 ) -> Result<ObjectTables, ParseError>
     requires tables { AreTablesOf file.now tables.now.groups }
-    requires grouped { (q : ℕ) → group_at symbols.now.groups q ≡ section_symbols (file_symbols file.now) q }
-    ensures object_tables { IfOk result (λ p. p ≡ object_tables_of metadata.now section_infos file.now) }
-    ensures fault { Refuses is_parse_memory result (sections_fault metadata.now.mode metadata.now.btf file.now) }
+    requires grouped { (q : ℕ)
+        → group_at symbols.now.groups q ≡ section_symbols (file_symbols file.now) q }
+    ensures object_tables { IfOk result (λ p.
+        p ≡ object_tables_of metadata.now section_infos file.now) }
+    ensures fault { Refuses is_parse_memory result
+        (sections_fault metadata.now.mode metadata.now.btf file.now) }
 {
     let names = SectionNames::read(alloc, file)?;
     let mut inputs = section_inputs(alloc, metadata, &names)?;

@@ -1,5 +1,19 @@
 -- Maps, and what may be read and set of them.
-use Rattle.std.specs.Prelude.{ℕ, List, [], Option, Some, None, ◌==◌, option_map, if◌then◌else◌, ◌∷◌, Result, Ok, Err}
+use Rattle.std.specs.Prelude.{
+  ℕ,
+  List,
+  [],
+  Option,
+  Some,
+  None,
+  ◌==◌,
+  option_map,
+  if◌then◌else◌,
+  ◌∷◌,
+  Result,
+  Ok,
+  Err,
+}
 use Rattle.ebpf_parts.specs.declared.maps.either.BtfMap.{BtfMap}
 use Rattle.ebpf_parts.specs.declared.maps.definition.BtfMapDef.{BtfMapDef}
 use Rattle.ebpf_parts.specs.declared.maps.definition.bpf_map_def.{bpf_map_def}
@@ -68,7 +82,8 @@ with_value_size (Btf m) size = Btf (record m { def = record m.def { value_size =
 
 -- the map with another number of entries
 abbrev pub with_max_entries : Map → ℕ → Map
-with_max_entries (Legacy m) entries = Legacy (record m { def = record m.def { max_entries = entries } })
+with_max_entries (Legacy m) entries =
+    Legacy (record m { def = record m.def { max_entries = entries } })
 with_max_entries (Btf m) entries = Btf (record m { def = record m.def { max_entries = entries } })
 
 -- the map with other data
@@ -129,18 +144,19 @@ map_from_info info pinned =
 
 -- the map of plain numbers
 abbrev pub map_from_params : ℕ → ℕ → ℕ → ℕ → ℕ → Map
-map_from_params map_type key_size value_size max_entries flags = Legacy (undeclared_legacy_map (record {
-  map_type = map_type;
-  key_size = key_size;
-  value_size = value_size;
-  max_entries = max_entries;
-  map_flags = flags;
-  id = 0;
-  pinning = pinned.None;
-}))
+map_from_params map_type key_size value_size max_entries flags =
+    Legacy (undeclared_legacy_map (record {
+      map_type = map_type;
+      key_size = key_size;
+      value_size = value_size;
+      max_entries = max_entries;
+      map_flags = flags;
+      id = 0;
+      pinning = pinned.None;
+    }))
 
--- ---- the types of maps in the order of their numbers, from 0 on (the kernel's include/uapi/linux/bpf.h,
--- enum bpf_map_type)
+-- ---- the types of maps in the order of their numbers, from 0 on (the kernel's
+-- include/uapi/linux/bpf.h, enum bpf_map_type)
 
 unfoldable pub map_types : List bpf_map_type
 map_types =

@@ -1,6 +1,34 @@
--- What the names of program sections say (libbpf's section names, as the public crate takes them). A name is split
--- at each slash. Its first piece says the kind, in some rows with its second; further pieces say nothing.
-use Rattle.std.specs.Prelude.{ℕ, Bool, true, false, List, [], ◌∷◌, Option, Some, None, ◌==◌, option_map, codes, ◌≡◌, ◌&&◌, ◌||◌, nat_eq, nat_le, length, take, drop, filter, slice_index, if◌then◌else◌, ◌≢◌, unwrap_or}
+-- What the names of program sections say (libbpf's section names, as the public crate takes them).
+-- A name is split at each slash. Its first piece says the kind, in some rows with its second;
+-- further pieces say nothing.
+use Rattle.std.specs.Prelude.{
+  ℕ,
+  Bool,
+  true,
+  false,
+  List,
+  [],
+  ◌∷◌,
+  Option,
+  Some,
+  None,
+  ◌==◌,
+  option_map,
+  codes,
+  ◌≡◌,
+  ◌&&◌,
+  ◌||◌,
+  nat_eq,
+  nat_le,
+  length,
+  take,
+  drop,
+  filter,
+  slice_index,
+  if◌then◌else◌,
+  ◌≢◌,
+  unwrap_or,
+}
 use Rattle.std.specs.List.{before_first, after_first, position, fold, starts_with}
 use Rattle.std.specs.Map.{lookup}
 use Rattle.std.specs.Option.{option_flatten}
@@ -9,28 +37,158 @@ use Rattle.ebpf_base.specs.Faults.{or_else}
 use Rattle.ebpf_parts.specs.declared.error.ParseError.{ParseError}
 use Rattle.ebpf_parts.specs.declared.error.ParseError.TheVariants.{InvalidProgramSection}
 use Rattle.ebpf_parts.specs.declared.program_section.ProgramSection.{ProgramSection}
-use Rattle.ebpf_parts.specs.declared.program_section.ProgramSection.TheVariants.{KRetProbe, KProbe, UProbe, URetProbe, TracePoint, SocketFilter, Xdp, SkMsg, SkSkbStream, SockOps, SchedClassifier, CgroupSkb, CgroupSockAddr, CgroupSysctl, CgroupSockopt, LircMode2, PerfEvent, RawTracePoint, Lsm, LsmCgroup, BtfTracePoint, FEntry, FExit, FlowDissector, Extension, SkLookup, SkReuseport, CgroupSock, CgroupDevice, Iter, Other}
+use Rattle.ebpf_parts.specs.declared.program_section.ProgramSection.TheVariants.{
+  KRetProbe,
+  KProbe,
+  UProbe,
+  URetProbe,
+  TracePoint,
+  SocketFilter,
+  Xdp,
+  SkMsg,
+  SkSkbStream,
+  SockOps,
+  SchedClassifier,
+  CgroupSkb,
+  CgroupSockAddr,
+  CgroupSysctl,
+  CgroupSockopt,
+  LircMode2,
+  PerfEvent,
+  RawTracePoint,
+  Lsm,
+  LsmCgroup,
+  BtfTracePoint,
+  FEntry,
+  FExit,
+  FlowDissector,
+  Extension,
+  SkLookup,
+  SkReuseport,
+  CgroupSock,
+  CgroupDevice,
+  Iter,
+  Other,
+}
 use Rattle.ebpf_parts.specs.declared.programs.attach_type.bpf_attach_type.{bpf_attach_type}
-use Rattle.ebpf_parts.specs.declared.programs.attach_type.bpf_attach_type.TheVariants.{BPF_CGROUP_INET_INGRESS, BPF_CGROUP_INET_EGRESS, BPF_CGROUP_INET_SOCK_CREATE, BPF_CGROUP_SOCK_OPS, BPF_SK_SKB_STREAM_PARSER, BPF_SK_SKB_STREAM_VERDICT, BPF_CGROUP_DEVICE, BPF_SK_MSG_VERDICT, BPF_CGROUP_INET4_BIND, BPF_CGROUP_INET6_BIND, BPF_CGROUP_INET4_CONNECT, BPF_CGROUP_INET6_CONNECT, BPF_CGROUP_INET4_POST_BIND, BPF_CGROUP_INET6_POST_BIND, BPF_CGROUP_UDP4_SENDMSG, BPF_CGROUP_UDP6_SENDMSG, BPF_LIRC_MODE2, BPF_FLOW_DISSECTOR, BPF_CGROUP_SYSCTL, BPF_CGROUP_UDP4_RECVMSG, BPF_CGROUP_UDP6_RECVMSG, BPF_CGROUP_GETSOCKOPT, BPF_CGROUP_SETSOCKOPT, BPF_TRACE_RAW_TP, BPF_TRACE_FENTRY, BPF_TRACE_FEXIT, BPF_MODIFY_RETURN, BPF_LSM_MAC, BPF_TRACE_ITER, BPF_CGROUP_INET4_GETPEERNAME, BPF_CGROUP_INET6_GETPEERNAME, BPF_CGROUP_INET4_GETSOCKNAME, BPF_CGROUP_INET6_GETSOCKNAME, BPF_XDP_DEVMAP, BPF_CGROUP_INET_SOCK_RELEASE, BPF_XDP_CPUMAP, BPF_SK_LOOKUP, BPF_XDP, BPF_SK_SKB_VERDICT, BPF_SK_REUSEPORT_SELECT, BPF_SK_REUSEPORT_SELECT_OR_MIGRATE, BPF_TRACE_KPROBE_MULTI, BPF_LSM_CGROUP, BPF_NETFILTER, BPF_TCX_INGRESS, BPF_TCX_EGRESS, BPF_TRACE_UPROBE_MULTI, BPF_CGROUP_UNIX_CONNECT, BPF_CGROUP_UNIX_SENDMSG, BPF_CGROUP_UNIX_RECVMSG, BPF_CGROUP_UNIX_GETPEERNAME, BPF_CGROUP_UNIX_GETSOCKNAME, BPF_NETKIT_PRIMARY, BPF_NETKIT_PEER, BPF_TRACE_KPROBE_SESSION}
+use Rattle.ebpf_parts.specs.declared.programs.attach_type.bpf_attach_type.TheVariants.{
+  BPF_CGROUP_INET_INGRESS,
+  BPF_CGROUP_INET_EGRESS,
+  BPF_CGROUP_INET_SOCK_CREATE,
+  BPF_CGROUP_SOCK_OPS,
+  BPF_SK_SKB_STREAM_PARSER,
+  BPF_SK_SKB_STREAM_VERDICT,
+  BPF_CGROUP_DEVICE,
+  BPF_SK_MSG_VERDICT,
+  BPF_CGROUP_INET4_BIND,
+  BPF_CGROUP_INET6_BIND,
+  BPF_CGROUP_INET4_CONNECT,
+  BPF_CGROUP_INET6_CONNECT,
+  BPF_CGROUP_INET4_POST_BIND,
+  BPF_CGROUP_INET6_POST_BIND,
+  BPF_CGROUP_UDP4_SENDMSG,
+  BPF_CGROUP_UDP6_SENDMSG,
+  BPF_LIRC_MODE2,
+  BPF_FLOW_DISSECTOR,
+  BPF_CGROUP_SYSCTL,
+  BPF_CGROUP_UDP4_RECVMSG,
+  BPF_CGROUP_UDP6_RECVMSG,
+  BPF_CGROUP_GETSOCKOPT,
+  BPF_CGROUP_SETSOCKOPT,
+  BPF_TRACE_RAW_TP,
+  BPF_TRACE_FENTRY,
+  BPF_TRACE_FEXIT,
+  BPF_MODIFY_RETURN,
+  BPF_LSM_MAC,
+  BPF_TRACE_ITER,
+  BPF_CGROUP_INET4_GETPEERNAME,
+  BPF_CGROUP_INET6_GETPEERNAME,
+  BPF_CGROUP_INET4_GETSOCKNAME,
+  BPF_CGROUP_INET6_GETSOCKNAME,
+  BPF_XDP_DEVMAP,
+  BPF_CGROUP_INET_SOCK_RELEASE,
+  BPF_XDP_CPUMAP,
+  BPF_SK_LOOKUP,
+  BPF_XDP,
+  BPF_SK_SKB_VERDICT,
+  BPF_SK_REUSEPORT_SELECT,
+  BPF_SK_REUSEPORT_SELECT_OR_MIGRATE,
+  BPF_TRACE_KPROBE_MULTI,
+  BPF_LSM_CGROUP,
+  BPF_NETFILTER,
+  BPF_TCX_INGRESS,
+  BPF_TCX_EGRESS,
+  BPF_TRACE_UPROBE_MULTI,
+  BPF_CGROUP_UNIX_CONNECT,
+  BPF_CGROUP_UNIX_SENDMSG,
+  BPF_CGROUP_UNIX_RECVMSG,
+  BPF_CGROUP_UNIX_GETPEERNAME,
+  BPF_CGROUP_UNIX_GETSOCKNAME,
+  BPF_NETKIT_PRIMARY,
+  BPF_NETKIT_PEER,
+  BPF_TRACE_KPROBE_SESSION,
+}
 use Rattle.ebpf_parts.specs.declared.programs.attach_type.CgroupSkbAttachType.{CgroupSkbAttachType}
-use Rattle.ebpf_parts.specs.declared.programs.attach_type.CgroupSkbAttachType.TheVariants.{Ingress, Egress}
-use Rattle.ebpf_parts.specs.declared.programs.attach_type.CgroupSockAttachType.{CgroupSockAttachType}
-use Rattle.ebpf_parts.specs.declared.programs.attach_type.CgroupSockAttachType.TheVariants.{PostBind4, PostBind6, SockCreate, SockRelease}
-use Rattle.ebpf_parts.specs.declared.programs.attach_type.CgroupSockAddrAttachType.{CgroupSockAddrAttachType}
-use Rattle.ebpf_parts.specs.declared.programs.attach_type.CgroupSockAddrAttachType.TheVariants.{Bind4, Bind6, Connect4, Connect6, GetPeerName4, GetPeerName6, GetSockName4, GetSockName6, UDPSendMsg4, UDPSendMsg6, UDPRecvMsg4, UDPRecvMsg6}
-use Rattle.ebpf_parts.specs.declared.programs.attach_type.CgroupSockoptAttachType.{CgroupSockoptAttachType}
-use Rattle.ebpf_parts.specs.declared.programs.attach_type.CgroupSockoptAttachType.TheVariants.{Get, Set}
+use Rattle.ebpf_parts.specs.declared.programs.attach_type.CgroupSkbAttachType.TheVariants.{
+  Ingress,
+  Egress,
+}
+use Rattle.ebpf_parts.specs.declared.programs.attach_type.CgroupSockAttachType.{
+  CgroupSockAttachType,
+}
+use Rattle.ebpf_parts.specs.declared.programs.attach_type.CgroupSockAttachType.TheVariants.{
+  PostBind4,
+  PostBind6,
+  SockCreate,
+  SockRelease,
+}
+use Rattle.ebpf_parts.specs.declared.programs.attach_type.CgroupSockAddrAttachType.{
+  CgroupSockAddrAttachType,
+}
+use Rattle.ebpf_parts.specs.declared.programs.attach_type.CgroupSockAddrAttachType.TheVariants.{
+  Bind4,
+  Bind6,
+  Connect4,
+  Connect6,
+  GetPeerName4,
+  GetPeerName6,
+  GetSockName4,
+  GetSockName6,
+  UDPSendMsg4,
+  UDPSendMsg6,
+  UDPRecvMsg4,
+  UDPRecvMsg6,
+}
+use Rattle.ebpf_parts.specs.declared.programs.attach_type.CgroupSockoptAttachType.{
+  CgroupSockoptAttachType,
+}
+use Rattle.ebpf_parts.specs.declared.programs.attach_type.CgroupSockoptAttachType.TheVariants.{
+  Get,
+  Set,
+}
 use Rattle.ebpf_parts.specs.declared.programs.kind.NamedKind.{NamedKind}
 use Rattle.ebpf_parts.specs.declared.programs.kind.ProgramKind.{ProgramKind}
 use Rattle.ebpf_parts.specs.declared.programs.kind.TheConstants.{NAMED_KINDS}
 use Rattle.ebpf_parts.specs.declared.programs.program_type.bpf_prog_type.{bpf_prog_type}
 use Rattle.ebpf_parts.specs.declared.programs.program_type.bpf_prog_type.TheVariants as types
-use Rattle.ebpf_parts.specs.declared.programs.attach_type.SkReuseportAttachType.{SkReuseportAttachType}
-use Rattle.ebpf_parts.specs.declared.programs.attach_type.SkReuseportAttachType.TheVariants.{Select, SelectOrMigrate}
+use Rattle.ebpf_parts.specs.declared.programs.attach_type.SkReuseportAttachType.{
+  SkReuseportAttachType,
+}
+use Rattle.ebpf_parts.specs.declared.programs.attach_type.SkReuseportAttachType.TheVariants.{
+  Select,
+  SelectOrMigrate,
+}
 use Rattle.ebpf_parts.specs.declared.programs.attach_type.SkSkbKind.{SkSkbKind}
-use Rattle.ebpf_parts.specs.declared.programs.attach_type.SkSkbKind.TheVariants.{StreamParser, StreamVerdict}
+use Rattle.ebpf_parts.specs.declared.programs.attach_type.SkSkbKind.TheVariants.{
+  StreamParser,
+  StreamVerdict,
+}
 use Rattle.ebpf_parts.specs.declared.programs.attach_type.XdpAttachType.{XdpAttachType}
-use Rattle.ebpf_parts.specs.declared.programs.attach_type.XdpAttachType.TheVariants.{Interface, CpuMap, DevMap}
+use Rattle.ebpf_parts.specs.declared.programs.attach_type.XdpAttachType.TheVariants.{
+  Interface,
+  CpuMap,
+  DevMap,
+}
 use Rattle.ebpf_parts.specs.declared.parse_mode.ParseMode.{ParseMode}
 use Rattle.ebpf_parts.specs.declared.parse_mode.ParseMode.TheVariants.{Strict, Lenient}
 
@@ -40,14 +198,15 @@ first_piece name = before_first (λ b. b == 47) name
 
 -- the text between the first slash and the next, where there is a slash
 abbrev pub second_piece : List ℕ → Option (List ℕ)
-second_piece name = option_map (λ _. first_piece (after_first (λ b. b == 47) name)) (position (λ b. b == 47) name)
+second_piece name =
+    option_map (λ _. first_piece (after_first (λ b. b == 47) name)) (position (λ b. b == 47) name)
 
 -- the row of a table for a piece
 abbrev pub lookup_piece : {X : Type 0} → List (List ℕ × X) → List ℕ → Option X
 lookup_piece table piece = lookup (bytes_eq piece) table
 
--- the kinds that the first piece says alone: probes of the kernel and of processes, points that are traced, sockets, packets
--- and signals, and what extends the kernel
+-- the kinds that the first piece says alone: probes of the kernel and of processes, points that are
+-- traced, sockets, packets and signals, and what extends the kernel
 unfoldable pub piece_sections : List (List ℕ × ProgramSection)
 piece_sections =
     (codes "kprobe", KProbe)
@@ -155,19 +314,32 @@ address_calls =
 abbrev pub cgroup_section : List ℕ → Option ProgramSection
 cgroup_section piece =
     or_else (lookup_piece cgroup_sections piece)
-    (or_else (option_map CgroupSock (lookup_piece socket_events piece)) (option_map CgroupSockAddr (lookup_piece address_calls piece)))
+    (or_else (option_map CgroupSock (lookup_piece socket_events piece))
+    (option_map CgroupSockAddr (lookup_piece address_calls piece)))
 
 -- what the second piece says, or what its absence says
-abbrev pub by_second_piece : Option ProgramSection → (List ℕ → Option ProgramSection) → Option (List ℕ) → Option ProgramSection
+abbrev pub by_second_piece : Option ProgramSection → (List ℕ → Option ProgramSection)
+    → Option (List ℕ) → Option ProgramSection
 by_second_piece absent section None = absent
 by_second_piece absent section (Some piece) = section piece
 
 -- the first pieces that want a second one, with what the two say
 unfoldable pub pair_sections : Option (List ℕ) → List (List ℕ × Option ProgramSection)
-pair_sections second =
-    (codes "xdp", by_second_piece (Some (Xdp false Interface)) (lookup_piece (xdp_sections false)) second)
-    ∷ (codes "xdp.frags", by_second_piece (Some (Xdp true Interface)) (lookup_piece (xdp_sections true)) second)
-    ∷ (codes "sk_reuseport", by_second_piece (Some (SkReuseport Select)) (lookup_piece sk_reuseport_sections) second)
+pair_sections second = (
+  codes "xdp",
+  by_second_piece (Some (Xdp false Interface)) (lookup_piece (xdp_sections false))
+      second,
+)
+    ∷ (
+      codes "xdp.frags",
+      by_second_piece (Some (Xdp true Interface))
+          (lookup_piece (xdp_sections true)) second,
+    )
+    ∷ (
+      codes "sk_reuseport",
+      by_second_piece (Some (SkReuseport Select))
+          (lookup_piece sk_reuseport_sections) second,
+    )
     ∷ (codes "sk_skb", by_second_piece None (lookup_piece sk_skb_sections) second)
     ∷ (codes "cgroup_skb", by_second_piece None (lookup_piece cgroup_skb_sections) second)
     ∷ (codes "cgroup", by_second_piece None cgroup_section second)
@@ -189,8 +361,8 @@ no_section name (Some section) = None
 abbrev pub program_section_fault : List ℕ → Option ParseError
 program_section_fault name = no_section name (program_section name)
 
--- ---- the types of programs in the order of their numbers, from 0 on (the kernel's include/uapi/linux/bpf.h,
--- enum bpf_prog_type)
+-- ---- the types of programs in the order of their numbers, from 0 on (the kernel's
+-- include/uapi/linux/bpf.h, enum bpf_prog_type)
 
 unfoldable pub program_types : List bpf_prog_type
 program_types =
@@ -366,8 +538,8 @@ xdp_attach_type Interface = BPF_XDP
 xdp_attach_type CpuMap = BPF_XDP_CPUMAP
 xdp_attach_type DevMap = BPF_XDP_DEVMAP
 
--- ---- what a loader does with a program, by the name of its section (libbpf's Program Types and ELF Sections). The table is
--- that of the code, a row for each name
+-- ---- what a loader does with a program, by the name of its section (libbpf's Program Types and
+-- ELF Sections). The table is that of the code, a row for each name
 
 -- what stands before an index, where there is one
 abbrev pub before : Option ℕ → List ℕ → List ℕ
@@ -384,12 +556,14 @@ has_target name own = starts_with nat_eq name own && slice_index name (length ow
 
 -- a row fits its own name, and where it takes a target its own name with one
 abbrev pub name_fits : List ℕ → NamedKind → Bool
-name_fits name row = bytes_eq name (row_name row) || (row.takes_target && has_target name (row_name row))
+name_fits name row =
+    bytes_eq name (row_name row) || (row.takes_target && has_target name (row_name row))
 
 -- the row with the longer name, the earlier one of two as long
 abbrev pub longer : Option NamedKind → NamedKind → Option NamedKind
 longer None row = Some row
-longer (Some other) row = if nat_le (length (row_name row)) (length (row_name other)) then Some other else Some row
+longer (Some other) row =
+    if nat_le (length (row_name row)) (length (row_name other)) then Some other else Some row
 
 -- of the rows that a name fits the one with the longest name
 unfoldable pub longest_fit : List ℕ → List NamedKind → Option NamedKind
@@ -406,7 +580,8 @@ without_mark name = if is_marked name then drop 1 name else name
 -- what the rows say of a name; a program of a marked one is optional
 abbrev pub kind_in : List NamedKind → List ℕ → Option ProgramKind
 kind_in rows name =
-    option_map (λ row. record row.kind { is_optional = is_marked name }) (longest_fit (without_mark name) rows)
+    option_map (λ row. record row.kind { is_optional = is_marked name })
+    (longest_fit (without_mark name) rows)
 
 -- what a loader does with the programs of a section of this name
 unfoldable pub program_kind : List ℕ → Option ProgramKind
@@ -449,12 +624,14 @@ section_type Other = None
 -- a name that is in both tables has one type
 abbrev pub TypesAgree : Type 0
 TypesAgree =
-    (name : List ℕ) (section : ProgramSection) (kind : ProgramKind) → program_section name ≡ Some section
+    (name : List ℕ) (section : ProgramSection) (kind : ProgramKind)
+    → program_section name ≡ Some section
     → program_kind name ≡ Some kind → section_type section ≡ Some kind.program_type
 
 -- ---- what the name of a program's section says, by how its object is read
 
--- the kind that the table has for a name; in lenient parsing that of the name behind a `?`, and for every other name `Other`
+-- the kind that the table has for a name; in lenient parsing that of the name behind a `?`, and for
+-- every other name `Other`
 unfoldable pub section_as : ParseMode → List ℕ → Option ProgramSection
 section_as Strict name = program_section name
 section_as Lenient name = Some (unwrap_or (program_section (without_mark name)) Other)
@@ -471,7 +648,9 @@ NoNameIsOther = (name : List ℕ) → program_section name ≢ Some Other
 
 -- what has a kind in strict parsing has it in the broad one
 abbrev pub LenientKeepsKinds : Type 0
-LenientKeepsKinds = (name : List ℕ) (kind : ProgramSection) → section_as Strict name ≡ Some kind → section_as Lenient name ≡ Some kind
+LenientKeepsKinds =
+    (name : List ℕ) (kind : ProgramSection) → section_as Strict name ≡ Some kind
+    → section_as Lenient name ≡ Some kind
 
 -- in lenient parsing no name is refused
 abbrev pub LenientTakesNames : Type 0

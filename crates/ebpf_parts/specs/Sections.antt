@@ -1,5 +1,25 @@
--- What a section is for, by its name and its header (libbpf's section names, and ELF-64 gABI, 'Sections').
-use Rattle.std.specs.Prelude.{ℕ, Bool, not, ◌&&◌, List, [], ◌∷◌, Option, Some, None, ◌==◌, nat_eq, bit_and, if◌then◌else◌, codes, unwrap_or, is_some, option_map}
+-- What a section is for, by its name and its header (libbpf's section names, and ELF-64 gABI,
+-- 'Sections').
+use Rattle.std.specs.Prelude.{
+  ℕ,
+  Bool,
+  not,
+  ◌&&◌,
+  List,
+  [],
+  ◌∷◌,
+  Option,
+  Some,
+  None,
+  ◌==◌,
+  nat_eq,
+  bit_and,
+  if◌then◌else◌,
+  codes,
+  unwrap_or,
+  is_some,
+  option_map,
+}
 use Rattle.std.specs.List.{starts_with, list_any}
 use Rattle.std.specs.Str.{bytes_eq}
 use Rattle.ebpf_base.specs.Faults.{first_of, or_else}
@@ -11,9 +31,25 @@ use Rattle.ebpf_elf.specs.declared.header.SectionHeader.{SectionHeader}
 use Rattle.ebpf_elf.specs.declared.relocation.ElfRelocation.{ElfRelocation}
 use Rattle.ebpf_elf.specs.declared.section.SectionIndex.{SectionIndex}
 use Rattle.ebpf_parts.specs.declared.error.ParseError.{ParseError}
-use Rattle.ebpf_parts.specs.declared.error.ParseError.TheVariants.{SectionError, UnsupportedRelocationTarget}
+use Rattle.ebpf_parts.specs.declared.error.ParseError.TheVariants.{
+  SectionError,
+  UnsupportedRelocationTarget,
+}
 use Rattle.ebpf_parts.specs.declared.section.EbpfSectionKind.{EbpfSectionKind}
-use Rattle.ebpf_parts.specs.declared.section.EbpfSectionKind.TheVariants.{Undefined, Maps, BtfMaps, Program, Data, Rodata, Bss, Text, Btf, BtfExt, License, Version}
+use Rattle.ebpf_parts.specs.declared.section.EbpfSectionKind.TheVariants.{
+  Undefined,
+  Maps,
+  BtfMaps,
+  Program,
+  Data,
+  Rodata,
+  Bss,
+  Text,
+  Btf,
+  BtfExt,
+  License,
+  Version,
+}
 
 -- a name that begins with a prefix
 abbrev pub begins_with : List ℕ → List ℕ → Bool
@@ -37,7 +73,10 @@ named_kinds name =
 -- a section of instructions: PROGBITS with the flags ALLOC and EXECINSTR, and not empty
 abbrev pub is_code : SectionHeader → Bool
 is_code h =
-    h.sh_type == SHT_PROGBITS && not (bit_and h.sh_flags SHF_ALLOC == 0) && not (bit_and h.sh_flags SHF_EXECINSTR == 0) && not (h.sh_size == 0)
+    h.sh_type == SHT_PROGBITS
+    && not (bit_and h.sh_flags SHF_ALLOC == 0)
+    && not (bit_and h.sh_flags SHF_EXECINSTR == 0)
+    && not (h.sh_size == 0)
 
 abbrev pub kind_or : Bool → Option EbpfSectionKind → EbpfSectionKind
 kind_or code (Some kind) = kind
@@ -80,7 +119,8 @@ section_of s = section_with (relocations s) s
 
 -- a name that can't be read
 abbrev pub section_name_fault : SectionOf → Option ParseError
-section_name_fault s = if is_some (section_name s) then None else Some (SectionError s.index BadStringTable)
+section_name_fault s =
+    if is_some (section_name s) then None else Some (SectionError s.index BadStringTable)
 
 -- data outside the file
 abbrev pub data_fault : SectionOf → Option ParseError
@@ -88,11 +128,13 @@ data_fault s = option_map (SectionError s.index) (first_of (data_faults s))
 
 -- a relocation against symbol 0
 abbrev pub target_fault : List ElfRelocation → Option ParseError
-target_fault list = if list_any (λ r. r.symbol_index == 0) list then Some UnsupportedRelocationTarget else None
+target_fault list =
+    if list_any (λ r. r.symbol_index == 0) list then Some UnsupportedRelocationTarget else None
 
 -- why a section can't be read, in this order
 unfoldable pub section_fault_with : List ElfRelocation → SectionOf → Option ParseError
-section_fault_with list s = or_else (section_name_fault s) (or_else (data_fault s) (target_fault list))
+section_fault_with list s =
+    or_else (section_name_fault s) (or_else (data_fault s) (target_fault list))
 
 unfoldable pub section_fault : SectionOf → Option ParseError
 section_fault s = section_fault_with (relocations s) s

@@ -1,5 +1,31 @@
 -- The codes of instructions that definitions tell apart (RFC 9669).
-use Rattle.std.specs.Prelude.{ℕ, ℤ, pos, negsuc, Bool, false, ◌&&◌, ◌+◌, ◌*◌, ◌/◌, ◌%◌, not, ◌==◌, List, [], ◌∷◌, ◌++◌, length, map, slice_index, ◌≡◌, ◌≤◌, ◌<◌, take, slice_range}
+use Rattle.std.specs.Prelude.{
+  ℕ,
+  ℤ,
+  pos,
+  negsuc,
+  Bool,
+  false,
+  ◌&&◌,
+  ◌+◌,
+  ◌*◌,
+  ◌/◌,
+  ◌%◌,
+  not,
+  ◌==◌,
+  List,
+  [],
+  ◌∷◌,
+  ◌++◌,
+  length,
+  map,
+  slice_index,
+  ◌≡◌,
+  ◌≤◌,
+  ◌<◌,
+  take,
+  slice_range,
+}
 use Rattle.std.specs.List.{range_with_len, All, flat_map}
 use Rattle.std.specs.Int.{w16, w32, cast_signed, cast_unsigned}
 use Rattle.byteorder.specs.Endian.{little_bytes}
@@ -10,8 +36,9 @@ use Rattle.ebpf_parts.specs.declared.error.ParseError.{ParseError}
 use Rattle.ebpf_parts.specs.declared.error.ParseError.TheVariants.{InvalidProgramCode}
 use Rattle.ebpf_parts.specs.declared.insn.bpf_insn.{bpf_insn}
 
--- the class of a code, in its low three bits (section 3.3; the kernel's uapi/linux/bpf_common.h and bpf.h, as those
--- below): loads of immediates and packet access, and loads from memory (BPF_LD, BPF_LDX)
+-- the class of a code, in its low three bits (section 3.3; the kernel's uapi/linux/bpf_common.h and
+-- bpf.h, as those below): loads of immediates and packet access, and loads from memory (BPF_LD,
+-- BPF_LDX)
 abbrev pub class_ld : ℕ
 class_ld = 0
 
@@ -29,7 +56,8 @@ class_stx = 3
 abbrev pub class_alu : ℕ
 class_alu = 4
 
--- jumps by comparisons of 64 bits, calls and exits, and jumps by comparisons of 32 bits (BPF_JMP, BPF_JMP32)
+-- jumps by comparisons of 64 bits, calls and exits, and jumps by comparisons of 32 bits (BPF_JMP,
+-- BPF_JMP32)
 abbrev pub class_jmp : ℕ
 class_jmp = 5
 
@@ -58,15 +86,16 @@ call = 0x85
 abbrev pub exit : ℕ
 exit = 0x95
 
--- the source of a load of 64 bits: a map by its descriptor, and an address in a map's data (section 5.4; the kernel's
--- uapi/linux/bpf.h: BPF_PSEUDO_MAP_FD, BPF_PSEUDO_MAP_VALUE)
+-- the source of a load of 64 bits: a map by its descriptor, and an address in a map's data (section
+-- 5.4; the kernel's uapi/linux/bpf.h: BPF_PSEUDO_MAP_FD, BPF_PSEUDO_MAP_VALUE)
 abbrev pub pseudo_map_fd : ℕ
 pseudo_map_fd = 1
 
 abbrev pub pseudo_map_value : ℕ
 pseudo_map_value = 2
 
--- a kernel variable's address by the id of its type, and a function's address (section 5.4; BPF_PSEUDO_BTF_ID,
+-- a kernel variable's address by the id of its type, and a function's address (section 5.4;
+-- BPF_PSEUDO_BTF_ID,
 -- BPF_PSEUDO_FUNC)
 abbrev pub pseudo_btf_id : ℕ
 pseudo_btf_id = 3
@@ -74,7 +103,8 @@ pseudo_btf_id = 3
 abbrev pub pseudo_func : ℕ
 pseudo_func = 4
 
--- the source of a call: of a function of the same program, and of a kernel function by the id of its type (section 4.3;
+-- the source of a call: of a function of the same program, and of a kernel function by the id of
+-- its type (section 4.3;
 -- BPF_PSEUDO_CALL, BPF_PSEUDO_KFUNC_CALL)
 abbrev pub pseudo_call : ℕ
 pseudo_call = 1
@@ -82,17 +112,19 @@ pseudo_call = 1
 abbrev pub pseudo_kfunc_call : ℕ
 pseudo_kfunc_call = 2
 
--- the immediate of a slot that a CO-RE relocation poisoned: the number of a helper function that no kernel has (libbpf's
--- relo_core.c)
+-- the immediate of a slot that a CO-RE relocation poisoned: the number of a helper function that no
+-- kernel has (libbpf's relo_core.c)
 abbrev pub poison_call : ℕ
 poison_call = 0x0bad2310
 
--- the immediate of a call of a weak extern that the kernel lacks, less the index of the extern's symbol (libbpf's
+-- the immediate of a call of a weak extern that the kernel lacks, less the index of the extern's
+-- symbol (libbpf's
 -- POISON_CALL_KFUNC_BASE)
 abbrev pub absent_kfunc : ℕ
 absent_kfunc = 2002000000
 
--- the bits of a load's or store's code that say how many bytes it moves: 8, 4, 2 and 1 (section 5; BPF_DW, BPF_W,
+-- the bits of a load's or store's code that say how many bytes it moves: 8, 4, 2 and 1 (section 5;
+-- BPF_DW, BPF_W,
 -- BPF_H, BPF_B)
 abbrev pub size_dw : ℕ
 size_dw = 0x18
@@ -122,10 +154,13 @@ abbrev pub is_zero : ℤ → Bool
 is_zero (pos n) = n == 0
 is_zero (negsuc n) = false
 
--- A call of a function of the same object, relative to this place: class 5 in the low three bits of the code and
+-- A call of a function of the same object, relative to this place: class 5 in the low three bits of
+-- the code and
 -- 0x80 in the others, source 1, destination 0, offset 0.
 abbrev pub is_pseudo_call : bpf_insn → Bool
-is_pseudo_call slot = (slot.code == call) && ((src_of slot == pseudo_call) && ((dst_of slot == 0) && is_zero slot.off))
+is_pseudo_call slot =
+    (slot.code == call)
+    && ((src_of slot == pseudo_call) && ((dst_of slot == 0) && is_zero slot.off))
 
 -- the code of a call, with no registers (section 4.3.1: a helper function by its number)
 abbrev pub is_helper_call : bpf_insn → Bool
@@ -147,7 +182,10 @@ slots_of bytes = map (λ k. slot_at bytes (8 * k)) (range_with_len 0 (length byt
 
 -- the bytes that a slot is
 abbrev pub slot_bytes : bpf_insn → List ℕ
-slot_bytes slot = slot.code ∷ slot.regs ∷ (little_bytes 2 (cast_unsigned w16 slot.off) ++ little_bytes 4 (cast_unsigned w32 slot.imm))
+slot_bytes slot =
+    slot.code
+    ∷ slot.regs
+    ∷ (little_bytes 2 (cast_unsigned w16 slot.off) ++ little_bytes 4 (cast_unsigned w32 slot.imm))
 
 -- bytes that are no whole slots
 unfoldable pub code_faults : List ℕ → List (Row ParseError)
@@ -157,8 +195,15 @@ code_faults bytes = (not (length bytes % 8 == 0), InvalidProgramCode) ∷ []
 
 -- the bytes of the slot at an offset are the eight from there on
 abbrev pub SlotIsBytes : Type 0
-SlotIsBytes = (bytes : List ℕ) (offset : ℕ) → All (λ b. b < 256) bytes → offset + 8 ≤ length bytes → slot_bytes (slot_at bytes offset) ≡ slice_range bytes offset (offset + 8)
+SlotIsBytes =
+    (bytes : List ℕ) (offset : ℕ)
+    → All (λ b. b < 256) bytes
+    → offset + 8 ≤ length bytes
+    → slot_bytes (slot_at bytes offset) ≡ slice_range bytes offset (offset + 8)
 
 -- the bytes of all slots, one after the other, are those of the whole slots that the bytes have
 abbrev pub SlotsAreBytes : Type 0
-SlotsAreBytes = (bytes : List ℕ) → All (λ b. b < 256) bytes → flat_map slot_bytes (slots_of bytes) ≡ take (8 * (length bytes / 8)) bytes
+SlotsAreBytes =
+    (bytes : List ℕ)
+    → All (λ b. b < 256) bytes
+    → flat_map slot_bytes (slots_of bytes) ≡ take (8 * (length bytes / 8)) bytes

@@ -6,13 +6,13 @@ mod error;
 pub mod insn;
 pub mod laws;
 pub mod maps;
+mod parse_mode;
 mod program_section;
 pub mod programs;
-mod parse_mode;
 mod section;
 mod section_name;
 
 pub use error::{ParseError, SymbolWords, Within};
-pub use program_section::ProgramSection;
 pub use parse_mode::ParseMode;
+pub use program_section::ProgramSection;
 pub use section::{EbpfSectionKind, Relocation, Section};

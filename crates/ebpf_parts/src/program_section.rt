@@ -6,11 +6,11 @@ ghost use Rattle.ebpf_parts.specs.Memory.{is_parse_memory};
 ghost use Rattle.ebpf_parts.specs.ProgramTypes.{without_mark, program_section, program_section_fault, section_as, section_fault_as};
 
 use crate::error::ParseError;
+use crate::parse_mode::ParseMode;
 use crate::programs::{
     CgroupSkbAttachType, CgroupSockAddrAttachType, CgroupSockAttachType, CgroupSockoptAttachType,
     SkReuseportAttachType, SkSkbKind, XdpAttachType,
 };
-use crate::parse_mode::ParseMode;
 use crate::section_name::program_section;
 use ebpf_base::Text;
 use std::alloc::Global;

@@ -132,7 +132,16 @@ pub struct Section<'a> {
 impl<'a> Model for Section<'a> {
     ghost Value = { SectionValue };
 
-    ghost view = { λ s. record { index = s.index; kind = s.kind; address = s.address; name = s.name.now; bytes = s.bytes.now; size = s.size; relocations = s.relocations } };
+    ghost view = { λ s.
+        record {
+          index = s.index;
+          kind = s.kind;
+          address = s.address;
+          name = s.name.now;
+          bytes = s.bytes.now;
+          size = s.size;
+          relocations = s.relocations;
+        } };
 }
 
 /// The name of a section.

@@ -1,9 +1,68 @@
 -- What a conditional jump tests (RFC 9669, section 4.3), of operands that fit the width.
-use Rattle.std.specs.Prelude.{ℕ, ℤ, Bool, not, Option, Some, None, bit_and, int_lt, int_le, nat_lt, nat_le, if◌then◌else◌, ◌==◌, ◌+◌, ◌-◌, ◌*◌, ◌/◌, ◌%◌, ◌^◌, pos, bit_or, bit_xor, int_rem}
-use Rattle.std.specs.Int.{Width, cast_signed, w8, w16, w32, w64, cast_unsigned, int_shr, int_wrapping_div, swap_bytes}
+use Rattle.std.specs.Prelude.{
+  ℕ,
+  ℤ,
+  Bool,
+  not,
+  Option,
+  Some,
+  None,
+  bit_and,
+  int_lt,
+  int_le,
+  nat_lt,
+  nat_le,
+  if◌then◌else◌,
+  ◌==◌,
+  ◌+◌,
+  ◌-◌,
+  ◌*◌,
+  ◌/◌,
+  ◌%◌,
+  ◌^◌,
+  pos,
+  bit_or,
+  bit_xor,
+  int_rem,
+}
+use Rattle.std.specs.Int.{
+  Width,
+  cast_signed,
+  w8,
+  w16,
+  w32,
+  w64,
+  cast_unsigned,
+  int_shr,
+  int_wrapping_div,
+  swap_bytes,
+}
 use Rattle.std.specs.Ordering.{int_eq}
 use mir.Val.{bits}
-use Rattle.ebpf_reachability.specs.Operations.{jeq, jgt, jge, jset, jne, jsgt, jsge, jlt, jle, jslt, jsle, op_add, op_sub, op_mul, op_div, op_or, op_and, op_lsh, op_rsh, op_mod, op_xor, op_arsh}
+use Rattle.ebpf_reachability.specs.Operations.{
+  jeq,
+  jgt,
+  jge,
+  jset,
+  jne,
+  jsgt,
+  jsge,
+  jlt,
+  jle,
+  jslt,
+  jsle,
+  op_add,
+  op_sub,
+  op_mul,
+  op_div,
+  op_or,
+  op_and,
+  op_lsh,
+  op_rsh,
+  op_mod,
+  op_xor,
+  op_arsh,
+}
 
 -- the operands as unsigned numbers, and as signed ones
 abbrev pub tested : ℕ → ℕ → ℕ → ℤ → ℤ → Option Bool
@@ -34,13 +93,15 @@ quotient x y = if y == 0 then 0 else x / y
 abbrev pub remainder : ℕ → ℕ → ℕ
 remainder x y = if y == 0 then x else x % y
 
--- quotient and remainder of signed numbers, rounded to zero; the least one by -1 gives itself, with remainder 0
+-- quotient and remainder of signed numbers, rounded to zero; the least one by -1 gives itself, with
+-- remainder 0
 abbrev pub signed_quotient : Width → ℕ → ℕ → ℕ
 signed_quotient w x y =
     if y == 0 then 0 else cast_unsigned w (int_wrapping_div w (cast_signed w x) (cast_signed w y))
 
 abbrev pub signed_remainder : Width → ℕ → ℕ → ℕ
-signed_remainder w x y = if y == 0 then x else cast_unsigned w (int_rem (cast_signed w x) (cast_signed w y))
+signed_remainder w x y =
+    if y == 0 then x else cast_unsigned w (int_rem (cast_signed w x) (cast_signed w y))
 
 -- A shift takes its lowest 5 or 6 bits.
 abbrev pub shifted_left : Width → ℕ → ℕ → ℕ

@@ -1,4 +1,5 @@
--- The operations of arithmetic and of conditional jumps: the high four bits of a code (RFC 9669, sections 4.1 and 4.3).
+-- The operations of arithmetic and of conditional jumps: the high four bits of a code (RFC 9669,
+-- sections 4.1 and 4.3).
 use Rattle.std.specs.Prelude.{ℕ}
 
 abbrev pub op_add : ℕ

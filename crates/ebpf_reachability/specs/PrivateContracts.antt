@@ -1,5 +1,19 @@
 -- What contracts of private functions name and no public one.
-use Rattle.std.specs.Prelude.{ℕ, Option, Some, None, List, [], ◌∷◌, if◌then◌else◌, ◌==◌, ◌<◌, IfSome, ◌++◌, length}
+use Rattle.std.specs.Prelude.{
+  ℕ,
+  Option,
+  Some,
+  None,
+  List,
+  [],
+  ◌∷◌,
+  if◌then◌else◌,
+  ◌==◌,
+  ◌<◌,
+  IfSome,
+  ◌++◌,
+  length,
+}
 use Rattle.ebpf_reachability.specs.declared.registers.Registers.{Registers}
 use Rattle.std.specs.Option.{option_to_list}
 use Rattle.ebpf_parts.specs.declared.insn.bpf_insn.{bpf_insn}
@@ -25,6 +39,7 @@ abbrev pub pair_to_list : Option SlotState × Option SlotState → List SlotStat
 pair_to_list pair = option_to_list pair.0 ++ option_to_list pair.1
 
 -- none of them leaves the program
-pub record AreWithin (slots : List bpf_insn) (pair : Option SlotState × Option SlotState) : Type 0 where
+pub record AreWithin (slots : List bpf_insn) (pair : Option SlotState × Option SlotState)
+    : Type 0 where
   pub first : IfSome pair.0 (λ step. step.place < length slots)
   pub second : IfSome pair.1 (λ step. step.place < length slots)

@@ -1,5 +1,25 @@
 -- How much more may be forgotten: what bounds the search.
-use Rattle.std.specs.Prelude.{ℕ, ◌+◌, Option, Some, None, List, [], ◌∷◌, ◌≡◌, pos, Bool, is_some, length, map, slice_index_or, ⊤, ◌*◌, ◌≤◌, ◌⊎◌}
+use Rattle.std.specs.Prelude.{
+  ℕ,
+  ◌+◌,
+  Option,
+  Some,
+  None,
+  List,
+  [],
+  ◌∷◌,
+  ◌≡◌,
+  pos,
+  Bool,
+  is_some,
+  length,
+  map,
+  slice_index_or,
+  ⊤,
+  ◌*◌,
+  ◌≤◌,
+  ◌⊎◌,
+}
 use Rattle.std.specs.List.{sum_by}
 use Rattle.ebpf_linker.specs.Functions.{Among}
 use Rattle.ebpf_parts.specs.declared.insn.bpf_insn.{bpf_insn}
@@ -14,7 +34,8 @@ numbers_known [] = 0
 numbers_known (None ∷ xs) = numbers_known xs
 numbers_known (Some n ∷ xs) = 1 + numbers_known xs
 
--- how often a slot may still change: it is reached once, and each of its registers is forgotten once
+-- how often a slot may still change: it is reached once, and each of its registers is forgotten
+-- once
 abbrev pub changes_left : Option Registers → ℕ
 changes_left None = 12
 changes_left (Some a) = numbers_known a.numbers
@@ -38,7 +59,8 @@ IsStateBelow (Some a) (Some b) = IsBelow a b
 abbrev pub AreBelow : Assignment → Assignment → Type 0
 AreBelow A B = (i : ℕ) → IsStateBelow (state_at A i) (state_at B i)
 
--- an assignment holds steps: where each leads is reached, and no more is known there than behind the step
+-- an assignment holds steps: where each leads is reached, and no more is known there than behind
+-- the step
 abbrev pub Holds : Assignment → List SlotState → Type 0
 Holds A [] = ⊤
 Holds A (step ∷ more) = IsStateBelow (Some step.registers) (state_at A step.place) × Holds A more
@@ -66,7 +88,8 @@ pub record AreReached (slots : List bpf_insn) (answer : List Bool) : Type 0 wher
 
 -- ---- the search under way: what private functions cite
 
--- how much the search has yet to do at most: each change of a slot makes it follow the slot once more
+-- how much the search has yet to do at most: each change of a slot makes it follow the slot once
+-- more
 abbrev pub work_left : Assignment → List ℕ → ℕ
 work_left A pending = 2 * sum_by changes_left A + length pending
 
@@ -85,8 +108,8 @@ abbrev pub steps_if_reached : List bpf_insn → ℕ → Option Registers → Lis
 steps_if_reached slots i None = []
 steps_if_reached slots i (Some a) = steps slots i a
 
--- What the search keeps: its assignment is below each closed one, it holds the first slot, and the steps of each slot
--- that isn't pending.
+-- What the search keeps: its assignment is below each closed one, it holds the first slot, and the
+-- steps of each slot that isn't pending.
 pub record Searched (slots : List bpf_insn) (A : Assignment) (pending : List ℕ) : Type 0 where
   pub as_many : length A ≡ length slots
   pub first : Holds A (steps_to slots (pos 0) unknown)

@@ -1,9 +1,42 @@
 -- What each closed assignment reaches: all that a program can come to.
-use Rattle.std.specs.Prelude.{◌≡◌, ℕ, zero, suc, ◌<◌, ℤ, pos, negsuc, Bool, IsSome, Option, Some, None, List, [], ◌∷◌, length, ⊤, ◌⊎◌, true, slice_get}
+use Rattle.std.specs.Prelude.{
+  ◌≡◌,
+  ℕ,
+  zero,
+  suc,
+  ◌<◌,
+  ℤ,
+  pos,
+  negsuc,
+  Bool,
+  IsSome,
+  Option,
+  Some,
+  None,
+  List,
+  [],
+  ◌∷◌,
+  length,
+  ⊤,
+  ◌⊎◌,
+  true,
+  slice_get,
+}
 use Rattle.std.specs.Option.{option_and_then}
 use Rattle.ebpf_parts.specs.declared.insn.bpf_insn.{bpf_insn}
 use Rattle.ebpf_linker.specs.Functions.{Flow, Branch, flow, slot_at_integer}
-use Rattle.ebpf_linker.specs.Machine.{State, StepResult, Goes, Ends, Waits, Leaves, run_steps, begin, flat_code, step_at}
+use Rattle.ebpf_linker.specs.Machine.{
+  State,
+  StepResult,
+  Goes,
+  Ends,
+  Waits,
+  Leaves,
+  run_steps,
+  begin,
+  flat_code,
+  step_at,
+}
 use Rattle.ebpf_reachability.specs.declared.registers.Registers.{Registers}
 use Rattle.ebpf_reachability.specs.declared.steps.SlotState.{SlotState}
 use Rattle.ebpf_reachability.specs.Effects.{IsBelow, known, decided}
@@ -12,7 +45,11 @@ use Rattle.ebpf_reachability.specs.Reached.{Assignment, AreReached, IsClosed, st
 
 -- one program has one answer
 abbrev pub AnswerIsOne : Type 0
-AnswerIsOne = (slots : List bpf_insn) (one other : List Bool) → AreReached slots one → AreReached slots other → one ≡ other
+AnswerIsOne =
+    (slots : List bpf_insn) (one other : List Bool)
+    → AreReached slots one
+    → AreReached slots other
+    → one ≡ other
 
 abbrev pub IsReached : Assignment → ℤ → Type 0
 IsReached A (pos i) = IsSome (state_at A i)
@@ -36,7 +73,8 @@ HeedsOne (Some known_one) (d ∷ decisions) = d ≡ known_one
 abbrev pub HeedsAt : Assignment → ℤ → Option bpf_insn → List Bool → Type 0
 HeedsAt A (negsuc i) slot decisions = ⊤
 HeedsAt A (pos i) None decisions = ⊤
-HeedsAt A (pos i) (Some slot) decisions = HeedsOne (known_way (state_at A i) slot (flow slot)) decisions
+HeedsAt A (pos i) (Some slot) decisions =
+    HeedsOne (known_way (state_at A i) slot (flow slot)) decisions
 
 abbrev pub HeedsTurn : (State ℤ → Type 0) → StepResult ℤ → Type 0
 HeedsTurn rest (Goes s) = rest s
@@ -47,11 +85,18 @@ HeedsTurn rest Leaves = ⊤
 -- In a run of the flat program's machine each decision at a jump heeds what is known there.
 abbrev pub Heeds : List bpf_insn → Assignment → ℕ → State ℤ → Type 0
 Heeds slots A zero s = ⊤
-Heeds slots A (suc n) s = HeedsAt A s.place (slot_at_integer slots s.place) s.decisions × HeedsTurn (Heeds slots A n) (step_at (flat_code slots) s (slot_at_integer slots s.place))
+Heeds slots A (suc n) s =
+    HeedsAt A s.place (slot_at_integer slots s.place) s.decisions
+    × HeedsTurn (Heeds slots A n) (step_at (flat_code slots) s (slot_at_integer slots s.place))
 
 -- Each place that such a run visits from the first slot is reached.
 abbrev pub VisitsAreReached : Type 0
-VisitsAreReached = (slots : List bpf_insn) (A : Assignment) → IsClosed slots A → (decisions : List Bool) (n : ℕ) → Heeds slots A n (begin (pos 0) decisions) → AllReached A (run_steps (flat_code slots) n (begin (pos 0) decisions)).visited
+VisitsAreReached =
+    (slots : List bpf_insn) (A : Assignment)
+    → IsClosed slots A
+    → (decisions : List Bool) (n : ℕ)
+    → Heeds slots A n (begin (pos 0) decisions)
+    → AllReached A (run_steps (flat_code slots) n (begin (pos 0) decisions)).visited
 
 -- an assignment that nowhere knows a number
 abbrev pub KnowsNothing : Assignment → Type 0
@@ -59,7 +104,12 @@ KnowsNothing A = (i r : ℕ) (a : Registers) → state_at A i ≡ Some a → kno
 
 -- There each place is reached that any run visits, whatever it decides.
 abbrev pub AllVisitsAreReached : Type 0
-AllVisitsAreReached = (slots : List bpf_insn) (A : Assignment) → IsClosed slots A → KnowsNothing A → (decisions : List Bool) (n : ℕ) → AllReached A (run_steps (flat_code slots) n (begin (pos 0) decisions)).visited
+AllVisitsAreReached =
+    (slots : List bpf_insn) (A : Assignment)
+    → IsClosed slots A
+    → KnowsNothing A
+    → (decisions : List Bool) (n : ℕ)
+    → AllReached A (run_steps (flat_code slots) n (begin (pos 0) decisions)).visited
 
 -- the registers as a machine has them: eleven numbers
 pub record AreNumbers (a : Registers) : Type 0 where
@@ -70,16 +120,33 @@ abbrev pub IsStep : List SlotState → SlotState → Type 0
 IsStep [] step = ⊥
 IsStep (s ∷ more) step = (s ≡ step) ⊎ IsStep more step
 
--- A machine comes to a slot with numbers in its registers: it begins at the first slot with any, and goes on by the
--- steps, with the numbers that these tell and any others in the registers of which they tell nothing.
+-- A machine comes to a slot with numbers in its registers: it begins at the first slot with any,
+-- and goes on by the steps, with the numbers that these tell and any others in the registers of
+-- which they tell nothing.
 pub data ComesTo (slots : List bpf_insn) : ℕ → Registers → Type 0 where
   Begins : (a : Registers) → 0 < length slots → AreNumbers a → ComesTo slots 0 a
-  GoesOn : (i : ℕ) (a b : Registers) (step : SlotState) → ComesTo slots i a → IsStep (steps slots i a) step → AreNumbers b → IsBelow b step.registers → ComesTo slots step.place b
+  GoesOn : (i : ℕ) (a b : Registers) (step : SlotState)
+      → ComesTo slots i a
+      → IsStep (steps slots i a) step
+      → AreNumbers b
+      → IsBelow b step.registers
+      → ComesTo slots step.place b
 
--- Each slot to which a machine comes is reached, and no register holds another number than the one that is known.
+-- Each slot to which a machine comes is reached, and no register holds another number than the one
+-- that is known.
 abbrev pub MachinesAreReached : Type 0
-MachinesAreReached = (slots : List bpf_insn) (A : Assignment) → IsClosed slots A → (i : ℕ) (a : Registers) → ComesTo slots i a → (b : Registers) × (state_at A i ≡ Some b) × IsBelow a b
+MachinesAreReached =
+    (slots : List bpf_insn) (A : Assignment)
+    → IsClosed slots A
+    → (i : ℕ) (a : Registers)
+    → ComesTo slots i a
+    → (b : Registers) × (state_at A i ≡ Some b) × IsBelow a b
 
 -- So the answer tells of each slot to which a machine comes that it is reached.
 abbrev pub AnswersCoverMachines : Type 0
-AnswersCoverMachines = (slots : List bpf_insn) (answer : List Bool) → AreReached slots answer → (i : ℕ) (a : Registers) → ComesTo slots i a → slice_get answer i ≡ Some true
+AnswersCoverMachines =
+    (slots : List bpf_insn) (answer : List Bool)
+    → AreReached slots answer
+    → (i : ℕ) (a : Registers)
+    → ComesTo slots i a
+    → slice_get answer i ≡ Some true

@@ -24,8 +24,10 @@ impl Search {
     /// Writes what is known at a slot, which is to be followed then.
     fn put(&mut self, place: usize, registers: Registers) -> Result<(), AllocError>
         requires { place < vec_len self.old.states }
-        ensures states { OnOk result (self.new.states.items ≡ slice_set self.old.states.items place (Some registers)) }
-        ensures pending { OnOk result (self.new.pending.items ≡ self.old.pending.items ++ place ∷ []) }
+        ensures states { OnOk result
+            (self.new.states.items ≡ slice_set self.old.states.items place (Some registers)) }
+        ensures pending { OnOk result
+            (self.new.pending.items ≡ self.old.pending.items ++ place ∷ []) }
     {
         self.states[place] = Some(registers);
         self.pending.push(place)?;
@@ -36,7 +38,9 @@ impl Search {
     fn join_state(&mut self, step: SlotState, before: Registers) -> Result<(), AllocError>
         requires within { step.place < vec_len self.old.states }
         requires before { state_at self.old.states.items step.place ≡ Some before }
-        ensures { OnOk result (TakesIn (step ∷ []) self.old.states.items self.new.states.items self.old.pending.items self.new.pending.items) }
+        ensures { OnOk result
+            (TakesIn (step ∷ []) self.old.states.items self.new.states.items
+            self.old.pending.items self.new.pending.items) }
     {
         let registers = before.least_upper_bound(&step.registers);
         if registers == before {
@@ -48,7 +52,9 @@ impl Search {
     /// Reaches a slot with what is known of the registers.
     fn reach(&mut self, step: SlotState) -> Result<(), AllocError>
         requires { step.place < vec_len self.old.states }
-        ensures { OnOk result (TakesIn (step ∷ []) self.old.states.items self.new.states.items self.old.pending.items self.new.pending.items) }
+        ensures { OnOk result
+            (TakesIn (step ∷ []) self.old.states.items self.new.states.items
+            self.old.pending.items self.new.pending.items) }
     {
         match self.states[step.place] {
             None => self.put(step.place, step.registers),
@@ -59,7 +65,9 @@ impl Search {
     /// Takes a step, if there is one.
     fn take(&mut self, step: Option<SlotState>) -> Result<(), AllocError>
         requires { IfSome step (λ step. step.place < vec_len self.old.states) }
-        ensures { OnOk result (TakesIn (option_to_list step) self.old.states.items self.new.states.items self.old.pending.items self.new.pending.items) }
+        ensures { OnOk result
+            (TakesIn (option_to_list step) self.old.states.items self.new.states.items
+            self.old.pending.items self.new.pending.items) }
     {
         match step {
             Some(step) => self.reach(step),
@@ -76,7 +84,9 @@ impl Search {
     ) -> Result<(), AllocError>
         requires within { place < length slots.now }
         requires as_many { vec_len self.old.states ≡ length slots.now }
-        ensures { OnOk result (TakesIn (steps slots.now place registers) self.old.states.items self.new.states.items self.old.pending.items self.new.pending.items) }
+        ensures { OnOk result
+            (TakesIn (steps slots.now place registers) self.old.states.items
+            self.new.states.items self.old.pending.items self.new.pending.items) }
     {
         let (first, second) = steps_from(slots, place, registers);
         self.take(first)?;
@@ -86,7 +96,10 @@ impl Search {
     /// Takes the steps from a slot, if it was reached.
     fn follow(&mut self, slots: &[bpf_insn], place: usize) -> Result<(), AllocError>
         requires { vec_len self.old.states ≡ length slots.now }
-        ensures { OnOk result (TakesIn (steps_if_reached slots.now place (state_at self.old.states.items place)) self.old.states.items self.new.states.items self.old.pending.items self.new.pending.items) }
+        ensures { OnOk result
+            (TakesIn (steps_if_reached slots.now place (state_at self.old.states.items place))
+            self.old.states.items self.new.states.items self.old.pending.items
+            self.new.pending.items) }
     {
         let Some(Some(registers)) = self.states.get(place) else {
             return Ok(());

@@ -39,7 +39,8 @@ fn step_further(
     registers: Registers,
 ) -> Option<SlotState>
     requires { place < length slots.now }
-    ensures steps_to { option_to_list result ≡ steps_to slots.now (target_index place by) registers }
+    ensures steps_to { option_to_list result
+        ≡ steps_to slots.now (target_index place by) registers }
     ensures within { IfSome result (λ step. step.place < length slots.now) }
 {
     match (place + 1).checked_add_signed(by as isize) {
@@ -56,7 +57,9 @@ fn ways(
     registers: Registers,
 ) -> (Option<SlotState>, Option<SlotState>)
     requires { place < length slots.now }
-    ensures ways { pair_to_list result ≡ ways (decided slot registers) (steps_to slots.now (next_index place) registers) (steps_to slots.now (target_index place slot.off) registers) }
+    ensures ways { pair_to_list result
+        ≡ ways (decided slot registers) (steps_to slots.now (next_index place) registers)
+        (steps_to slots.now (target_index place slot.off) registers) }
     ensures within { AreWithin slots.now result }
 {
     let here = step_to(slots, place + 1, registers);

@@ -21,10 +21,12 @@ use Rattle.ebpf_reloc.specs.declared.link_map.LinkMap.{LinkMap}
 
 -- a copy, with the name of its function
 abbrev pub code_copy : FinMap key_cmp Function → CopyOf FunctionKey → CodeCopy
-code_copy functions c = record { key = c.key; name = name_at functions c.key; base = c.base; slots = c.slots }
+code_copy functions c =
+    record { key = c.key; name = name_at functions c.key; base = c.base; slots = c.slots }
 
--- m is the link map of the program at a key: that program, and each function that it reaches, in the order of their key
--- paths, with their names; and the references of them all, in the order of their places
+-- m is the link map of the program at a key: that program, and each function that it reaches, in
+-- the order of their key paths, with their names; and the references of them all, in the order of
+-- their places
 pub record IsLinkMapAt (parts : LinkableValue) (key : FunctionKey) (m : LinkMap) : Type 0 where
   pub function : Function
   pub stands : get parts.functions key ≡ Some function
@@ -45,16 +47,22 @@ pub record ProgramValue : Type 0 where
 abbrev pub key_of : ProgramValue → FunctionKey
 key_of program = (program.section_index, program.address)
 
--- a function with the slots and the records of a linked program; a count that linking does not change stays
+-- a function with the slots and the records of a linked program; a count that linking does not
+-- change stays
 abbrev pub with_linked : Function → LinkedProgram → Function
 with_linked f l = record f {
   instructions = l.slots;
-  func_info = record f.func_info { num_info = unwrap_or l.func_count f.func_info.num_info; func_info = l.func_info };
-  line_info = record f.line_info { num_info = unwrap_or l.line_count f.line_info.num_info; line_info = l.line_info };
+  func_info =
+      record f.func_info
+      { num_info = unwrap_or l.func_count f.func_info.num_info; func_info = l.func_info };
+  line_info =
+      record f.line_info
+      { num_info = unwrap_or l.line_count f.line_info.num_info; line_info = l.line_info };
 }
 
--- The function at a key has become a linked program: it has the slots and the records of the function and of each
--- function that it reaches, in the order of their key paths, and visits what the separate functions visit.
+-- The function at a key has become a linked program: it has the slots and the records of the
+-- function and of each function that it reaches, in the order of their key paths, and visits what
+-- the separate functions visit.
 pub record IsLinked (parts : LinkableValue) (key : FunctionKey) (linked : Function) : Type 0 where
   pub function : Function
   pub stands : get parts.functions key ≡ Some function
@@ -62,26 +70,38 @@ pub record IsLinked (parts : LinkableValue) (key : FunctionKey) (linked : Functi
   pub is : linked ≡ with_linked function made
   pub order : List FunctionKey
   pub program : IsProgram (functions_of parts) key order made
-  pub visits : OnCallsOrLoads (functions_of parts) (key ∷ order) → SameVisits (functions_of parts) key order made.slots
+  pub visits : OnCallsOrLoads (functions_of parts) (key ∷ order)
+      → SameVisits (functions_of parts) key order made.slots
 
--- why the program at a key can't be linked: no function stands there, or the least fault of its references
+-- why the program at a key can't be linked: no function stands there, or the least fault of its
+-- references
 abbrev pub IsProgramFault : LinkableValue → FunctionKey → RelocationError → Type 0
 IsProgramFault parts key e =
-    MatchOption (get parts.functions key) (e ≡ UnknownProgram (key_section key) (key_address key)) (λ _. LeastFault (functions_of parts) (checked_references (functions_of parts) key) key e)
+    MatchOption (get parts.functions key) (e ≡ UnknownProgram (key_section key) (key_address key))
+    (λ _. LeastFault (functions_of parts) (checked_references (functions_of parts) key) key e)
 
 -- the refusal of a program: its name, and its fault
 abbrev pub IsProgramRefusal : LinkableValue → ProgramValue → EbpfRelocationError → Type 0
-IsProgramRefusal parts program e = (e.function ≡ program.name) × IsProgramFault parts (key_of program) e.error
+IsProgramRefusal parts program e =
+    (e.function ≡ program.name) × IsProgramFault parts (key_of program) e.error
 
 -- the programs are linked, each from the functions as they stood
-pub record AreLinked (parts : LinkableValue) (programs : List ProgramValue) (linked : FinMap key_cmp Function) : Type 0 where
-  pub keys : (key : FunctionKey) → contains_key linked key ≡ list_any (λ p. eq_by_cmp key_cmp key (key_of p)) programs
+pub record AreLinked (parts : LinkableValue) (programs : List ProgramValue)
+    (linked : FinMap key_cmp Function)
+    : Type 0 where
+  pub keys : (key : FunctionKey)
+      → contains_key linked key ≡ list_any (λ p. eq_by_cmp key_cmp key (key_of p)) programs
   pub each : (key : FunctionKey) (g : Function) → get linked key ≡ Some g → IsLinked parts key g
 
 -- the refusal of the first program that can't be linked
-pub record IsFirstRefusal (parts : LinkableValue) (programs : List ProgramValue) (e : EbpfRelocationError) : Type 0 where
+pub record IsFirstRefusal (parts : LinkableValue) (programs : List ProgramValue)
+    (e : EbpfRelocationError)
+    : Type 0 where
   pub index : ℕ
   pub program : ProgramValue
   pub at : slice_get programs index ≡ Some program
   pub refused : IsProgramRefusal parts program e
-  pub before : (k : ℕ) (earlier : ProgramValue) → k < index → slice_get programs k ≡ Some earlier → (linked : Function) × IsLinked parts (key_of earlier) linked
+  pub before : (k : ℕ) (earlier : ProgramValue)
+      → k < index
+      → slice_get programs k ≡ Some earlier
+      → (linked : Function) × IsLinked parts (key_of earlier) linked

@@ -1,5 +1,37 @@
 -- File descriptors of maps in slots, and the offsets in maps' data that slots in a row add up.
-use Rattle.std.specs.Prelude.{ℕ, ℤ, pos, negsuc, ◌^◌, ◌+ℤ◌, Bool, true, false, ◌||◌, if◌then◌else◌, nat_lt, List, [], ◌∷◌, map, Option, Some, None, Result, Ok, Err, ◌≡◌, ◌<◌, ◌+◌, ◌*◌, length, sum, unwrap_or, suc, option_map}
+use Rattle.std.specs.Prelude.{
+  ℕ,
+  ℤ,
+  pos,
+  negsuc,
+  ◌^◌,
+  ◌+ℤ◌,
+  Bool,
+  true,
+  false,
+  ◌||◌,
+  if◌then◌else◌,
+  nat_lt,
+  List,
+  [],
+  ◌∷◌,
+  map,
+  Option,
+  Some,
+  None,
+  Result,
+  Ok,
+  Err,
+  ◌≡◌,
+  ◌<◌,
+  ◌+◌,
+  ◌*◌,
+  length,
+  sum,
+  unwrap_or,
+  suc,
+  option_map,
+}
 use Rattle.std.specs.FinMap.{FinMap, get, empty, insert}
 use Rattle.std.specs.List.{flat_map}
 use Rattle.std.specs.Ordering.{nat_cmp}
@@ -11,16 +43,33 @@ use Rattle.ebpf_model.specs.Symbols.{TextSections}
 use Rattle.ebpf_model.specs.declared.function.Function.{Function}
 use Rattle.ebpf_model.specs.declared.symbol.Symbol.{Symbol}
 use Rattle.ebpf_parts.specs.Maps.{bytes_of, section_index_of, symbol_index_of}
-use Rattle.ebpf_parts.specs.Slots.{pseudo_map_fd, pseudo_map_value, is_pseudo_call, dst_of, registers}
+use Rattle.ebpf_parts.specs.Slots.{
+  pseudo_map_fd,
+  pseudo_map_value,
+  is_pseudo_call,
+  dst_of,
+  registers,
+}
 use Rattle.ebpf_parts.specs.declared.insn.bpf_insn.{bpf_insn}
 use Rattle.ebpf_parts.specs.declared.maps.either.Map.{Map}
-use Rattle.ebpf_reloc.specs.Relocated.{slot_or_zeros, found_slot, SectionRelocations, edit_at, first_refusal}
+use Rattle.ebpf_reloc.specs.Relocated.{
+  slot_or_zeros,
+  found_slot,
+  SectionRelocations,
+  edit_at,
+  first_refusal,
+}
 use Rattle.ebpf_reloc.specs.declared.edit.Edit.{Edit}
 use Rattle.ebpf_reloc.specs.declared.edit.Edit.TheVariants.{Stay, Slot, Pair}
 use Rattle.ebpf_reloc.specs.declared.maps.MapTables.{MapTables}
 use Rattle.ebpf_reloc.specs.declared.maps.MapTarget.{MapTarget}
 use Rattle.ebpf_reloc.specs.declared.edit.SlotFault.{SlotFault}
-use Rattle.ebpf_reloc.specs.declared.edit.SlotFault.TheVariants.{UnknownSymbol, InvalidOffset, SectionNotFound, MapAddressOverflow}
+use Rattle.ebpf_reloc.specs.declared.edit.SlotFault.TheVariants.{
+  UnknownSymbol,
+  InvalidOffset,
+  SectionNotFound,
+  MapAddressOverflow,
+}
 
 -- a map that is handed in: its descriptor, and the map
 abbrev pub GivenMap : Type 0
@@ -72,14 +121,17 @@ value_offset imm address = if fits_imm (imm +ℤ pos address) then Some (imm +�
 
 abbrev pub value_edit : Option ℤ → bpf_insn → ℤ → Result Edit SlotFault
 value_edit None slot descriptor = Err MapAddressOverflow
-value_edit (Some next) slot descriptor = Ok (Pair (with_source slot pseudo_map_value descriptor) next)
+value_edit (Some next) slot descriptor =
+    Ok (Pair (with_source slot pseudo_map_value descriptor) next)
 
 -- A map with data is named by source 2, with the offset in its data in the slot after it
 -- (RFC 9669, section 5.4: the address of a map's value); a map by source 1.
 abbrev pub target_edit : MapTarget → ℕ → bpf_insn → Bool → Result Edit SlotFault
 target_edit target address slot has_next =
     if target.has_data
-    then (if has_next then value_edit (value_offset slot.imm address) slot target.descriptor else Err InvalidOffset)
+    then (if has_next
+    then value_edit (value_offset slot.imm address) slot target.descriptor
+    else Err InvalidOffset)
     else Ok (Slot (with_source slot pseudo_map_fd target.descriptor))
 
 abbrev pub found_edit : Option MapTarget → ℕ → ℕ → bpf_insn → Bool → Result Edit SlotFault
@@ -88,26 +140,34 @@ found_edit (Some target) section address slot has_next = target_edit target addr
 
 -- the last map of the symbol, else the last of its section
 abbrev pub map_target_at : MapTables → ℕ → ℕ → Option MapTarget
-map_target_at tables symbol section = or_else (get tables.by_symbol symbol) (get tables.by_section section)
+map_target_at tables symbol section =
+    or_else (get tables.by_symbol symbol) (get tables.by_section section)
 
 -- a call of a function and a symbol among the functions are no matter of maps
-abbrev pub section_edit : MapInputs → ℕ → ElfRelocation → Symbol → bpf_insn → Bool → Result Edit SlotFault
+abbrev pub section_edit : MapInputs → ℕ → ElfRelocation → Symbol → bpf_insn → Bool
+    → Result Edit SlotFault
 section_edit inputs section relocation symbol slot has_next =
     if is_pseudo_call slot || inputs.text_sections section
     then Ok Stay
-    else found_edit (map_target_at inputs.tables relocation.symbol_index section) section symbol.address slot has_next
+    else found_edit (map_target_at inputs.tables relocation.symbol_index section) section
+    symbol.address slot has_next
 
-abbrev pub edit_in_section : MapInputs → Option ℕ → ElfRelocation → Symbol → bpf_insn → Bool → Result Edit SlotFault
+abbrev pub edit_in_section : MapInputs → Option ℕ → ElfRelocation → Symbol → bpf_insn → Bool
+    → Result Edit SlotFault
 edit_in_section inputs None relocation symbol slot has_next = Ok Stay
-edit_in_section inputs (Some section) relocation symbol slot has_next = section_edit inputs section relocation symbol slot has_next
+edit_in_section inputs (Some section) relocation symbol slot has_next =
+    section_edit inputs section relocation symbol slot has_next
 
-abbrev pub map_edit_of_symbol : MapInputs → Option Symbol → ElfRelocation → bpf_insn → Bool → Result Edit SlotFault
+abbrev pub map_edit_of_symbol : MapInputs → Option Symbol → ElfRelocation → bpf_insn → Bool
+    → Result Edit SlotFault
 map_edit_of_symbol inputs None relocation slot has_next = Err UnknownSymbol
-map_edit_of_symbol inputs (Some symbol) relocation slot has_next = edit_in_section inputs symbol.section_index relocation symbol slot has_next
+map_edit_of_symbol inputs (Some symbol) relocation slot has_next =
+    edit_in_section inputs symbol.section_index relocation symbol slot has_next
 
 -- what becomes of a slot with a relocation
 abbrev pub map_edit : MapInputs → ElfRelocation → bpf_insn → Bool → Result Edit SlotFault
-map_edit inputs relocation slot has_next = map_edit_of_symbol inputs (get inputs.symbols relocation.symbol_index) relocation slot has_next
+map_edit inputs relocation slot has_next =
+    map_edit_of_symbol inputs (get inputs.symbols relocation.symbol_index) relocation slot has_next
 
 -- ---- the offsets in maps' data, slot by slot
 
@@ -115,7 +175,8 @@ abbrev pub address_in : Option MapTarget → ℕ → Option ℕ
 address_in None address = None
 address_in (Some target) address = if target.has_data then Some address else None
 
-abbrev pub data_address_in_section : MapInputs → Option ℕ → ElfRelocation → Symbol → bpf_insn → Option ℕ
+abbrev pub data_address_in_section : MapInputs → Option ℕ → ElfRelocation → Symbol → bpf_insn
+    → Option ℕ
 data_address_in_section inputs None relocation symbol slot = None
 data_address_in_section inputs (Some section) relocation symbol slot =
     if is_pseudo_call slot || inputs.text_sections section
@@ -124,23 +185,32 @@ data_address_in_section inputs (Some section) relocation symbol slot =
 
 abbrev pub data_address_of_symbol : MapInputs → Option Symbol → ElfRelocation → bpf_insn → Option ℕ
 data_address_of_symbol inputs None relocation slot = None
-data_address_of_symbol inputs (Some symbol) relocation slot = data_address_in_section inputs symbol.section_index relocation symbol slot
+data_address_of_symbol inputs (Some symbol) relocation slot =
+    data_address_in_section inputs symbol.section_index relocation symbol slot
 
 abbrev pub data_address_by : MapInputs → Option ElfRelocation → bpf_insn → Option ℕ
 data_address_by inputs None slot = None
-data_address_by inputs (Some relocation) slot = data_address_of_symbol inputs (get inputs.symbols relocation.symbol_index) relocation slot
+data_address_by inputs (Some relocation) slot =
+    data_address_of_symbol inputs (get inputs.symbols relocation.symbol_index) relocation slot
 
 -- the symbol's address at slot k, where its relocation is to a map with data
 abbrev pub data_address : MapInputs → SectionRelocations → Function → ℕ → Option ℕ
-data_address inputs section_relocations f k = data_address_by inputs (get section_relocations (f.section_offset + 8 * k)) (slot_or_zeros f.instructions k)
+data_address inputs section_relocations f k =
+    data_address_by inputs (get section_relocations (f.section_offset + 8 * k))
+    (slot_or_zeros f.instructions k)
 
--- Where no relocation is refused, the slot after one that is relocated to a map with data is found with the immediate that
--- this one is found with plus the symbol's address, and the slot after another as it was.
+-- Where no relocation is refused, the slot after one that is relocated to a map with data is found
+-- with the immediate that this one is found with plus the symbol's address, and the slot after
+-- another as it was.
 abbrev pub OffsetsAddUp : Type 0
-OffsetsAddUp = (inputs : MapInputs) (section_relocations : SectionRelocations) (f : Function) (k : ℕ)
+OffsetsAddUp =
+    (inputs : MapInputs) (section_relocations : SectionRelocations) (f : Function) (k : ℕ)
     → first_refusal (map_edit inputs) section_relocations f ≡ None → suc k < length f.instructions
-    → (found_slot (edit_at (map_edit inputs) section_relocations f.section_offset (length f.instructions)) f.instructions (suc k)).imm
-    ≡ unwrap_or (option_map (λ address. (found_slot (edit_at (map_edit inputs) section_relocations f.section_offset (length f.instructions)) f.instructions k).imm +ℤ pos address)
+    → (found_slot
+    (edit_at (map_edit inputs) section_relocations f.section_offset
+    (length f.instructions)) f.instructions (suc k)).imm
+    ≡ unwrap_or (option_map (λ address. (found_slot (edit_at (map_edit inputs) section_relocations
+    f.section_offset (length f.instructions)) f.instructions k).imm +ℤ pos address)
     (data_address inputs section_relocations f k)) (slot_or_zeros f.instructions (suc k)).imm
 
 -- ---- what contracts of private functions name and no public one

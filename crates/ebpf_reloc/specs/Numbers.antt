@@ -4,10 +4,22 @@ use Rattle.std.specs.FinMap.{FinMap, entries}
 use Rattle.std.specs.Map.{keys_of}
 use Rattle.ebpf_base.specs.Maps.{key_cmp}
 use Rattle.ebpf_linker.specs.declared.reference.Fault.{Fault}
-use Rattle.ebpf_linker.specs.declared.reference.Fault.TheVariants.{UnsupportedTextSymbol, UnknownFunction, FunctionInfoMismatch, ProgramTooLong, InvalidLineInfo}
+use Rattle.ebpf_linker.specs.declared.reference.Fault.TheVariants.{
+  UnsupportedTextSymbol,
+  UnknownFunction,
+  FunctionInfoMismatch,
+  ProgramTooLong,
+  InvalidLineInfo,
+}
 use Rattle.ebpf_model.specs.Symbols.{FunctionKey}
 use Rattle.ebpf_model.specs.declared.error.RelocationError.{RelocationError}
-use Rattle.ebpf_model.specs.declared.error.RelocationError.TheVariants.{UnsupportedTextSymbol as NoTextSymbol, UnknownFunction as NoFunction, FunctionInfoMismatch as Mismatch, ProgramTooLong as TooLong, InvalidLineInfo as StrayLine}
+use Rattle.ebpf_model.specs.declared.error.RelocationError.TheVariants.{
+  UnsupportedTextSymbol as NoTextSymbol,
+  UnknownFunction as NoFunction,
+  FunctionInfoMismatch as Mismatch,
+  ProgramTooLong as TooLong,
+  InvalidLineInfo as StrayLine,
+}
 use Rattle.ebpf_model.specs.declared.function.Function.{Function}
 use Rattle.ebpf_reloc.specs.References.{function_name_or_empty}
 use Rattle.ebpf_reloc.specs.SlotTargets.{LinkableValue}
@@ -35,7 +47,9 @@ function_name functions number = function_name_or_empty (slice_get functions num
 -- a fault, with the names of functions for their numbers
 abbrev pub with_function_names : List Function → Fault → RelocationError
 with_function_names functions (UnsupportedTextSymbol index) = NoTextSymbol index
-with_function_names functions (UnknownFunction address caller) = NoFunction address (function_name functions caller)
-with_function_names functions (FunctionInfoMismatch callee) = Mismatch (function_name functions callee)
+with_function_names functions (UnknownFunction address caller) =
+    NoFunction address (function_name functions caller)
+with_function_names functions (FunctionInfoMismatch callee) =
+    Mismatch (function_name functions callee)
 with_function_names functions (ProgramTooLong callee) = TooLong (function_name functions callee)
 with_function_names functions (InvalidLineInfo callee) = StrayLine (function_name functions callee)

@@ -14,7 +14,10 @@ use Rattle.std.specs.List.{position_from}
 use Rattle.std.specs.Ordering.{eq_by_cmp}
 use Rattle.ebpf_base.specs.Maps.{key_cmp}
 use Rattle.ebpf_linker.specs.declared.reference.Reference.{Reference}
-use Rattle.ebpf_linker.specs.declared.reference.Fault.TheVariants.{UnsupportedTextSymbol, UnknownFunction}
+use Rattle.ebpf_linker.specs.declared.reference.Fault.TheVariants.{
+  UnsupportedTextSymbol,
+  UnknownFunction,
+}
 use Rattle.ebpf_linker.specs.declared.reference.Target.{Target}
 use Rattle.ebpf_linker.specs.declared.reference.Target.TheVariants.{Function as ToFunction, Nowhere}
 use Rattle.ebpf_parts.specs.declared.insn.bpf_insn.{bpf_insn}
@@ -23,10 +26,18 @@ use Rattle.ebpf_reloc.specs.declared.slot_target.SlotTarget.TheVariants.{Absent,
 
 -- a copy, with the key and the name of the function with its number
 abbrev pub named_copy : List FunctionKey → List Function → NumberedCopy → CodeCopy
-named_copy keys functions c = record { key = key_in keys c.function; name = function_name functions c.function; base = c.base; slots = c.slots }
+named_copy keys functions c =
+    record {
+      key = key_in keys c.function;
+      name = function_name functions c.function;
+      base = c.base;
+      slots = c.slots;
+    }
 
 -- the layout of the program at a key, of the functions by numbers
-pub record IsLaidOutAt (parts : LinkableValue) (B : List Body) (C : List (Vec Reference Global)) (key : FunctionKey) (l : ProgramLayout) : Type 0 where
+pub record IsLaidOutAt (parts : LinkableValue) (B : List Body) (C : List (Vec Reference Global))
+    (key : FunctionKey) (l : ProgramLayout)
+    : Type 0 where
   pub start : l.start < length (function_keys parts.functions)
   pub key_is : key_in (function_keys parts.functions) l.start ≡ key
   pub laid_out : IsLaidOut B C l
@@ -43,10 +54,13 @@ numbered_target_by (Some number) caller address = ToFunction number
 abbrev pub numbered_target : List FunctionKey → ℕ → SlotTarget → Option Target
 numbered_target keys caller Absent = None
 numbered_target keys caller (Unsupported index) = Some (Nowhere (UnsupportedTextSymbol index))
-numbered_target keys caller (At section address) = Some (numbered_target_by (number_of_key keys (section, address)) caller address)
+numbered_target keys caller (At section address) =
+    Some (numbered_target_by (number_of_key keys (section, address)) caller address)
 
-abbrev pub numbered_target_at : LinkableValue → List FunctionKey → ℕ → Function → ℕ → bpf_insn → Option Target
-numbered_target_at parts keys caller f i slot = numbered_target keys caller (slot_target_of parts f i slot)
+abbrev pub numbered_target_at : LinkableValue → List FunctionKey → ℕ → Function → ℕ → bpf_insn
+    → Option Target
+numbered_target_at parts keys caller f i slot =
+    numbered_target keys caller (slot_target_of parts f i slot)
 
 abbrev pub with_call : ℕ → Option Target → List Reference → List Reference
 with_call i None calls = calls

@@ -2,11 +2,24 @@
 use Rattle.std.specs.Prelude.{ℕ, List, [], Option, Some, None, if◌then◌else◌, slice_get, option_map}
 use Rattle.std.specs.FinMap.{FinMap, get, contains_key}
 use Rattle.ebpf_base.specs.Maps.{key_cmp}
-use Rattle.ebpf_linker.specs.Functions.{SlotReference, Nothing, Faulty, Names, FunctionContent, Functions}
+use Rattle.ebpf_linker.specs.Functions.{
+  SlotReference,
+  Nothing,
+  Faulty,
+  Names,
+  FunctionContent,
+  Functions,
+}
 use Rattle.ebpf_parts.specs.declared.insn.bpf_insn.{bpf_insn}
 use Rattle.ebpf_model.specs.Symbols.{FunctionKey}
 use Rattle.ebpf_model.specs.declared.error.RelocationError.{RelocationError}
-use Rattle.ebpf_model.specs.declared.error.RelocationError.TheVariants.{UnsupportedTextSymbol, UnknownFunction, FunctionInfoMismatch, ProgramTooLong, InvalidLineInfo}
+use Rattle.ebpf_model.specs.declared.error.RelocationError.TheVariants.{
+  UnsupportedTextSymbol,
+  UnknownFunction,
+  FunctionInfoMismatch,
+  ProgramTooLong,
+  InvalidLineInfo,
+}
 use Rattle.ebpf_model.specs.declared.function.Function.{Function}
 use Rattle.ebpf_reloc.specs.declared.slot_target.SlotTarget.{SlotTarget}
 use Rattle.ebpf_reloc.specs.declared.slot_target.SlotTarget.TheVariants.{Absent, Unsupported, At}
@@ -14,7 +27,12 @@ use Rattle.ebpf_reloc.specs.SlotTargets.{LinkableValue, slot_target_of}
 
 -- what is linked of a function
 abbrev pub content_of : Function → FunctionContent
-content_of f = record { slots = f.instructions; func_info = f.func_info.func_info; line_info = f.line_info.line_info }
+content_of f =
+    record {
+      slots = f.instructions;
+      func_info = f.func_info.func_info;
+      line_info = f.line_info.line_info;
+    }
 
 abbrev pub function_name_or_empty : Option Function → List ℕ
 function_name_or_empty None = []
@@ -25,18 +43,31 @@ abbrev pub name_at : FinMap key_cmp Function → FunctionKey → List ℕ
 name_at functions key = function_name_or_empty (get functions key)
 
 -- what a slot of a function with this name refers to, by its target
-abbrev pub looked_up : FinMap key_cmp Function → List ℕ → SlotTarget → SlotReference FunctionKey RelocationError
+abbrev pub looked_up : FinMap key_cmp Function
+    → List ℕ
+    → SlotTarget
+    → SlotReference FunctionKey RelocationError
 looked_up functions caller Absent = Nothing
 looked_up functions caller (Unsupported index) = Faulty (UnsupportedTextSymbol index)
 looked_up functions caller (At section address) =
-    if contains_key functions (section, address) then Names (section, address) else Faulty (UnknownFunction address caller)
+    if contains_key functions (section, address)
+    then Names (section, address)
+    else Faulty (UnknownFunction address caller)
 
-abbrev pub slot_reference : LinkableValue → Function → ℕ → Option bpf_insn → SlotReference FunctionKey RelocationError
+abbrev pub slot_reference : LinkableValue
+    → Function
+    → ℕ
+    → Option bpf_insn
+    → SlotReference FunctionKey RelocationError
 slot_reference parts f i None = Nothing
-slot_reference parts f i (Some slot) = looked_up parts.functions f.name (slot_target_of parts f i slot)
+slot_reference parts f i (Some slot) =
+    looked_up parts.functions f.name (slot_target_of parts f i slot)
 
 -- what slot i of a function refers to
-abbrev pub reference_of : LinkableValue → Option Function → ℕ → SlotReference FunctionKey RelocationError
+abbrev pub reference_of : LinkableValue
+    → Option Function
+    → ℕ
+    → SlotReference FunctionKey RelocationError
 reference_of parts None i = Nothing
 reference_of parts (Some f) i = slot_reference parts f i (slice_get f.instructions i)
 

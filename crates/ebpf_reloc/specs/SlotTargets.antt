@@ -1,5 +1,27 @@
 -- What the slots of functions refer to.
-use Rattle.std.specs.Prelude.{ℕ, ◌+◌, ◌*◌, ◌^◌, ◌==◌, ℤ, pos, ◌+ℤ◌, ◌*ℤ◌, unsigned_abs, Bool, true, false, not, ◌&&◌, ◌||◌, if◌then◌else◌, Option, Some, None, unwrap_or}
+use Rattle.std.specs.Prelude.{
+  ℕ,
+  ◌+◌,
+  ◌*◌,
+  ◌^◌,
+  ◌==◌,
+  ℤ,
+  pos,
+  ◌+ℤ◌,
+  ◌*ℤ◌,
+  unsigned_abs,
+  Bool,
+  true,
+  false,
+  not,
+  ◌&&◌,
+  ◌||◌,
+  if◌then◌else◌,
+  Option,
+  Some,
+  None,
+  unwrap_or,
+}
 use Rattle.std.specs.FinMap.{FinMap, get}
 use Rattle.std.specs.Int.{int_rem_euclid}
 use Rattle.std.specs.Ordering.{nat_cmp}
@@ -44,12 +66,15 @@ abbrev pub is_text_section : TextSections → Option ℕ → Bool
 is_text_section text_sections None = false
 is_text_section text_sections (Some section) = text_sections section
 
--- a symbol that says what a slot refers to: a function's, or one in a section of functions, but no extern
+-- a symbol that says what a slot refers to: a function's, or one in a section of functions, but no
+-- extern
 abbrev pub is_usable : TextSections → Symbol → Bool
 is_usable text_sections symbol =
-    not (is_extern symbol) && (names_function symbol.kind || is_text_section text_sections symbol.section_index)
+    not (is_extern symbol)
+    && (names_function symbol.kind || is_text_section text_sections symbol.section_index)
 
--- The address that a relocation gives (LLVM's R_BPF_64_32 of 32 bits counts slots from the next one on,
+-- The address that a relocation gives (LLVM's R_BPF_64_32 of 32 bits counts slots from the next one
+-- on,
 -- R_BPF_64_64 of 64 bits counts bytes); none but these two refers into a section.
 abbrev pub section_symbol_address : ℕ → ℕ → ℤ → Option ℕ
 section_symbol_address size address imm =
@@ -71,7 +96,8 @@ target_in_section index None address = Unsupported index
 
 -- what a relocation of this size to a symbol refers to, in a slot with this immediate
 abbrev pub symbol_target : Symbol → ℕ → ℤ → SlotTarget
-symbol_target symbol size imm = target_in_section symbol.index symbol.section_index (reference_address symbol size imm)
+symbol_target symbol size imm =
+    target_in_section symbol.index symbol.section_index (reference_address symbol size imm)
 
 abbrev pub usable_target : Bool → SlotTarget → Option SlotTarget
 usable_target true slot_target = Some slot_target
@@ -90,15 +116,18 @@ relocated_target parts imm (Some relocation) =
 
 -- the relocation of slot i of a function
 abbrev pub relocation_of : LinkableValue → Function → ℕ → Option ElfRelocation
-relocation_of parts f i = found_at (get parts.relocations f.section_index.0) (f.section_offset + 8 * i)
+relocation_of parts f i =
+    found_at (get parts.relocations f.section_index.0) (f.section_offset + 8 * i)
 
 -- what slot i of a function refers to by itself: a pseudo call counts slots from the next one on
 abbrev pub own_target : Function → ℕ → bpf_insn → SlotTarget
 own_target f i slot =
     if is_pseudo_call slot
-    then At f.section_index.0 (modulo (pos (f.section_offset + 8 * i) +ℤ (slot.imm +ℤ pos 1) *ℤ pos 8))
+    then At f.section_index.0
+    (modulo (pos (f.section_offset + 8 * i) +ℤ (slot.imm +ℤ pos 1) *ℤ pos 8))
     else Absent
 
 -- what slot i of a function refers to: by its relocation where that is usable, else by itself
 abbrev pub slot_target_of : LinkableValue → Function → ℕ → bpf_insn → SlotTarget
-slot_target_of parts f i slot = unwrap_or (relocated_target parts slot.imm (relocation_of parts f i)) (own_target f i slot)
+slot_target_of parts f i slot =
+    unwrap_or (relocated_target parts slot.imm (relocation_of parts f i)) (own_target f i slot)

@@ -71,11 +71,15 @@ fn calls_of(
     caller: usize,
     function: &Function,
 ) -> Result<Vec<Reference>, AllocError>
-    requires section_relocations { walked_relocations walk.old ≡ get (read parts.now).relocations function.now.section_index.0 }
+    requires section_relocations { walked_relocations walk.old
+        ≡ get (read parts.now).relocations function.now.section_index.0 }
     requires before { IsBefore walk.old function.now.section_offset }
-    ensures calls { IfOk result (λ calls. calls.items ≡ calls_of (read parts.now) numbers.now.keys.now caller function.now) }
+    ensures calls { IfOk result (λ calls.
+        calls.items ≡ calls_of (read parts.now) numbers.now.keys.now caller function.now) }
     ensures others { walk.new ≡ record walk.old { next = walk.new.next; ahead = walk.new.ahead } }
-    ensures before { OnOk result (IsBefore walk.new (function.now.section_offset + 8 * length function.now.instructions)) }
+    ensures before { OnOk result
+        (IsBefore walk.new
+        (function.now.section_offset + 8 * length function.now.instructions)) }
 {
     let slots = function.instructions.as_slice();
     let mut calls = Vec::with_capacity(alloc, count_calls(slots))?;
@@ -99,7 +103,9 @@ pub fn all_calls(
     functions: &[&Function],
 ) -> Result<Vec<Vec<Reference>>, AllocError>
     requires { IsStrictlySortedBy key_cmp keys.now }
-    ensures { IfOk result (λ calls. map (λ v. v.items) calls.items ≡ calls_from (read parts.now) keys.now 0 (map (λ f. f.now) functions.now)) }
+    ensures { IfOk result (λ calls.
+        map (λ v. v.items) calls.items
+        ≡ calls_from (read parts.now) keys.now 0 (map (λ f. f.now) functions.now)) }
 {
     let numbers = KeyNumbers::new(keys);
     let mut calls = Vec::with_capacity(alloc, functions.len())?;

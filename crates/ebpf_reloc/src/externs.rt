@@ -193,8 +193,11 @@ pub fn relocate_externs(
     relocations: &BySection<ByOffset<Relocation>>,
     externs: &ByName<ExternDesc>,
 ) -> Result<(), EbpfRelocationError>
-    ensures ok { OnOk result (functions.new ≡ map_values (externs_written symbols.now externs.now relocations.now) functions.old) }
-    ensures fault { Refuses is_memory_at result (extern_fault symbols.now externs.now relocations.now functions.old) }
+    ensures ok { OnOk result
+        (functions.new
+        ≡ map_values (externs_written symbols.now externs.now relocations.now) functions.old) }
+    ensures fault { Refuses is_memory_at result
+        (extern_fault symbols.now externs.now relocations.now functions.old) }
     ensures memory { IfErr result (λ e. is_memory_at e ≡ true → e ≡ out_of_memory) }
     ensures err { OnErr result (functions.new ≡ functions.old) }
 {

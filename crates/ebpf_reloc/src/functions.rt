@@ -44,7 +44,8 @@ fn symbol_name_of(symbols: &ByIndex<Symbol>, symbol: usize) -> Result<Option<Tex
 
 /// A copy of a symbol's name, empty where it has none.
 fn text_of(alloc: Global, symbols: &ByIndex<Symbol>, symbol: usize) -> Result<Text, AllocError>
-    ensures { IfOk result (λ name. name ≡ unwrap_or (symbol_name_of (map.get symbols.now symbol)) []) }
+    ensures { IfOk result (λ name.
+        name ≡ unwrap_or (symbol_name_of (map.get symbols.now symbol)) []) }
 {
     match symbol_name_of(symbols, symbol)? {
         Some(name) => Ok(name),
@@ -92,7 +93,12 @@ pub fn refused(
     function: &Function,
     refusal: SlotRefusal,
 ) -> EbpfRelocationError
-    ensures error { MatchBool (is_memory_at result) (result ≡ out_of_memory) (result ≡ record { function = function.now.name; error = error_of symbols.now section_relocations.now refusal }) }
+    ensures error { MatchBool (is_memory_at result) (result ≡ out_of_memory)
+        (result
+        ≡ record {
+          function = function.now.name;
+          error = error_of symbols.now section_relocations.now refusal;
+        }) }
 {
     let copy: Result<Text, AllocError> = function.name.clone();
     let Ok(name) = copy else {
@@ -118,8 +124,12 @@ fn check_function<'a>(
     function: &Function,
 ) -> Result<bool, EbpfRelocationError>
     requires { IsWithinFunction relocations.now walk.old }
-    ensures stays { IfOk result (λ edits. edits ≡ false → relocated (rule_edit_of rule.now) relocations.now function.now ≡ function.now) }
-    ensures fault { Refuses is_memory_at result (function_fault (rule_edit_of rule.now) (rule_symbols rule.now) relocations.now function.now) }
+    ensures stays { IfOk result (λ edits.
+        edits ≡ false
+        → relocated (rule_edit_of rule.now) relocations.now function.now ≡ function.now) }
+    ensures fault { Refuses is_memory_at result
+        (function_fault (rule_edit_of rule.now) (rule_symbols rule.now) relocations.now
+        function.now) }
     ensures memory { IfErr result (λ e. is_memory_at e ≡ true → e ≡ out_of_memory) }
     ensures ready { OnOk result (IsWithinFunction relocations.now walk.new) }
 {
@@ -148,8 +158,13 @@ fn check_functions(
     relocations: &BySection<ByOffset<Relocation>>,
     functions: &ByKey<Function>,
 ) -> Result<bool, EbpfRelocationError>
-    ensures stay { IfOk result (λ edits. edits ≡ false → map_values (relocated (rule_edit_of rule.now) relocations.now) functions.now ≡ functions.now) }
-    ensures fault { Refuses is_memory_at result (first_fault (rule_edit_of rule.now) (rule_symbols rule.now) relocations.now functions.now) }
+    ensures stay { IfOk result (λ edits.
+        edits ≡ false
+        → map_values (relocated (rule_edit_of rule.now) relocations.now) functions.now
+        ≡ functions.now) }
+    ensures fault { Refuses is_memory_at result
+        (first_fault (rule_edit_of rule.now) (rule_symbols rule.now) relocations.now
+        functions.now) }
     ensures memory { IfErr result (λ e. is_memory_at e ≡ true → e ≡ out_of_memory) }
 {
     let mut edits = false;
@@ -185,8 +200,12 @@ pub fn relocate(
     relocations: &BySection<ByOffset<Relocation>>,
     functions: &mut ByKey<Function>,
 ) -> Result<(), EbpfRelocationError>
-    ensures ok { OnOk result (functions.new ≡ map_values (relocated (rule_edit_of rule.now) relocations.now) functions.old) }
-    ensures fault { Refuses is_memory_at result (first_fault (rule_edit_of rule.now) (rule_symbols rule.now) relocations.now functions.old) }
+    ensures ok { OnOk result
+        (functions.new
+        ≡ map_values (relocated (rule_edit_of rule.now) relocations.now) functions.old) }
+    ensures fault { Refuses is_memory_at result
+        (first_fault (rule_edit_of rule.now) (rule_symbols rule.now) relocations.now
+        functions.old) }
     ensures memory { IfErr result (λ e. is_memory_at e ≡ true → e ≡ out_of_memory) }
     ensures err { OnErr result (functions.new ≡ functions.old) }
 {

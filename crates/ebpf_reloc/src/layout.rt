@@ -22,8 +22,13 @@ impl<'a> NumberedFunctions<'a> {
         number: usize,
     ) -> Result<ProgramLayout, RelocationError>
         requires { number < length (function_keys (read self.now.parts).functions) }
-        ensures layout { IfOk result (λ l. IsLaidOutAt (read self.now.parts) self.now.bodies.items self.now.calls.items (key_of_number (read self.now.parts) number) l) }
-        ensures fault { IfErr result (λ e. MatchBool (is_slot_memory e) ⊤ (IsProgramFault (read self.now.parts) (key_of_number (read self.now.parts) number) e)) }
+        ensures layout { IfOk result (λ l.
+            IsLaidOutAt (read self.now.parts) self.now.bodies.items self.now.calls.items
+            (key_of_number (read self.now.parts) number) l) }
+        ensures fault { IfErr result (λ e.
+            MatchBool (is_slot_memory e) ⊤
+            (IsProgramFault (read self.now.parts)
+            (key_of_number (read self.now.parts) number) e)) }
     {
         let answer = self.linker_functions().lay_out(alloc, number)?;
         let functions = self.functions.as_slice();
@@ -40,8 +45,12 @@ impl<'a> NumberedFunctions<'a> {
         section: usize,
         address: u64,
     ) -> Result<ProgramLayout, RelocationError>
-        ensures layout { IfOk result (λ l. IsLaidOutAt (read self.now.parts) self.now.bodies.items self.now.calls.items (section, address) l) }
-        ensures fault { IfErr result (λ e. MatchBool (is_slot_memory e) ⊤ (IsProgramFault (read self.now.parts) (section, address) e)) }
+        ensures layout { IfOk result (λ l.
+            IsLaidOutAt (read self.now.parts) self.now.bodies.items self.now.calls.items
+            (section, address) l) }
+        ensures fault { IfErr result (λ e.
+            MatchBool (is_slot_memory e) ⊤
+            (IsProgramFault (read self.now.parts) (section, address) e)) }
     {
         match number_of_key(self.keys.as_slice(), section, address) {
             Some(number) => self.layout_by_number(alloc, number),
@@ -61,8 +70,12 @@ impl NumberedFunctions<'_> {
         alloc: Global,
         program: &ProgramKey<'_>,
     ) -> Result<ProgramLayout, EbpfRelocationError>
-        ensures layout { IfOk result (λ l. IsLaidOutAt (read self.now.parts) self.now.bodies.items self.now.calls.items (key_of program.now) l) }
-        ensures fault { IfErr result (λ e. MatchBool (is_memory_at e) ⊤ (IsProgramRefusal (read self.now.parts) program.now e)) }
+        ensures layout { IfOk result (λ l.
+            IsLaidOutAt (read self.now.parts) self.now.bodies.items self.now.calls.items
+            (key_of program.now) l) }
+        ensures fault { IfErr result (λ e.
+            MatchBool (is_memory_at e) ⊤
+            (IsProgramRefusal (read self.now.parts) program.now e)) }
         ensures memory { IfErr result NamesNoneForMemory }
     {
         match self.layout_at(alloc, program.section_index, program.address) {

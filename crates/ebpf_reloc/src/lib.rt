@@ -20,9 +20,9 @@ mod slots;
 pub use ebpf_model::{
     EbpfRelocationError, ExternDesc, Function, Relocation, RelocationError, Symbol,
 };
+pub use externs::relocate_externs;
 pub use link_map::{CodeCopy, LinkMap, PlacedReference};
 pub use linkable::Linkable;
 pub use linking::{LinkedFunction, ProgramKey, number_functions, relocate_calls};
-pub use numbered::NumberedFunctions;
-pub use externs::relocate_externs;
 pub use maps::relocate_maps;
+pub use numbered::NumberedFunctions;

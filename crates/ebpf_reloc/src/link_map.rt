@@ -56,7 +56,8 @@ fn named_copy(
     functions: &[&Function],
     copy: NumberedCopy,
 ) -> Result<CodeCopy, AllocError>
-    ensures { IfOk result (λ named. named ≡ named_copy keys.now (map (λ f. f.now) functions.now) copy) }
+    ensures { IfOk result (λ named.
+        named ≡ named_copy keys.now (map (λ f. f.now) functions.now) copy) }
 {
     Ok(CodeCopy {
         key: key_in(keys, copy.function),
@@ -73,7 +74,8 @@ fn named_copies(
     functions: &[&Function],
     copies: &[NumberedCopy],
 ) -> Result<Vec<CodeCopy>, AllocError>
-    ensures { IfOk result (λ named. named.items ≡ map (named_copy keys.now (map (λ f. f.now) functions.now)) copies.now) }
+    ensures { IfOk result (λ named.
+        named.items ≡ map (named_copy keys.now (map (λ f. f.now) functions.now)) copies.now) }
 {
     let mut named = Vec::with_capacity(alloc, copies.len())?;
     for copy in copies {
@@ -91,7 +93,9 @@ impl<'a> NumberedFunctions<'a> {
     ) -> Result<LinkMap, AllocError>
         requires start { layout.now.start < length (function_keys (read self.now.parts).functions) }
         requires laid_out { IsLaidOut self.now.bodies.items self.now.calls.items layout.now }
-        ensures { IfOk result (λ m. IsLinkMapAt (read self.now.parts) (key_of_number (read self.now.parts) layout.now.start) m) }
+        ensures { IfOk result (λ m.
+            IsLinkMapAt (read self.now.parts)
+            (key_of_number (read self.now.parts) layout.now.start) m) }
     {
         let map = self.linker_functions().link_map(alloc, layout)?;
         let keys = self.keys.as_slice();
@@ -117,8 +121,11 @@ impl NumberedFunctions<'_> {
         alloc: Global,
         program: &ProgramKey<'_>,
     ) -> Result<LinkMap, EbpfRelocationError>
-        ensures mapped { IfOk result (λ m. IsLinkMapAt (read self.now.parts) (key_of program.now) m) }
-        ensures fault { IfErr result (λ e. MatchBool (is_memory_at e) ⊤ (IsProgramRefusal (read self.now.parts) program.now e)) }
+        ensures mapped { IfOk result (λ m.
+            IsLinkMapAt (read self.now.parts) (key_of program.now) m) }
+        ensures fault { IfErr result (λ e.
+            MatchBool (is_memory_at e) ⊤
+            (IsProgramRefusal (read self.now.parts) program.now e)) }
         ensures memory { IfErr result NamesNoneForMemory }
     {
         let layout = self.layout(alloc, program)?;

@@ -41,7 +41,8 @@ pub struct LinkedFunction {
 impl<'a> Model for ProgramKey<'a> {
     ghost Value = { ProgramValue };
 
-    ghost view = { λ p. record { name = p.name.now; section_index = p.section_index; address = p.address } };
+    ghost view = { λ p.
+        record { name = p.name.now; section_index = p.section_index; address = p.address } };
 }
 
 impl ProgramKey<'_> {
@@ -84,7 +85,8 @@ impl<'a> NumberedFunctions<'a> {
     /// The function with a number.
     fn function(&self, number: usize) -> &'a Function
         requires { number < length (function_keys (read self.now.parts).functions) }
-        ensures { slice_get (function_list (read self.now.parts).functions) number ≡ Some result.now }
+        ensures { slice_get (function_list (read self.now.parts).functions) number
+            ≡ Some result.now }
     {
         self.functions.as_slice()[number]
     }
@@ -93,7 +95,9 @@ impl<'a> NumberedFunctions<'a> {
     fn linked_function(&self, alloc: Global, layout: &ProgramLayout) -> Result<Function, AllocError>
         requires start { layout.now.start < length (function_keys (read self.now.parts).functions) }
         requires laid_out { IsLaidOut self.now.bodies.items self.now.calls.items layout.now }
-        ensures { IfOk result (λ f. IsLinked (read self.now.parts) (key_of_number (read self.now.parts) layout.now.start) f) }
+        ensures { IfOk result (λ f.
+            IsLinked (read self.now.parts)
+            (key_of_number (read self.now.parts) layout.now.start) f) }
     {
         let linked = self.linker_functions().link(alloc, layout)?;
         with_linked(self.function(layout.start), linked)
@@ -107,8 +111,12 @@ impl<'a> NumberedFunctions<'a> {
     ) -> Result<LinkedFunction, AllocError>
         requires start { layout.now.start < length (function_keys (read self.now.parts).functions) }
         requires laid_out { IsLaidOut self.now.bodies.items self.now.calls.items layout.now }
-        ensures linked { IfOk result (λ l. IsLinked (read self.now.parts) (key_of_number (read self.now.parts) layout.now.start) l.function) }
-        ensures mapped { IfOk result (λ l. IsLinkMapAt (read self.now.parts) (key_of_number (read self.now.parts) layout.now.start) l.map) }
+        ensures linked { IfOk result (λ l.
+            IsLinked (read self.now.parts)
+            (key_of_number (read self.now.parts) layout.now.start) l.function) }
+        ensures mapped { IfOk result (λ l.
+            IsLinkMapAt (read self.now.parts)
+            (key_of_number (read self.now.parts) layout.now.start) l.map) }
     {
         Ok(LinkedFunction {
             function: self.linked_function(alloc, layout)?,
@@ -125,7 +133,9 @@ impl NumberedFunctions<'_> {
         program: &ProgramKey<'_>,
     ) -> Result<Function, EbpfRelocationError>
         ensures linked { IfOk result (λ f. IsLinked (read self.now.parts) (key_of program.now) f) }
-        ensures fault { IfErr result (λ e. MatchBool (is_memory_at e) ⊤ (IsProgramRefusal (read self.now.parts) program.now e)) }
+        ensures fault { IfErr result (λ e.
+            MatchBool (is_memory_at e) ⊤
+            (IsProgramRefusal (read self.now.parts) program.now e)) }
         ensures memory { IfErr result NamesNoneForMemory }
     {
         let layout = self.layout(alloc, program)?;
@@ -146,9 +156,13 @@ impl NumberedFunctions<'_> {
         alloc: Global,
         program: &ProgramKey<'_>,
     ) -> Result<LinkedFunction, EbpfRelocationError>
-        ensures linked { IfOk result (λ l. IsLinked (read self.now.parts) (key_of program.now) l.function) }
-        ensures mapped { IfOk result (λ l. IsLinkMapAt (read self.now.parts) (key_of program.now) l.map) }
-        ensures fault { IfErr result (λ e. MatchBool (is_memory_at e) ⊤ (IsProgramRefusal (read self.now.parts) program.now e)) }
+        ensures linked { IfOk result (λ l.
+            IsLinked (read self.now.parts) (key_of program.now) l.function) }
+        ensures mapped { IfOk result (λ l.
+            IsLinkMapAt (read self.now.parts) (key_of program.now) l.map) }
+        ensures fault { IfErr result (λ e.
+            MatchBool (is_memory_at e) ⊤
+            (IsProgramRefusal (read self.now.parts) program.now e)) }
         ensures memory { IfErr result NamesNoneForMemory }
     {
         let layout = self.layout(alloc, program)?;
@@ -208,7 +222,8 @@ pub fn relocate_calls(
     parts: &Linkable<'_>,
 ) -> Result<ByKey<Function>, EbpfRelocationError>
     ensures linked { IfOk result (λ linked. AreLinked (read parts.now) programs.now linked) }
-    ensures fault { IfErr result (λ e. MatchBool (is_memory_at e) ⊤ (IsFirstRefusal (read parts.now) programs.now e)) }
+    ensures fault { IfErr result (λ e.
+        MatchBool (is_memory_at e) ⊤ (IsFirstRefusal (read parts.now) programs.now e)) }
     ensures memory { IfErr result NamesNoneForMemory }
 {
     let functions = number_functions(alloc, parts)?;

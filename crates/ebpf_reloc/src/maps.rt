@@ -80,7 +80,10 @@ impl MapTables {
     ) -> Result<MapTables, AllocError>
         requires can { I.can_next maps }
         requires ends { IsFinite (I.remaining maps) }
-        ensures { IfOk result (λ tables. (lent : List LentMap) × Drains I.next_gives maps lent × (tables ≡ tables_of (map given_map lent))) }
+        ensures { IfOk result (λ tables.
+            (lent : List LentMap)
+            × Drains I.next_gives maps lent
+            × (tables ≡ tables_of (map given_map lent))) }
     {
         let mut tables = MapTables {
             by_symbol: ByIndex::new(alloc),
@@ -162,7 +165,8 @@ fn section_edit(
     slot: bpf_insn,
     has_next: bool,
 ) -> Result<Edit, SlotFault>
-    ensures { result ≡ section_edit (map_inputs rule.now) section relocation symbol.now slot has_next }
+    ensures { result
+        ≡ section_edit (map_inputs rule.now) section relocation symbol.now slot has_next }
 {
     if slot.is_pseudo_call() || rule.text_sections.contains(&section) {
         return Ok(Edit::Stay);
@@ -217,8 +221,21 @@ pub fn relocate_maps<'a, I: Iterator<Item = (&'a str, i32, &'a Map)> + Drop>(
 ) -> Result<(), EbpfRelocationError>
     requires can { I.can_next maps }
     requires ends { IsFinite (I.remaining maps) }
-    ensures ok { OnOk result (HoldsOfGivenMaps I.next_gives maps (λ given. (functions.new ≡ map_values (with_map_fds symbols.now (text_sections_in text_sections.now) given relocations.now) functions.old) × (map_fault symbols.now (text_sections_in text_sections.now) given relocations.now functions.old ≡ None))) }
-    ensures fault { IfErr result (λ e. MatchBool (is_memory_at e) (e ≡ out_of_memory) (HoldsOfGivenMaps I.next_gives maps (λ given. map_fault symbols.now (text_sections_in text_sections.now) given relocations.now functions.old ≡ Some e))) }
+    ensures ok { OnOk result
+        (HoldsOfGivenMaps I.next_gives maps (λ given.
+        (functions.new
+        ≡ map_values
+        (with_map_fds symbols.now (text_sections_in text_sections.now) given
+        relocations.now) functions.old)
+        × (map_fault symbols.now (text_sections_in text_sections.now) given relocations.now
+        functions.old
+        ≡ None))) }
+    ensures fault { IfErr result (λ e.
+        MatchBool (is_memory_at e) (e ≡ out_of_memory)
+        (HoldsOfGivenMaps I.next_gives maps (λ given.
+        map_fault symbols.now (text_sections_in text_sections.now) given
+        relocations.now functions.old
+        ≡ Some e))) }
     ensures err { OnErr result (functions.new ≡ functions.old) }
 {
     let Ok(tables) = MapTables::gather(alloc, maps) else {

@@ -31,9 +31,13 @@ pub struct NumberedFunctions<'a> {
     /// What one program that is linked leaves for the next.
     pub tables: Tables,
     ghost are_keys: { keys.items ≡ function_keys (read parts).functions },
-    ghost are_functions: { map (λ f. f.now) functions.items ≡ function_list (read parts).functions },
-    ghost are_bodies: { map body_content bodies.items ≡ map content_of (function_list (read parts).functions) },
-    ghost are_calls: { map (λ v. v.items) calls.items ≡ calls_from (read parts) (function_keys (read parts).functions) 0 (function_list (read parts).functions) },
+    ghost are_functions: { map (λ f. f.now) functions.items
+        ≡ function_list (read parts).functions },
+    ghost are_bodies: { map body_content bodies.items
+        ≡ map content_of (function_list (read parts).functions) },
+    ghost are_calls: { map (λ v. v.items) calls.items
+        ≡ calls_from (read parts) (function_keys (read parts).functions) 0
+        (function_list (read parts).functions) },
 }
 
 /// What is linked of a function.
@@ -50,7 +54,8 @@ fn body_of<'a>(function: &'a Function) -> Body<'a>
 /// What is linked of each function.
 #[tactic(auto, using(crate::proofs::CallsRefer::body_here, crate::proofs::CallsRefer::bodies_end))]
 fn bodies_of<'a>(alloc: Global, functions: &[&'a Function]) -> Result<Vec<Body<'a>>, AllocError>
-    ensures { IfOk result (λ bodies. map body_content bodies.items ≡ map content_of (map (λ f. f.now) functions.now)) }
+    ensures { IfOk result (λ bodies.
+        map body_content bodies.items ≡ map content_of (map (λ f. f.now) functions.now)) }
 {
     let mut bodies = Vec::with_capacity(alloc, functions.len())?;
     for number in 0..functions.len() {
@@ -109,7 +114,8 @@ pub fn with_function_names(
     functions: &[&Function],
     fault: Fault,
 ) -> Result<RelocationError, AllocError>
-    ensures { IfOk result (λ error. error ≡ with_function_names (map (λ f. f.now) functions.now) fault) }
+    ensures { IfOk result (λ error.
+        error ≡ with_function_names (map (λ f. f.now) functions.now) fault) }
 {
     match fault {
         Fault::UnsupportedTextSymbol { index } => {

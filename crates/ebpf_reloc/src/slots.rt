@@ -16,7 +16,8 @@ use ebpf_parts::insn::bpf_insn;
 
 /// Writes the immediate of a slot, if there is one at that place.
 fn write_imm(slots: &mut [bpf_insn], at: usize, imm: i32)
-    ensures { slots.new ≡ slice_set slots.old at (record (slot_or_zeros slots.old at) { imm = imm }) }
+    ensures { slots.new
+        ≡ slice_set slots.old at (record (slot_or_zeros slots.old at) { imm = imm }) }
 {
     if at < slots.len() {
         slots[at].imm = imm;
@@ -51,7 +52,8 @@ fn edit_or_stay(rule: &Rule<'_>, relocation: Relocation, slot: bpf_insn, has_nex
 /// Writes a relocation at a distance from the first slot.
 fn write_one(rule: &Rule<'_>, distance: u64, relocation: Relocation, slots: &mut [bpf_insn])
     requires { distance / 8 < length slots.old }
-    ensures { slots.new ≡ slots_after_relocation (rule_edit_of rule.now) distance relocation slots.old }
+    ensures { slots.new
+        ≡ slots_after_relocation (rule_edit_of rule.now) distance relocation slots.old }
 {
     if distance % 8 != 0 {
         return;
@@ -69,7 +71,10 @@ pub fn write_slots(
     section_relocations: &ByOffset<Relocation>,
     slots: &mut [bpf_insn],
 )
-    ensures { slots.new ≡ slots_after (edit_at (rule_edit_of rule.now) section_relocations.now start (length slots.old)) slots.old }
+    ensures { slots.new
+        ≡ slots_after
+        (edit_at (rule_edit_of rule.now) section_relocations.now start (length slots.old))
+        slots.old }
 {
     for (offset, relocation) in section_relocations.from_number(start) {
         let distance = offset.saturating_sub(start);
@@ -113,8 +118,11 @@ fn edit_of(
     relocation: Relocation,
 ) -> Result<Edit, SlotFault>
     requires { distance / 8 < length slots.now }
-    ensures tried { pending_after (distance / 8) result ≡ tried (rule_edit_of rule.now) slots.now pending distance relocation }
-    ensures stays { pending ≡ None → result ≡ Ok Stay → slots_after_relocation (rule_edit_of rule.now) distance relocation slots.now ≡ slots.now }
+    ensures tried { pending_after (distance / 8) result
+        ≡ tried (rule_edit_of rule.now) slots.now pending distance relocation }
+    ensures stays { pending ≡ None
+        → result ≡ Ok Stay
+        → slots_after_relocation (rule_edit_of rule.now) distance relocation slots.now ≡ slots.now }
 {
     if distance % 8 != 0 {
         return Err(SlotFault::InvalidOffset);
@@ -133,10 +141,20 @@ pub fn edits_or_refusal(
     function: &Function,
 ) -> Result<bool, SlotRefusal>
     requires { IsBefore walk.old function.now.section_offset }
-    ensures refusal { fault_of result ≡ first_refusal (rule_edit_of rule.now) (unwrap_or (walked_relocations walk.old) empty) function.now }
-    ensures stays { IfOk result (λ edits. edits ≡ false → slots_after (edit_at (rule_edit_of rule.now) (unwrap_or (walked_relocations walk.old) empty) function.now.section_offset (length function.now.instructions)) function.now.instructions ≡ function.now.instructions) }
+    ensures refusal { fault_of result
+        ≡ first_refusal (rule_edit_of rule.now) (unwrap_or (walked_relocations walk.old) empty)
+        function.now }
+    ensures stays { IfOk result (λ edits.
+        edits ≡ false
+        → slots_after
+        (edit_at (rule_edit_of rule.now) (unwrap_or (walked_relocations walk.old) empty)
+        function.now.section_offset (length function.now.instructions))
+        function.now.instructions
+        ≡ function.now.instructions) }
     ensures others { walk.new ≡ record walk.old { next = walk.new.next; ahead = walk.new.ahead } }
-    ensures before { OnOk result (IsBefore walk.new (function.now.section_offset + 8 * length function.now.instructions)) }
+    ensures before { OnOk result
+        (IsBefore walk.new
+        (function.now.section_offset + 8 * length function.now.instructions)) }
 {
     let slots = function.instructions.as_slice();
     let start = function.section_offset as u64;

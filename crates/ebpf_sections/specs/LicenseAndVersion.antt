@@ -1,6 +1,25 @@
--- The license and the kernel version that a file states, in its sections `license` and `version` (libbpf's names).
+-- The license and the kernel version that a file states, in its sections `license` and `version`
+-- (libbpf's names).
 use Rattle.std.specs.List.{before_first, list_any}
-use Rattle.std.specs.Prelude.{ℕ, ◌-◌, Bool, not, ◌||◌, List, [], ◌∷◌, length, take, Option, Some, None, ◌==◌, nat_lt, if◌then◌else◌, codes}
+use Rattle.std.specs.Prelude.{
+  ℕ,
+  ◌-◌,
+  Bool,
+  not,
+  ◌||◌,
+  List,
+  [],
+  ◌∷◌,
+  length,
+  take,
+  Option,
+  Some,
+  None,
+  ◌==◌,
+  nat_lt,
+  if◌then◌else◌,
+  codes,
+}
 use Rattle.ebpf_base.specs.Faults.{or_else, first_of}
 use Rattle.ebpf_base.specs.Numbers.{number_at}
 use Rattle.ebpf_base.specs.declared.endianness.Endianness.{Endianness}
@@ -8,13 +27,17 @@ use Rattle.ebpf_elf.specs.Headers.{ei_data}
 use Rattle.ebpf_elf.specs.Sections.{SectionOf}
 use Rattle.ebpf_parts.specs.Sections.{section_of, section_fault}
 use Rattle.ebpf_parts.specs.declared.error.ParseError.{ParseError}
-use Rattle.ebpf_parts.specs.declared.error.ParseError.TheVariants.{InvalidLicense, MissingLicenseNullTerminator, InvalidKernelVersion}
+use Rattle.ebpf_parts.specs.declared.error.ParseError.TheVariants.{
+  InvalidLicense,
+  MissingLicenseNullTerminator,
+  InvalidKernelVersion,
+}
 use Rattle.ebpf_parts.specs.declared.parse_mode.ParseMode.{ParseMode}
 use Rattle.ebpf_parts.specs.declared.parse_mode.ParseMode.TheVariants.{Strict, Lenient}
 use Rattle.ebpf_sections.specs.Sections.{first_section_named}
 
--- ---- the license: a text that ends with its only zero byte; in lenient parsing what stands before the first zero,
--- and nothing where the section has no bytes
+-- ---- the license: a text that ends with its only zero byte; in lenient parsing what stands before
+-- the first zero, and nothing where the section has no bytes
 
 abbrev pub has_zero : List ℕ → Bool
 has_zero bytes = list_any (λ b. b == 0) bytes
@@ -37,7 +60,8 @@ license_text Lenient bytes = before_first (λ b. b == 0) bytes
 -- bytes without a zero are refused as stated
 unfoldable pub license_text_fault : ParseMode → List ℕ → Option ParseError
 license_text_fault Strict bytes = strict_text_fault bytes
-license_text_fault Lenient bytes = if length bytes == 0 || has_zero bytes then None else strict_text_fault bytes
+license_text_fault Lenient bytes =
+    if length bytes == 0 || has_zero bytes then None else strict_text_fault bytes
 
 -- the license in a section; a file without one has this
 abbrev pub license_in : ParseMode → Option SectionOf → List ℕ
@@ -46,9 +70,11 @@ license_in mode (Some s) = license_text mode (section_of s).bytes
 
 abbrev pub license_fault_in : ParseMode → Option SectionOf → Option ParseError
 license_fault_in mode None = None
-license_fault_in mode (Some s) = or_else (section_fault s) (license_text_fault mode (section_of s).bytes)
+license_fault_in mode (Some s) =
+    or_else (section_fault s) (license_text_fault mode (section_of s).bytes)
 
--- ---- the kernel version: a number of four bytes in the file's order, of which one stands for all kernels
+-- ---- the kernel version: a number of four bytes in the file's order, of which one stands for all
+-- kernels
 
 unfoldable pub version_number_fault : List ℕ → Option ParseError
 version_number_fault bytes = first_of ((not (length bytes == 4), InvalidKernelVersion bytes) ∷ [])

@@ -2,7 +2,28 @@
 use Rattle.std.specs.FinMap.{FinMap, empty}
 use Rattle.std.specs.List.{flat_map}
 use Rattle.std.specs.Ordering.{nat_cmp}
-use Rattle.std.specs.Prelude.{ℕ, ◌+◌, ◌-◌, Bool, not, ◌&&◌, ◌||◌, List, [], ◌∷◌, length, map, filter, Option, Some, None, ◌==◌, nat_lt, slice_range, if◌then◌else◌}
+use Rattle.std.specs.Prelude.{
+  ℕ,
+  ◌+◌,
+  ◌-◌,
+  Bool,
+  not,
+  ◌&&◌,
+  ◌||◌,
+  List,
+  [],
+  ◌∷◌,
+  length,
+  map,
+  filter,
+  Option,
+  Some,
+  None,
+  ◌==◌,
+  nat_lt,
+  slice_range,
+  if◌then◌else◌,
+}
 use Rattle.ebpf_base.specs.Faults.{Row, first_in, first_some}
 use Rattle.ebpf_base.specs.Maps.{put_all}
 use Rattle.ebpf_elf.specs.Symbols.{symbols}
@@ -40,14 +61,21 @@ program_function infos s y = record {
   section_offset = y.address;
   instructions = slots_of (program_bytes s y);
   func_info = funcs_at infos.funcs (slot_of (program_offset s y)) (slot_of (program_offset s y));
-  line_info = lines_in infos.lines (slot_of (program_offset s y)) (slot_of y.size) (slot_of (program_offset s y));
+  line_info =
+      lines_in infos.lines (slot_of (program_offset s y)) (slot_of y.size)
+      (slot_of (program_offset s y));
   func_info_rec_size = infos.func_size;
   line_info_rec_size = infos.line_size;
 }
 
 -- a symbol whose bytes are not all in the section
 abbrev pub range_faults : SectionValue → SymbolValue → List (Row ParseError)
-range_faults s y = (nat_lt y.address s.address || nat_lt (length s.bytes) (y.address + y.size), InvalidSymbol y.index (Some y.name)) ∷ []
+range_faults s y = (
+  nat_lt y.address s.address
+      || nat_lt (length s.bytes) (y.address + y.size),
+  InvalidSymbol y.index (Some y.name),
+)
+    ∷ []
 
 -- why a symbol's program can't be read
 unfoldable pub program_fault : SectionValue → SymbolValue → Option ParseError
@@ -55,7 +83,8 @@ program_fault s y = first_in (range_faults s y ∷ code_faults (program_bytes s 
 
 -- the functions of a section's programs, by symbol, and the first fault among them
 abbrev pub program_functions : FuncAndLineInfo → SectionValue → List SymbolValue → List Function
-program_functions infos s symbols = map (program_function infos s) (filter is_program_symbol symbols)
+program_functions infos s symbols =
+    map (program_function infos s) (filter is_program_symbol symbols)
 
 abbrev pub programs_fault : SectionValue → List SymbolValue → Option ParseError
 programs_fault s symbols = first_some (program_fault s) (filter is_program_symbol symbols)
@@ -65,13 +94,25 @@ abbrev pub with_key : Function → FunctionKey × Function
 with_key f = ((f.section_index.0, f.address), f)
 
 -- a program, by name, with the license and the kernel version of its object
-abbrev pub program_of : List ℕ → Option ℕ → SectionValue → ProgramSection → SymbolValue → List ℕ × Program
-program_of license version s kind y = (y.name, record { license = license; kernel_version = version; section = kind; section_index = s.index.0; address = y.address })
+abbrev pub program_of : List ℕ → Option ℕ → SectionValue → ProgramSection → SymbolValue
+    → List ℕ × Program
+program_of license version s kind y = (
+  y.name,
+  record {
+    license = license;
+    kernel_version = version;
+    section = kind;
+    section_index = s.index.0;
+    address = y.address;
+  },
+)
 
 -- the programs of a section whose name says a kind
-abbrev pub programs_of : List ℕ → Option ℕ → SectionValue → List SymbolValue → Option ProgramSection → List (List ℕ × Program)
+abbrev pub programs_of : List ℕ → Option ℕ → SectionValue → List SymbolValue → Option ProgramSection
+    → List (List ℕ × Program)
 programs_of license version s symbols None = []
-programs_of license version s symbols (Some kind) = map (program_of license version s kind) (filter is_program_symbol symbols)
+programs_of license version s symbols (Some kind) =
+    map (program_of license version s kind) (filter is_program_symbol symbols)
 
 -- the index of a program's symbol, by its address
 abbrev pub program_symbol_row : SymbolValue → List (ℕ × ℕ)

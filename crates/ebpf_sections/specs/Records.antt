@@ -1,8 +1,33 @@
--- The func info and line info of a function: the records of its section in `.BTF.ext` that stand at its slots.
+-- The func info and line info of a function: the records of its section in `.BTF.ext` that stand at
+-- its slots.
 use Rattle.std.specs.FinMap.{FinMap, empty, get}
 use Rattle.std.specs.List.{range_with_len}
 use Rattle.std.specs.List.Sorted.{IsPartitionPoint}
-use Rattle.std.specs.Prelude.{ℕ, ◌+◌, ◌-◌, ◌/◌, ◌&&◌, Bool, List, map, filter, Option, Some, None, ◌==◌, nat_le, nat_lt, ◌<◌, ◌≤◌, true, [], ◌∷◌, ◌≡◌, slice_index_or, unwrap_or}
+use Rattle.std.specs.Prelude.{
+  ℕ,
+  ◌+◌,
+  ◌-◌,
+  ◌/◌,
+  ◌&&◌,
+  Bool,
+  List,
+  map,
+  filter,
+  Option,
+  Some,
+  None,
+  ◌==◌,
+  nat_le,
+  nat_lt,
+  ◌<◌,
+  ◌≤◌,
+  true,
+  [],
+  ◌∷◌,
+  ◌≡◌,
+  slice_index_or,
+  unwrap_or,
+}
 use Rattle.ebpf_base.specs.Maps.{text_cmp}
 use Rattle.ebpf_btf_ext.specs.ExtReading.{func_info_at, line_info_at, ExtInfo}
 use Rattle.ebpf_btf_ext.specs.declared.ext_infos.FuncSecInfo.{FuncSecInfo}
@@ -11,7 +36,8 @@ use Rattle.ebpf_btf_ext.specs.declared.ext_infos.bpf_func_info.{bpf_func_info}
 use Rattle.ebpf_btf_ext.specs.declared.ext_infos.bpf_line_info.{bpf_line_info}
 use Rattle.ebpf_sections.specs.declared.info_records.RecordIndex.{RecordIndex}
 
--- ---- the func info and line info of a function: the records of its section in `.BTF.ext` that stand at its slots
+-- ---- the func info and line info of a function: the records of its section in `.BTF.ext` that
+-- stand at its slots
 
 -- the func info and line info of a section, and the sizes of the records in the file
 pub record FuncAndLineInfo : Type 0 where
@@ -64,7 +90,8 @@ abbrev pub func_from : ℕ → bpf_func_info → bpf_func_info
 func_from base r = record r { insn_off = r.insn_off - base }
 
 unfoldable pub funcs_at : FuncSecInfo → ℕ → ℕ → FuncSecInfo
-funcs_at infos first base = record infos { func_info = map (func_from base) (filter (is_func_at first) infos.func_info) }
+funcs_at infos first base =
+    record infos { func_info = map (func_from base) (filter (is_func_at first) infos.func_info) }
 
 -- ---- the records on the lines of so many slots from a slot on
 
@@ -79,7 +106,9 @@ abbrev pub line_from : ℕ → bpf_line_info → bpf_line_info
 line_from base r = record r { insn_off = r.insn_off - base }
 
 unfoldable pub lines_in : LineSecInfo → ℕ → ℕ → ℕ → LineSecInfo
-lines_in infos first count base = record infos { line_info = map (line_from base) (filter (is_line_in first count) infos.line_info) }
+lines_in infos first count base =
+    record infos
+    { line_info = map (line_from base) (filter (is_line_in first count) infos.line_info) }
 
 -- ---- the indices of records in a list, each with the slot that the record there names
 
@@ -114,8 +143,11 @@ abbrev pub found_lines : Option (FinMap text_cmp LineSecInfo) → FinMap text_cm
 found_lines found = unwrap_or found empty
 
 -- a table has at its names the func info and line info of the sections of these names
-pub record AreRecordsOf (ext : Option ExtInfo) (table : FinMap text_cmp FuncAndLineInfo) : Type 0 where
-  pub are : (name : List ℕ) (records : FuncAndLineInfo) → get table name ≡ Some records → records ≡ func_and_line_info_of ext name
+pub record AreRecordsOf (ext : Option ExtInfo) (table : FinMap text_cmp FuncAndLineInfo)
+    : Type 0 where
+  pub are : (name : List ℕ) (records : FuncAndLineInfo)
+      → get table name ≡ Some records
+      → records ≡ func_and_line_info_of ext name
 
 -- the slot that a record of a list names
 abbrev pub slot_at : {X : Type 0} → (X → ℕ) → X → List X → ℕ → ℕ

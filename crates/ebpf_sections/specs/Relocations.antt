@@ -1,4 +1,5 @@
--- The sections of relocations of a file, by where their entries stand, and the relocations that an object keeps of a section.
+-- The sections of relocations of a file, by where their entries stand, and the relocations that an
+-- object keeps of a section.
 use Rattle.std.specs.Cmp.{IsTotalOrder, nat_cmp_total, then_total, on_total}
 use Rattle.std.specs.Coded.{Coded, coded_ℕ, coded×}
 use Rattle.std.specs.FinMap.{FinMap, get, empty}
@@ -12,7 +13,8 @@ use Rattle.ebpf_elf.specs.Relocations.{relocation_size, relocation_at, entry_cou
 use Rattle.ebpf_elf.specs.Sections.{SectionOf, header}
 use Rattle.ebpf_elf.specs.declared.relocation.ElfRelocation.{ElfRelocation}
 
--- ---- where the entries of a section of relocations stand: the offset of the first, their size, and their number
+-- ---- where the entries of a section of relocations stand: the offset of the first, their size,
+-- and their number
 
 abbrev pub entry_range_cmp : (ℕ × ℕ) × ℕ → (ℕ × ℕ) × ℕ → Ordering
 entry_range_cmp a b = ordering_then (key_cmp a.0 b.0) (nat_cmp a.1 b.1)
@@ -25,14 +27,17 @@ abbrev pub EntryRange : Type 0
 EntryRange = (ℕ × ℕ) × ℕ
 
 pub entry_range_total : IsTotalOrder entry_range_cmp
-entry_range_total = then_total (on_total (λ (p : (ℕ × ℕ) × ℕ). p.0) key_total) (on_total (λ (p : (ℕ × ℕ) × ℕ). p.1) nat_cmp_total)
+entry_range_total =
+    then_total (on_total (λ (p : (ℕ × ℕ) × ℕ). p.0) key_total)
+    (on_total (λ (p : (ℕ × ℕ) × ℕ). p.1) nat_cmp_total)
 
 abbrev pub entry_range_of : SectionOf → EntryRange
 entry_range_of s = (((header s).sh_offset, relocation_size (header s).sh_type), entry_count s)
 
 -- the entries at places of a file
 abbrev pub entries_at : List ℕ → EntryRange → List ElfRelocation
-entries_at bytes p = map (λ k. relocation_at (ei_data bytes) bytes (p.0.0 + p.0.1 * k)) (range_with_len 0 p.1)
+entries_at bytes p =
+    map (λ k. relocation_at (ei_data bytes) bytes (p.0.0 + p.0.1 * k)) (range_with_len 0 p.1)
 
 -- whether one of them names no symbol
 abbrev pub lacks_symbol : List ElfRelocation → Bool
@@ -40,7 +45,10 @@ lacks_symbol list = list_any (λ r. r.symbol_index == 0) list
 
 -- what is cached of entry ranges of a file is so
 abbrev pub EntryRangesAreCached : List ℕ → FinMap entry_range_cmp Bool → Type 0
-EntryRangesAreCached bytes cached = (p : EntryRange) (lacks : Bool) → get cached p ≡ Some lacks → lacks ≡ lacks_symbol (entries_at bytes p)
+EntryRangesAreCached bytes cached =
+    (p : EntryRange) (lacks : Bool)
+    → get cached p ≡ Some lacks
+    → lacks ≡ lacks_symbol (entries_at bytes p)
 
 -- the index of a section of relocations, by its entries' offsets
 abbrev pub table_row : SectionOf → List (EntryRange × ℕ)

@@ -1,10 +1,31 @@
--- The sections of a file: by name, those of an object, whether one has code, values by section, and the last of data.
+-- The sections of a file: by name, those of an object, whether one has code, values by section, and
+-- the last of data.
 use Rattle.std.specs.BTreeMap.{get, BTreeMap}
 use Rattle.std.specs.FinMap.{FinMap, empty}
 use Rattle.std.specs.Global.{Vec}
 use Rattle.std.specs.List.{find, list_any, flat_map}
 use Rattle.std.specs.Ordering.{nat_cmp}
-use Rattle.std.specs.Prelude.{ℕ, Bool, not, ◌||◌, List, [], ◌∷◌, Option, Some, None, ◌==◌, if◌then◌else◌, codes, map, filter, true, false, ◌&&◌, ◌≡◌}
+use Rattle.std.specs.Prelude.{
+  ℕ,
+  Bool,
+  not,
+  ◌||◌,
+  List,
+  [],
+  ◌∷◌,
+  Option,
+  Some,
+  None,
+  ◌==◌,
+  if◌then◌else◌,
+  codes,
+  map,
+  filter,
+  true,
+  false,
+  ◌&&◌,
+  ◌≡◌,
+}
 use Rattle.ebpf_base.specs.Maps.{put_all, text_cmp}
 use Rattle.ebpf_base.specs.declared.endianness.Endianness.{Endianness}
 use Rattle.ebpf_base.specs.declared.endianness.Endianness.TheVariants.{Little, Big}
@@ -21,7 +42,13 @@ use Rattle.ebpf_parts.specs.declared.error.ParseError.TheVariants.{BigEndianCode
 use Rattle.ebpf_parts.specs.declared.parse_mode.ParseMode.{ParseMode}
 use Rattle.ebpf_parts.specs.declared.parse_mode.ParseMode.TheVariants.{Strict, Lenient}
 use Rattle.ebpf_parts.specs.declared.section.EbpfSectionKind.{EbpfSectionKind}
-use Rattle.ebpf_parts.specs.declared.section.EbpfSectionKind.TheVariants.{Text, Program as Programs, Data, Rodata, Bss}
+use Rattle.ebpf_parts.specs.declared.section.EbpfSectionKind.TheVariants.{
+  Text,
+  Program as Programs,
+  Data,
+  Rodata,
+  Bss,
+}
 
 -- the first section with a name; names that can't be read are passed over
 abbrev pub first_section_named : List ℕ → List ℕ → Option SectionOf
@@ -30,7 +57,8 @@ first_section_named name bytes = find (λ s. is_name name (section_name s)) (sec
 -- ---- the sections of an object: all but those of type information
 
 abbrev pub is_type_information : SectionOf → Bool
-is_type_information s = is_name (codes ".BTF") (section_name s) || is_name (codes ".BTF.ext") (section_name s)
+is_type_information s =
+    is_name (codes ".BTF") (section_name s) || is_name (codes ".BTF.ext") (section_name s)
 
 abbrev pub other_sections : List ℕ → List SectionOf
 other_sections bytes = filter (λ s. not (is_type_information s)) (sections bytes)
@@ -38,7 +66,8 @@ other_sections bytes = filter (λ s. not (is_type_information s)) (sections byte
 abbrev pub object_sections : List ℕ → List SectionValue
 object_sections bytes = map section_of (other_sections bytes)
 
--- ---- code in the big-endian order, which lenient parsing refuses as libbpf does: its slots would come out wrong
+-- ---- code in the big-endian order, which lenient parsing refuses as libbpf does: its slots would
+-- come out wrong
 
 abbrev pub is_kind_of_code : EbpfSectionKind → Bool
 is_kind_of_code Text = true
@@ -47,7 +76,9 @@ is_kind_of_code _ = false
 
 -- a section of code has bytes in the file: it is not of kind NOBITS, and states a size
 abbrev pub has_code : SectionOf → Bool
-has_code s = is_kind_of_code (kind_of_section (name_or_empty s) (header s)) && (not ((header s).sh_type == SHT_NOBITS) && not ((header s).sh_size == 0))
+has_code s =
+    is_kind_of_code (kind_of_section (name_or_empty s) (header s))
+    && (not ((header s).sh_type == SHT_NOBITS) && not ((header s).sh_size == 0))
 
 abbrev pub is_big : Endianness → Bool
 is_big Big = true
@@ -72,7 +103,8 @@ group_at m q = group_items (get nat_cmp m q)
 
 -- the sections of relocations of a file by the section that they patch
 abbrev pub AreTablesOf : List ℕ → BTreeMap ℕ (Vec SectionOf) → Type 0
-AreTablesOf file groups = (q : ℕ) → group_at groups q ≡ filter (λ r. relocated_section r == q) (relocation_sections file)
+AreTablesOf file groups =
+    (q : ℕ) → group_at groups q ≡ filter (λ r. relocated_section r == q) (relocation_sections file)
 
 -- ---- sections of data with one name, of which the last one counts
 

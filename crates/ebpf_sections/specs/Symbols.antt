@@ -2,11 +2,37 @@
 use Rattle.std.specs.FinMap.{FinMap, empty}
 use Rattle.std.specs.List.{find}
 use Rattle.std.specs.Ordering.{nat_cmp, eq_by_cmp}
-use Rattle.std.specs.Prelude.{ℕ, Bool, true, false, List, Option, Some, None, ◌==◌, filter, [], map, unwrap_or, is_some, if◌then◌else◌, option_map}
+use Rattle.std.specs.Prelude.{
+  ℕ,
+  Bool,
+  true,
+  false,
+  List,
+  Option,
+  Some,
+  None,
+  ◌==◌,
+  filter,
+  [],
+  map,
+  unwrap_or,
+  is_some,
+  if◌then◌else◌,
+  option_map,
+}
 use Rattle.ebpf_base.specs.Faults.{first_some}
 use Rattle.ebpf_base.specs.Maps.{put_all, text_cmp}
 use Rattle.ebpf_btf.specs.declared.error.BtfError.TheVariants.{InvalidSymbolName}
-use Rattle.ebpf_elf.specs.Symbols.{SymbolOf, entry, symbol_name, symbol_kind, symbol_section_index, is_definition, is_weak, symbols}
+use Rattle.ebpf_elf.specs.Symbols.{
+  SymbolOf,
+  entry,
+  symbol_name,
+  symbol_kind,
+  symbol_section_index,
+  is_definition,
+  is_weak,
+  symbols,
+}
 use Rattle.ebpf_elf.specs.declared.symbol.SymbolKind.{SymbolKind}
 use Rattle.ebpf_elf.specs.declared.symbol.SymbolKind.TheVariants.{Text}
 use Rattle.ebpf_model.specs.declared.symbol.Symbol.{Symbol}
@@ -67,7 +93,19 @@ symbols_fault bytes = first_some symbol_fault (symbols bytes)
 
 -- what an object keeps of a symbol, by its index
 abbrev pub symbol_entry : SymbolValue → ℕ × Symbol
-symbol_entry y = (y.index, record { index = y.index; section_index = y.section_index; name = Some y.name; address = y.address; size = y.size; kind = y.kind; is_definition = y.is_definition; is_weak = y.is_weak })
+symbol_entry y = (
+  y.index,
+  record {
+    index = y.index;
+    section_index = y.section_index;
+    name = Some y.name;
+    address = y.address;
+    size = y.size;
+    kind = y.kind;
+    is_definition = y.is_definition;
+    is_weak = y.is_weak;
+  },
+)
 
 -- the symbols of an object, by index
 abbrev pub symbol_table : List SymbolValue → FinMap nat_cmp Symbol
@@ -84,7 +122,8 @@ symbol_indices_by_name symbols = put_all empty (map name_and_index symbols)
 
 -- whether the first symbol of a name is weak
 abbrev pub weak_named : List SymbolValue → List ℕ → Option Bool
-weak_named symbols name = option_map (λ y. y.is_weak) (find (λ y. eq_by_cmp text_cmp name y.name) symbols)
+weak_named symbols name =
+    option_map (λ y. y.is_weak) (find (λ y. eq_by_cmp text_cmp name y.name) symbols)
 
 -- the names of symbols
 abbrev pub names_of : List SymbolValue → List (List ℕ)

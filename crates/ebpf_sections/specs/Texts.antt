@@ -1,13 +1,41 @@
 -- The functions of a Text section, by its symbols.
 use Rattle.std.specs.List.{find, flat_map, range_with_len}
-use Rattle.std.specs.Prelude.{ℕ, suc, zero, ◌+◌, ◌%◌, ◌^◌, Bool, ◌&&◌, ◌||◌, List, [], ◌∷◌, length, take, slice_get, Option, Some, None, ◌==◌, nat_lt, if◌then◌else◌, slice_range, is_some}
+use Rattle.std.specs.Prelude.{
+  ℕ,
+  suc,
+  zero,
+  ◌+◌,
+  ◌%◌,
+  ◌^◌,
+  Bool,
+  ◌&&◌,
+  ◌||◌,
+  List,
+  [],
+  ◌∷◌,
+  length,
+  take,
+  slice_get,
+  Option,
+  Some,
+  None,
+  ◌==◌,
+  nat_lt,
+  if◌then◌else◌,
+  slice_range,
+  is_some,
+}
 use Rattle.ebpf_base.specs.Faults.{or_else, first_in, first_some}
 use Rattle.ebpf_elf.specs.Symbols.{symbols}
 use Rattle.ebpf_model.specs.declared.function.Function.{Function}
 use Rattle.ebpf_parts.specs.Sections.{SectionValue}
 use Rattle.ebpf_parts.specs.Slots.{slots_of, code_faults}
 use Rattle.ebpf_parts.specs.declared.error.ParseError.{ParseError}
-use Rattle.ebpf_parts.specs.declared.error.ParseError.TheVariants.{SymbolTableConflict, UnknownSymbol, InvalidSymbol}
+use Rattle.ebpf_parts.specs.declared.error.ParseError.TheVariants.{
+  SymbolTableConflict,
+  UnknownSymbol,
+  InvalidSymbol,
+}
 use Rattle.ebpf_sections.specs.Records.{FuncAndLineInfo, slot_of, funcs_at, lines_in}
 use Rattle.ebpf_sections.specs.Symbols.{SymbolValue, is_text_symbol}
 
@@ -26,11 +54,16 @@ is_text_at address y = is_defined_text y && y.address == address
 -- the address of a symbol that names a function where one of those before it does
 abbrev pub repeated_address : List SymbolValue → Option SymbolValue → Option ℕ
 repeated_address before None = None
-repeated_address before (Some y) = if is_defined_text y && is_some (find (is_text_at y.address) before) then Some y.address else None
+repeated_address before (Some y) =
+    if is_defined_text y && is_some (find (is_text_at y.address) before)
+    then Some y.address
+    else None
 
 -- the first such address, by the symbols' places
 abbrev pub repeated : List SymbolValue → Option ℕ
-repeated symbols = first_some (λ i. repeated_address (take i symbols) (slice_get symbols i)) (range_with_len 0 (length symbols))
+repeated symbols =
+    first_some (λ i. repeated_address (take i symbols) (slice_get symbols i))
+    (range_with_len 0 (length symbols))
 
 abbrev pub conflict_fault_at : ℕ → Option ℕ → Option ParseError
 conflict_fault_at section None = None
@@ -71,7 +104,8 @@ text_function infos s offset y = record {
   line_info_rec_size = infos.line_size;
 }
 
-abbrev pub text_function_of : FuncAndLineInfo → SectionValue → ℕ → Option SymbolValue → List Function
+abbrev pub text_function_of : FuncAndLineInfo → SectionValue → ℕ → Option SymbolValue
+    → List Function
 text_function_of infos s offset None = []
 text_function_of infos s offset (Some y) = text_function infos s offset y ∷ []
 
@@ -79,12 +113,14 @@ text_function_of infos s offset (Some y) = text_function infos s offset y ∷ []
 abbrev pub text_fault_of : SectionValue → ℕ → Option SymbolValue → Option ParseError
 text_fault_of s offset None = Some (UnknownSymbol s.index.0 (address_at s offset))
 text_fault_of s offset (Some y) = first_in (
-    ((y.size == 0 || nat_lt (length s.bytes) (offset + y.size), InvalidSymbol y.index (Some y.name)) ∷ [])
+    ((y.size == 0 || nat_lt (length s.bytes) (offset + y.size), InvalidSymbol y.index (Some y.name))
+    ∷ [])
     ∷ code_faults (text_function_bytes s offset y)
     ∷ [])
 
 unfoldable pub function_at : FuncAndLineInfo → SectionValue → List SymbolValue → ℕ → List Function
-function_at infos s symbols offset = text_function_of infos s offset (symbol_at_offset s symbols offset)
+function_at infos s symbols offset =
+    text_function_of infos s offset (symbol_at_offset s symbols offset)
 
 unfoldable pub text_fault_at : SectionValue → List SymbolValue → ℕ → Option ParseError
 text_fault_at s symbols offset = text_fault_of s offset (symbol_at_offset s symbols offset)
@@ -94,12 +130,15 @@ size_at s symbols offset = symbol_size_of (symbol_at_offset s symbols offset)
 
 -- ---- all functions
 
--- The offsets where functions begin: from one on up to the end of the data, each behind the function before it.
+-- The offsets where functions begin: from one on up to the end of the data, each behind the
+-- function before it.
 -- There are at most as many as bytes.
 unfoldable pub offsets_from : ℕ → SectionValue → List SymbolValue → ℕ → List ℕ
 offsets_from zero s symbols offset = []
 offsets_from (suc left) s symbols offset =
-    if nat_lt offset (length s.bytes) then offset ∷ offsets_from left s symbols (offset + size_at s symbols offset) else []
+    if nat_lt offset (length s.bytes)
+    then offset ∷ offsets_from left s symbols (offset + size_at s symbols offset)
+    else []
 
 abbrev pub offsets : SectionValue → List SymbolValue → List ℕ
 offsets s symbols = offsets_from (length s.bytes) s symbols 0

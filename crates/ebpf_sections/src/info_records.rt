@@ -58,7 +58,8 @@ pub fn lower_bound<R: NamesSlot>(rows: &[R], slot: u128) -> usize
 /// Whether the row before an index names a lower slot than one, where there is a row.
 fn ends_below<R: NamesSlot>(rows: &[R], index: usize, slot: usize) -> bool
     requires { index ≤ length rows.now }
-    ensures { OnTrue result ((d : R) → 0 < index → R.slot_of (slice_index_or rows.now (index - 1) d) < slot) }
+    ensures { OnTrue result
+        ((d : R) → 0 < index → R.slot_of (slice_index_or rows.now (index - 1) d) < slot) }
 {
     if index == 0 {
         return true;
@@ -68,7 +69,10 @@ fn ends_below<R: NamesSlot>(rows: &[R], index: usize, slot: usize) -> bool
 
 /// Whether the row at an index names no lower slot than one, where there is a row.
 fn begins_above<R: NamesSlot>(rows: &[R], index: usize, slot: usize) -> bool
-    ensures { OnTrue result ((d : R) → index < length rows.now → slot ≤ R.slot_of (slice_index_or rows.now index d)) }
+    ensures { OnTrue result
+        ((d : R)
+        → index < length rows.now
+        → slot ≤ R.slot_of (slice_index_or rows.now index d)) }
 {
     if index >= rows.len() {
         return true;
@@ -173,7 +177,8 @@ impl Model for RecordsBySlot {
 impl RecordsBySlot {
     /// Indices, sorted by their slots.
     pub fn from_indices(mut indices: Vec<RecordIndex>) -> Result<RecordsBySlot, ParseError>
-        ensures grouped { IfOk result (λ s. (q : ℕ) → filter (is_at_slot q) s ≡ filter (is_at_slot q) indices.items) }
+        ensures grouped { IfOk result (λ s.
+            (q : ℕ) → filter (is_at_slot q) s ≡ filter (is_at_slot q) indices.items) }
         ensures memory { IfErr result (λ e. is_parse_memory e ≡ true) }
     {
         indices.sort_by_key(|index| index.slot)?;
@@ -188,7 +193,9 @@ impl RecordsBySlot {
         first: usize,
         count: usize,
     ) -> Result<Vec<usize>, ParseError>
-        ensures moved { IfOk result (λ indices. IsPermutation (map (λ p. p.index) (filter (is_slot_among first count) self.now)) indices.items) }
+        ensures moved { IfOk result (λ indices.
+            IsPermutation (map (λ p. p.index) (filter (is_slot_among first count) self.now))
+            indices.items) }
         ensures sorted { IfOk result (λ indices. IsSorted nat_cmp indices.items) }
         ensures memory { IfErr result (λ e. is_parse_memory e ≡ true) }
     {
@@ -217,7 +224,9 @@ pub fn slot_indices<R: InfoRecord>(
     alloc: Global,
     records: &[R],
 ) -> Result<Vec<RecordIndex>, ParseError>
-    ensures indices { IfOk result (λ indices. indices.items ≡ indices_with (slot_at R.slot_of R.zero records.now) (length records.now)) }
+    ensures indices { IfOk result (λ indices.
+        indices.items
+        ≡ indices_with (slot_at R.slot_of R.zero records.now) (length records.now)) }
     ensures memory { IfErr result (λ e. is_parse_memory e ≡ true) }
 {
     let mut indices = Vec::with_capacity(alloc, records.len())?;
@@ -303,7 +312,12 @@ pub struct InfoRecords<'e, R: InfoRecord> {
     next: Cell<usize>,
     indices: Option<RecordsBySlot>,
     ghost rising: { indices ≡ None → IsNonDecreasingBy R.slot_of records.now },
-    ghost grouped: { (gathered : List RecordIndex) → indices ≡ Some gathered → (q : ℕ) → filter (is_at_slot q) gathered ≡ filter (is_at_slot q) (indices_with (slot_at R.slot_of R.zero records.now) (length records.now)) },
+    ghost grouped: { (gathered : List RecordIndex)
+        → indices ≡ Some gathered
+        → (q : ℕ)
+        → filter (is_at_slot q) gathered
+        ≡ filter (is_at_slot q)
+        (indices_with (slot_at R.slot_of R.zero records.now) (length records.now)) },
 }
 
 impl<'e, R: InfoRecord> Model for InfoRecords<'e, R> {
@@ -344,7 +358,9 @@ impl<'e, R: InfoRecord> InfoRecords<'e, R> {
         count: usize,
         base: usize,
     ) -> Result<Items<R>, ParseError>
-        ensures records { IfOk result (λ kept. kept ≡ map (R.rebase base) (filter (is_among_slots R.slot_of first count) self.now)) }
+        ensures records { IfOk result (λ kept.
+            kept
+            ≡ map (R.rebase base) (filter (is_among_slots R.slot_of first count) self.now)) }
         ensures memory { IfErr result (λ e. is_parse_memory e ≡ true) }
     {
         let Some(indices) = &self.indices else {
@@ -381,7 +397,8 @@ fn rebase_at<R: InfoRecord>(
     base: usize,
 ) -> Result<Items<R>, ParseError>
     requires { All (λ i. i < length rows.now) indices.now }
-    ensures records { IfOk result (λ kept. kept ≡ map (λ i. R.rebase base (slice_index_or rows.now i R.zero)) indices.now) }
+    ensures records { IfOk result (λ kept.
+        kept ≡ map (λ i. R.rebase base (slice_index_or rows.now i R.zero)) indices.now) }
     ensures memory { IfErr result (λ e. is_parse_memory e ≡ true) }
 {
     let mut kept = Vec::with_capacity(alloc, indices.len())?;

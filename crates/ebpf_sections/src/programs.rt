@@ -35,7 +35,8 @@ fn bytes_of<'a>(
     ensures bytes { IfOk result (λ bytes. bytes.now ≡ program_bytes section.now symbol.now) }
     ensures low { OnOk result (section.now.address ≤ symbol.now.address) }
     ensures high { OnOk result (symbol.now.address + symbol.now.size ≤ length section.now.bytes) }
-    ensures fault { Refuses is_parse_memory result (first_of (range_faults section.now symbol.now)) }
+    ensures fault { Refuses is_parse_memory result
+        (first_of (range_faults section.now symbol.now)) }
 {
     let len = section.bytes.len() as u64;
     if symbol.address < section.address || symbol.size > len || symbol.address > len - symbol.size {
@@ -119,7 +120,10 @@ fn put_last_functions(
     last: &ByOffset<usize>,
 ) -> Result<(), ParseError>
     requires { last.now ≡ last_programs symbols.now }
-    ensures put { OnOk result (functions.new ≡ put_all functions.old (map with_key (program_functions records.now section.now symbols.now))) }
+    ensures put { OnOk result
+        (functions.new
+        ≡ put_all functions.old
+        (map with_key (program_functions records.now section.now symbols.now))) }
     ensures fault { Refuses is_parse_memory result (programs_fault section.now symbols.now) }
 {
     for symbol in symbols {
@@ -144,7 +148,10 @@ pub fn put_functions(
     section: &Section<'_>,
     symbols: &[NamedSymbol<'_>],
 ) -> Result<(), ParseError>
-    ensures put { OnOk result (functions.new ≡ put_all functions.old (map with_key (program_functions records.now section.now symbols.now))) }
+    ensures put { OnOk result
+        (functions.new
+        ≡ put_all functions.old
+        (map with_key (program_functions records.now section.now symbols.now))) }
     ensures fault { Refuses is_parse_memory result (programs_fault section.now symbols.now) }
 {
     let last = last_programs(alloc, symbols)?;
@@ -161,7 +168,11 @@ pub fn put_programs(
     section: &Section<'_>,
     symbols: &[NamedSymbol<'_>],
 ) -> Result<(), ParseError>
-    ensures put { OnOk result (programs.new ≡ put_all programs.old (programs_of metadata.now.license metadata.now.kernel_version section.now symbols.now (Some kind))) }
+    ensures put { OnOk result
+        (programs.new
+        ≡ put_all programs.old
+        (programs_of metadata.now.license metadata.now.kernel_version section.now
+        symbols.now (Some kind))) }
     ensures memory { IfErr result (λ e. is_parse_memory e ≡ true) }
 {
     for symbol in symbols {

@@ -184,7 +184,8 @@ fn gather_entries(
     entries: &mut Vec<(u64, Relocation)>,
     table: &RelocationTable<'_>,
 ) -> Result<(), ParseError>
-    ensures gathered { OnOk result (entries.new.items ≡ entries.old.items ++ map offset_of (table_entries table.now)) }
+    ensures gathered { OnOk result
+        (entries.new.items ≡ entries.old.items ++ map offset_of (table_entries table.now)) }
     ensures memory { IfErr result (λ e. is_parse_memory e ≡ true) }
 {
     for relocation in table.section.relocations() {
@@ -212,7 +213,8 @@ fn put_last_tables(
 ) -> Result<ByOffset<Relocation>, ParseError>
     requires file { AreOfOneFile tables.now }
     requires last { last.now ≡ last_tables tables.now }
-    ensures kept { IfOk result (λ m. m ≡ relocations_by_offset (flat_map table_entries tables.now)) }
+    ensures kept { IfOk result (λ m.
+        m ≡ relocations_by_offset (flat_map table_entries tables.now)) }
     ensures memory { IfErr result (λ e. is_parse_memory e ≡ true) }
 {
     let mut entries = Vec::new(alloc);
@@ -231,7 +233,8 @@ pub fn by_offset(
     tables: &[RelocationTable<'_>],
 ) -> Result<ByOffset<Relocation>, ParseError>
     requires { AreOfOneFile tables.now }
-    ensures kept { IfOk result (λ m. m ≡ relocations_by_offset (flat_map table_entries tables.now)) }
+    ensures kept { IfOk result (λ m.
+        m ≡ relocations_by_offset (flat_map table_entries tables.now)) }
     ensures memory { IfErr result (λ e. is_parse_memory e ≡ true) }
 {
     let last = last_tables(alloc, tables)?;

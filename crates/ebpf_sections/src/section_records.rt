@@ -71,7 +71,21 @@ pub struct SectionRecords<'e> {
 impl<'e> Model for SectionRecords<'e> {
     ghost Value = { FuncAndLineInfo };
 
-    ghost view = { λ r. record { funcs = record { sec_name_offset = r.funcs.name_offset; num_info = r.funcs.count; func_info = r.funcs.records }; lines = record { sec_name_offset = r.lines.name_offset; num_info = r.lines.count; line_info = r.lines.records }; func_size = r.func_size; line_size = r.line_size } };
+    ghost view = { λ r.
+        record {
+          funcs = record {
+            sec_name_offset = r.funcs.name_offset;
+            num_info = r.funcs.count;
+            func_info = r.funcs.records;
+          };
+          lines = record {
+            sec_name_offset = r.lines.name_offset;
+            num_info = r.lines.count;
+            line_info = r.lines.records;
+          };
+          func_size = r.func_size;
+          line_size = r.line_size;
+        } };
 }
 
 impl<'e> SectionRecords<'e> {
@@ -130,7 +144,12 @@ fn lent_funcs<'e>(
     found: &Option<FoundSections<'e, FuncSecInfo>>,
     name: &str,
 ) -> LentInfo<'e, bpf_func_info>
-    ensures { func_info_at (found_funcs found.now) name.now ≡ record { sec_name_offset = result.name_offset; num_info = result.count; func_info = result.records.now } }
+    ensures { func_info_at (found_funcs found.now) name.now
+        ≡ record {
+          sec_name_offset = result.name_offset;
+          num_info = result.count;
+          func_info = result.records.now;
+        } }
 {
     let Some(found) = found else {
         return LentInfo::none();
@@ -151,7 +170,12 @@ fn lent_lines<'e>(
     found: &Option<FoundSections<'e, LineSecInfo>>,
     name: &str,
 ) -> LentInfo<'e, bpf_line_info>
-    ensures { line_info_at (found_lines found.now) name.now ≡ record { sec_name_offset = result.name_offset; num_info = result.count; line_info = result.records.now } }
+    ensures { line_info_at (found_lines found.now) name.now
+        ≡ record {
+          sec_name_offset = result.name_offset;
+          num_info = result.count;
+          line_info = result.records.now;
+        } }
 {
     let Some(found) = found else {
         return LentInfo::none();
@@ -188,7 +212,12 @@ impl<'e> Model for FoundRecords<'e> {
 
     ghost Value = { Option ExtInfo };
 
-    ghost coded = { Prim.hlevel (codes, map.code {R = text_cmp} coded_text func_rows.the_row.coded, map.code {R = text_cmp} coded_text line_rows.the_row.coded) };
+    ghost coded = { Prim.hlevel (
+      codes,
+      map.code {R = text_cmp} coded_text func_rows.the_row.coded,
+      map.code
+          {R = text_cmp} coded_text line_rows.the_row.coded,
+    ) };
 
     ghost view = { λ r. r.ext.now };
 }
@@ -216,14 +245,24 @@ impl<'e> FoundRecords<'e> {
 
     /// The func info of the section with a name; empty where there is none.
     pub fn funcs(&self, name: &str) -> LentInfo<'e, bpf_func_info>
-        ensures { func_info_at (func_info_of self.now) name.now ≡ record { sec_name_offset = result.name_offset; num_info = result.count; func_info = result.records.now } }
+        ensures { func_info_at (func_info_of self.now) name.now
+            ≡ record {
+              sec_name_offset = result.name_offset;
+              num_info = result.count;
+              func_info = result.records.now;
+            } }
     {
         lent_funcs(&self.funcs, name)
     }
 
     /// The line info of the section with a name; empty where there is none.
     pub fn lines(&self, name: &str) -> LentInfo<'e, bpf_line_info>
-        ensures { line_info_at (line_info_of self.now) name.now ≡ record { sec_name_offset = result.name_offset; num_info = result.count; line_info = result.records.now } }
+        ensures { line_info_at (line_info_of self.now) name.now
+            ≡ record {
+              sec_name_offset = result.name_offset;
+              num_info = result.count;
+              line_info = result.records.now;
+            } }
     {
         lent_lines(&self.lines, name)
     }
@@ -286,7 +325,12 @@ impl<'e> Model for RecordsByName<'e> {
 
     ghost Value = { Option ExtInfo };
 
-    ghost coded = { Prim.hlevel (codes, map.code {R = text_cmp} coded_text func_rows.the_row.coded, map.code {R = text_cmp} coded_text line_rows.the_row.coded) };
+    ghost coded = { Prim.hlevel (
+      codes,
+      map.code {R = text_cmp} coded_text func_rows.the_row.coded,
+      map.code
+          {R = text_cmp} coded_text line_rows.the_row.coded,
+    ) };
 
     ghost view = { λ r. r.found };
 }

@@ -42,7 +42,12 @@ impl<T: Drop> Groups<T> {
 
     /// Adds a value behind the values of its section.
     pub fn add(&mut self, alloc: Global, section: usize, value: T) -> Result<(), ParseError>
-        ensures added { OnOk result ((q : ℕ) → group_at self.new.groups q ≡ (if section == q then group_at self.old.groups q ++ value ∷ [] else group_at self.old.groups q)) }
+        ensures added { OnOk result
+            ((q : ℕ)
+            → group_at self.new.groups q
+            ≡ (if section == q
+            then group_at self.old.groups q ++ value ∷ []
+            else group_at self.old.groups q)) }
         ensures memory { IfErr result (λ e. is_parse_memory e ≡ true) }
     {
         match self.groups.get_mut(&section) {
@@ -101,7 +106,9 @@ impl<'a> SectionNames<'a> {
     /// Adds the name of a section to the names of its kind.
     #[tactic(auto, unfolding(ebpf_parts::specs::Sections::section_of, ebpf_parts::specs::Sections::section_with))]
     fn add(&mut self, alloc: Global, section: &ElfSection<'a>) -> Result<(), ParseError>
-        ensures last { OnOk result (self.new.last_data ≡ put_all self.old.last_data (data_row (section_of section.now))) }
+        ensures last { OnOk result
+            (self.new.last_data
+            ≡ put_all self.old.last_data (data_row (section_of section.now))) }
         ensures memory { IfErr result (λ e. is_parse_memory e ≡ true) }
     {
         let name = name_or_empty(section);
@@ -125,7 +132,8 @@ impl<'a> SectionNames<'a> {
 
     /// The names of all sections but those of type information.
     pub fn read(alloc: Global, file: &ElfFile<'a>) -> Result<SectionNames<'a>, ParseError>
-        ensures last { IfOk result (λ names. names.last_data ≡ last_data (object_sections file.now)) }
+        ensures last { IfOk result (λ names.
+            names.last_data ≡ last_data (object_sections file.now)) }
         ensures memory { IfErr result (λ e. is_parse_memory e ≡ true) }
     {
         let mut names = SectionNames {
@@ -200,7 +208,9 @@ pub fn read_section<'a>(
     section: &ElfSection<'a>,
     tables: &[RelocationTable<'_>],
 ) -> Result<Section<'a>, ParseError>
-    requires { tables.now ≡ filter (λ r. relocated_section r == section.now.index) (relocation_sections section.now.file) }
+    requires { tables.now
+        ≡ filter (λ r. relocated_section r == section.now.index)
+        (relocation_sections section.now.file) }
     ensures section { IfOk result (λ s. s ≡ section_with [] section.now) }
     ensures fault { Refuses is_parse_memory result (section_fault section.now) }
 {

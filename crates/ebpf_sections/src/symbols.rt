@@ -40,7 +40,17 @@ pub struct NamedSymbol<'a> {
 impl<'a> Model for NamedSymbol<'a> {
     ghost Value = { SymbolValue };
 
-    ghost view = { λ y. record { index = y.index; section_index = y.section_index; name = y.name.now; address = y.address; size = y.size; kind = y.kind; is_definition = y.is_definition; is_weak = y.is_weak } };
+    ghost view = { λ y.
+        record {
+          index = y.index;
+          section_index = y.section_index;
+          name = y.name.now;
+          address = y.address;
+          size = y.size;
+          kind = y.kind;
+          is_definition = y.is_definition;
+          is_weak = y.is_weak;
+        } };
 }
 
 impl<'a> NamedSymbol<'a> {
@@ -101,8 +111,13 @@ impl<'a> FileSymbols<'a> {
     /// Adds a symbol.
     #[tactic(auto, unfolding(crate::specs::Symbols::section_symbols))]
     fn add(&mut self, alloc: Global, symbol: NamedSymbol<'a>) -> Result<(), ParseError>
-        ensures names { OnOk result (lent_bytes self.new.names.items ≡ lent_bytes self.old.names.items ++ symbol.entry.name ∷ []) }
-        ensures groups { OnOk result ((q : ℕ) → group_at self.new.groups.groups q ≡ group_at self.old.groups.groups q ++ section_symbols (symbol.entry ∷ []) q) }
+        ensures names { OnOk result
+            (lent_bytes self.new.names.items
+            ≡ lent_bytes self.old.names.items ++ symbol.entry.name ∷ []) }
+        ensures groups { OnOk result
+            ((q : ℕ)
+            → group_at self.new.groups.groups q
+            ≡ group_at self.old.groups.groups q ++ section_symbols (symbol.entry ∷ []) q) }
         ensures memory { IfErr result (λ e. is_parse_memory e ≡ true) }
     {
         self.names.push(symbol.name)?;
@@ -127,7 +142,8 @@ fn count_of(file: &ElfFile<'_>) -> usize {
 #[tactic(auto, using(crate::proofs::NamedSymbols::group_more, crate::proofs::NamedSymbols::group_all, crate::proofs::NamedSymbols::names_more, crate::proofs::NamedSymbols::names_all))]
 pub fn read_symbols<'a>(alloc: Global, file: &ElfFile<'a>) -> Result<FileSymbols<'a>, ParseError>
     ensures names { IfOk result (λ s. lent_bytes s.names.items ≡ names_of (file_symbols file.now)) }
-    ensures groups { IfOk result (λ s. (q : ℕ) → group_at s.groups.groups q ≡ section_symbols (file_symbols file.now) q) }
+    ensures groups { IfOk result (λ s.
+        (q : ℕ) → group_at s.groups.groups q ≡ section_symbols (file_symbols file.now) q) }
     ensures fault { Refuses is_parse_memory result (symbols_fault file.now) }
 {
     let mut symbols = FileSymbols {
@@ -191,7 +207,11 @@ pub fn weak_by_name(alloc: Global, file: &ElfFile<'_>) -> Result<ByName<bool>, P
 
 /// Keeps whether a symbol is weak, if no symbol of its name came before.
 fn keep(alloc: Global, weak: &mut ByName<bool>, symbol: &NamedSymbol<'_>) -> Result<(), ParseError>
-    ensures kept { OnOk result (weak.new ≡ (if contains_key weak.old symbol.now.name then weak.old else insert weak.old symbol.now.name symbol.now.is_weak)) }
+    ensures kept { OnOk result
+        (weak.new
+        ≡ (if contains_key weak.old symbol.now.name
+        then weak.old
+        else insert weak.old symbol.now.name symbol.now.is_weak)) }
     ensures memory { IfErr result (λ e. is_parse_memory e ≡ true) }
 {
     if weak.contains_key(symbol.name) {

@@ -36,7 +36,8 @@ fn defined_symbols<'s, 'a>(
     alloc: Global,
     symbols: &'s [NamedSymbol<'a>],
 ) -> Result<Vec<&'s NamedSymbol<'a>>, ParseError>
-    ensures rows { IfOk result (λ rows. map (λ y. y.now) rows.items ≡ filter is_defined_text symbols.now) }
+    ensures rows { IfOk result (λ rows.
+        map (λ y. y.now) rows.items ≡ filter is_defined_text symbols.now) }
     ensures memory { IfErr result (λ e. is_parse_memory e ≡ true) }
 {
     let mut rows = Vec::with_capacity(alloc, symbols.len())?;
@@ -53,7 +54,10 @@ fn sort_by_address<'s, 'a>(
     mut rows: Vec<&'s NamedSymbol<'a>>,
 ) -> Result<Vec<&'s NamedSymbol<'a>>, ParseError>
     ensures rising { IfOk result (λ s. IsNonDecreasingBy (λ y. y.now.address) s.items) }
-    ensures grouped { IfOk result (λ s. (q : ℕ) → filter (is_at q) (map (λ y. y.now) s.items) ≡ filter (is_at q) (map (λ y. y.now) rows.entry.items)) }
+    ensures grouped { IfOk result (λ s.
+        (q : ℕ)
+        → filter (is_at q) (map (λ y. y.now) s.items)
+        ≡ filter (is_at q) (map (λ y. y.now) rows.entry.items)) }
     ensures memory { IfErr result (λ e. is_parse_memory e ≡ true) }
 {
     rows.sort_by_key(|row| row.address)?;
@@ -63,7 +67,8 @@ fn sort_by_address<'s, 'a>(
 /// Whether the symbol at an index has a smaller address than `address`.
 fn is_below(rows: &[&NamedSymbol<'_>], index: usize, address: u64) -> bool
     requires { index < length rows.now }
-    ensures { MatchBool result (HoldsAt (λ y. y.now.address < address) rows.now index) (HoldsAt (λ y. address ≤ y.now.address) rows.now index) }
+    ensures { MatchBool result (HoldsAt (λ y. y.now.address < address) rows.now index)
+        (HoldsAt (λ y. address ≤ y.now.address) rows.now index) }
 {
     let row = rows[index];
     row.address < address
@@ -71,7 +76,8 @@ fn is_below(rows: &[&NamedSymbol<'_>], index: usize, address: u64) -> bool
 
 /// Whether each symbol has a greater address than the one before it.
 fn rises(rows: &[&NamedSymbol<'_>]) -> bool
-    ensures { OnTrue result (AllAdjacentBelow (λ x y. x.now.address < y.now.address) rows.now (length rows.now)) }
+    ensures { OnTrue result
+        (AllAdjacentBelow (λ x y. x.now.address < y.now.address) rows.now (length rows.now)) }
 {
     for index in 1..rows.len() {
         let row = rows[index];
@@ -114,7 +120,8 @@ fn check_apart(
     symbols: &[NamedSymbol<'_>],
     rows: &[&NamedSymbol<'_>],
 ) -> Result<(), ParseError>
-    requires { (q : ℕ) → filter (is_at q) (map (λ y. y.now) rows.now) ≡ filter (is_text_at q) symbols.now }
+    requires { (q : ℕ)
+        → filter (is_at q) (map (λ y. y.now) rows.now) ≡ filter (is_text_at q) symbols.now }
     ensures { Refuses is_parse_memory result (conflict_fault section_index symbols.now) }
 {
     if rises(rows) {
@@ -127,7 +134,9 @@ fn check_apart(
 fn splits(rows: &[&NamedSymbol<'_>], index: usize, address: u64) -> bool
     requires { IsNonDecreasingBy (λ y. y.now.address) rows.now }
     ensures within { OnTrue result (index ≤ length rows.now) }
-    ensures cut { OnTrue result (IsPartitionPoint (λ y. y.now.address < address) (λ y. address ≤ y.now.address) rows.now index) }
+    ensures cut { OnTrue result
+        (IsPartitionPoint (λ y. y.now.address < address) (λ y. address ≤ y.now.address) rows.now
+        index) }
 {
     index < rows.len()
         && !is_below(rows, index, address)
@@ -138,7 +147,8 @@ fn splits(rows: &[&NamedSymbol<'_>], index: usize, address: u64) -> bool
 fn lower_bound(rows: &[&NamedSymbol<'_>], guess: usize, address: u64) -> usize
     requires { IsNonDecreasingBy (λ y. y.now.address) rows.now }
     ensures within { result ≤ length rows.now }
-    ensures cut { IsPartitionPoint (λ y. y.now.address < address) (λ y. address ≤ y.now.address) rows.now result }
+    ensures cut { IsPartitionPoint (λ y. y.now.address < address) (λ y. address ≤ y.now.address)
+        rows.now result }
 {
     if splits(rows, guess, address) {
         return guess;
@@ -153,7 +163,8 @@ fn row_at<'s, 'a>(
     address: u64,
 ) -> Option<&'s NamedSymbol<'a>>
     requires rising { IsNonDecreasingBy (λ y. y.now.address) rows.now }
-    requires cut { IsPartitionPoint (λ y. y.now.address < address) (λ y. address ≤ y.now.address) rows.now index }
+    requires cut { IsPartitionPoint (λ y. y.now.address < address) (λ y. address ≤ y.now.address)
+        rows.now index }
     ensures { result ≡ find (λ y. y.now.address == address) rows.now }
 {
     match rows.get(index) {
@@ -171,7 +182,8 @@ pub struct FunctionSymbols<'s, 'a> {
     /// The index behind the last symbol that was asked for, since most are asked for in order.
     next: Cell<usize>,
     ghost rising: { IsNonDecreasingBy (λ y. y.now.address) rows.items },
-    ghost by_address: { (q : ℕ) → find (is_at q) (map (λ y. y.now) rows.items) ≡ find (is_text_at q) symbols.now },
+    ghost by_address: { (q : ℕ)
+        → find (is_at q) (map (λ y. y.now) rows.items) ≡ find (is_text_at q) symbols.now },
 }
 
 impl<'s, 'a> FunctionSymbols<'s, 'a> {
@@ -219,11 +231,13 @@ fn function_of(
     offset: usize,
 ) -> Result<(Function, usize), ParseError>
     requires { offset < length section.now.bytes }
-    ensures function { IfOk result (λ r. r.0 ≡ text_function records.now section.now offset symbol.now) }
+    ensures function { IfOk result (λ r.
+        r.0 ≡ text_function records.now section.now offset symbol.now) }
     ensures end { IfOk result (λ r. r.1 ≡ offset + symbol.now.size) }
     ensures further { IfOk result (λ r. offset < r.1) }
     ensures inside { IfOk result (λ r. r.1 ≤ length section.now.bytes) }
-    ensures fault { Refuses is_parse_memory result (text_fault_of section.now offset (Some symbol.now)) }
+    ensures fault { Refuses is_parse_memory result
+        (text_fault_of section.now offset (Some symbol.now)) }
 {
     let left = section.bytes.len() - offset;
     if symbol.size == 0 || symbol.size > left as u64 {
@@ -241,7 +255,12 @@ fn function_of(
         section_offset: offset,
         instructions: Items::from_vec(instructions),
         func_info: records.funcs_at(alloc, offset / bpf_insn::SIZE, 0)?,
-        line_info: records.lines_in(alloc, offset / bpf_insn::SIZE, symbol.size as usize / bpf_insn::SIZE, 0)?,
+        line_info: records.lines_in(
+            alloc,
+            offset / bpf_insn::SIZE,
+            symbol.size as usize / bpf_insn::SIZE,
+            0,
+        )?,
         func_info_rec_size: records.func_size,
         line_info_rec_size: records.line_size,
     };
@@ -258,11 +277,14 @@ fn function_at(
     offset: usize,
 ) -> Result<(Function, usize), ParseError>
     requires { offset < length section.now.bytes }
-    ensures function { IfOk result (λ r. function_at records.now section.now symbols.now.symbols.now offset ≡ r.0 ∷ []) }
-    ensures end { IfOk result (λ r. r.1 ≡ offset + size_at section.now symbols.now.symbols.now offset) }
+    ensures function { IfOk result (λ r.
+        function_at records.now section.now symbols.now.symbols.now offset ≡ r.0 ∷ []) }
+    ensures end { IfOk result (λ r.
+        r.1 ≡ offset + size_at section.now symbols.now.symbols.now offset) }
     ensures further { IfOk result (λ r. offset < r.1) }
     ensures inside { IfOk result (λ r. r.1 ≤ length section.now.bytes) }
-    ensures fault { Refuses is_parse_memory result (text_fault_at section.now symbols.now.symbols.now offset) }
+    ensures fault { Refuses is_parse_memory result
+        (text_fault_at section.now symbols.now.symbols.now offset) }
 {
     let address = section.address.wrapping_add(offset as u64);
     match symbols.at(address) {
@@ -282,8 +304,11 @@ fn gather(
     section: &Section<'_>,
     symbols: &FunctionSymbols<'_, '_>,
 ) -> Result<Vec<((usize, u64), Function)>, ParseError>
-    ensures all { IfOk result (λ entries. entries.items ≡ map with_key (text_functions records.now section.now symbols.now.symbols.now)) }
-    ensures fault { Refuses is_parse_memory result (walk_fault section.now symbols.now.symbols.now) }
+    ensures all { IfOk result (λ entries.
+        entries.items
+        ≡ map with_key (text_functions records.now section.now symbols.now.symbols.now)) }
+    ensures fault { Refuses is_parse_memory result
+        (walk_fault section.now symbols.now.symbols.now) }
 {
     let mut entries = Vec::with_capacity(alloc, symbols.count())?;
     let mut offset = 0;
@@ -332,7 +357,10 @@ pub fn put_text_functions(
     section: &Section<'_>,
     symbols: &[NamedSymbol<'_>],
 ) -> Result<(), ParseError>
-    ensures put { OnOk result (functions.new ≡ put_all functions.old (map with_key (text_functions records.now section.now symbols.now))) }
+    ensures put { OnOk result
+        (functions.new
+        ≡ put_all functions.old
+        (map with_key (text_functions records.now section.now symbols.now))) }
     ensures fault { Refuses is_parse_memory result (text_fault section.now symbols.now) }
 {
     let symbols = FunctionSymbols::new(alloc, section.index.0, symbols)?;

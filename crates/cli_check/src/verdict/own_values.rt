@@ -2,9 +2,8 @@
 
 use cli_common::record_names::{no_answer, own_value_of};
 use ebpf_btf::{Btf, BtfKind};
-use ebpf_core::{NamedPath, local_path};
-use ebpf_core::{FieldPlace, PlaceEnd};
 use ebpf_btf_ext::{Relocation, RelocationKind};
+use ebpf_core::{FieldPlace, NamedPath, PlaceEnd, local_path};
 use std::alloc::{AllocError, Global};
 
 /// The id of the type of the member with a number.

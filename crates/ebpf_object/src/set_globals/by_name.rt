@@ -31,8 +31,10 @@ fn given_names<'a>(
     alloc: Global,
     globals: &HashMap<&'a str, (&[u8], bool)>,
 ) -> Result<Vec<&'a str>, AllocError>
-    ensures names { IfOk result (λ names. lent_bytes names.items ≡ lent_bytes (keys_of globals.now.entries)) }
-    ensures distinct { IsDistinct (λ (a b : Bor (List ℕ)). bytes_eq a.now b.now) (keys_of globals.now.entries) }
+    ensures names { IfOk result (λ names.
+        lent_bytes names.items ≡ lent_bytes (keys_of globals.now.entries)) }
+    ensures distinct { IsDistinct (λ (a b : Bor (List ℕ)). bytes_eq a.now b.now)
+        (keys_of globals.now.entries) }
 {
     let mut names = Vec::with_capacity(alloc, globals.len())?;
     for name in globals.keys() {
@@ -46,7 +48,8 @@ pub fn names_of<'a>(
     alloc: Global,
     globals: &HashMap<&'a str, (&[u8], bool)>,
 ) -> Result<Vec<&'a str>, AllocError>
-    ensures { IfOk result (λ names. lent_bytes names.items ≡ keys_of (finite.entries (globals_of globals.now.entries))) }
+    ensures { IfOk result (λ names.
+        lent_bytes names.items ≡ keys_of (finite.entries (globals_of globals.now.entries))) }
 {
     let mut names = given_names(alloc, globals)?;
     names.sort_unstable();

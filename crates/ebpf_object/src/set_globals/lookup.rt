@@ -37,7 +37,11 @@ fn put_indices(
     symbols: &ByIndex<Symbol>,
     indices: &[usize],
 ) -> Result<ByName<usize>, AllocError>
-    ensures { IfOk result (λ found. found ≡ put_all numbers (flat_map (λ number. named_at number (finite.get symbols.now number)) indices.now)) }
+    ensures { IfOk result (λ found.
+        found
+        ≡ put_all numbers
+        (flat_map (λ number. named_at number (finite.get symbols.now number))
+        indices.now)) }
 {
     let mut numbers = numbers;
     for index in indices {
@@ -89,7 +93,8 @@ fn put_maps(
 /// The name of the first map by name that each section has.
 #[tactic(auto, using(crate::proofs::MapNames::first_maps))]
 pub fn map_names(alloc: Global, maps: &ByName<Map>) -> Result<ByIndex<Text>, AllocError>
-    ensures { IfOk result (λ names. (section : ℕ) → finite.get names section ≡ first_map maps.now section) }
+    ensures { IfOk result (λ names.
+        (section : ℕ) → finite.get names section ≡ first_map maps.now section) }
 {
     let names = maps.names(alloc)?;
     put_maps(alloc, ByIndex::new(alloc), maps, names.as_slice())
@@ -106,7 +111,8 @@ fn fits(address: u64, length: usize, size: usize) -> bool
 }
 
 fn invalid_data(alloc: Global, name: &str, sym_size: u64, data_size: usize) -> ParseError
-    ensures { MatchBool (is_parse_memory result) ⊤ (result ≡ InvalidGlobalData name.now sym_size data_size) }
+    ensures { MatchBool (is_parse_memory result) ⊤
+        (result ≡ InvalidGlobalData name.now sym_size data_size) }
 {
     match Text::from_str(alloc, name) {
         Ok(name) => ParseError::InvalidGlobalData {
@@ -136,8 +142,12 @@ fn patch_in_map<'a>(
     symbol: &Symbol,
     map_name: &Text,
 ) -> Result<Patch<'a>, ParseError>
-    ensures patch { IfOk result (λ p. in_map maps.now name.now bytes.now symbol.now (Some map_name.now) ≡ Ok (value_of p ∷ [])) }
-    ensures fault { IfErr result (λ e. MatchBool (is_parse_memory e) ⊤ (in_map maps.now name.now bytes.now symbol.now (Some map_name.now) ≡ Err e)) }
+    ensures patch { IfOk result (λ p.
+        in_map maps.now name.now bytes.now symbol.now (Some map_name.now)
+        ≡ Ok (value_of p ∷ [])) }
+    ensures fault { IfErr result (λ e.
+        MatchBool (is_parse_memory e) ⊤
+        (in_map maps.now name.now bytes.now symbol.now (Some map_name.now) ≡ Err e)) }
 {
     let size = match maps.get(map_name.as_str()) {
         Some(map) => map.data().len(),
@@ -184,8 +194,11 @@ fn patch_by_symbol<'a>(
     bytes: &'a [u8],
     symbol: &Symbol,
 ) -> Result<Patch<'a>, ParseError>
-    ensures patch { IfOk result (λ p. of_symbol lookup.now.maps.now name.now bytes.now symbol.now ≡ Ok (value_of p ∷ [])) }
-    ensures fault { IfErr result (λ e. MatchBool (is_parse_memory e) ⊤ (of_symbol lookup.now.maps.now name.now bytes.now symbol.now ≡ Err e)) }
+    ensures patch { IfOk result (λ p.
+        of_symbol lookup.now.maps.now name.now bytes.now symbol.now ≡ Ok (value_of p ∷ [])) }
+    ensures fault { IfErr result (λ e.
+        MatchBool (is_parse_memory e) ⊤
+        (of_symbol lookup.now.maps.now name.now bytes.now symbol.now ≡ Err e)) }
 {
     if bytes.len() as u64 != symbol.size {
         return Err(invalid_data(alloc, name, symbol.size, bytes.len()));
@@ -207,8 +220,14 @@ pub fn patch_of<'a>(
     bytes: &'a [u8],
     must_exist: bool,
 ) -> Result<Option<Patch<'a>>, ParseError>
-    ensures patch { IfOk result (λ p. patch_of lookup.now.symbols.now lookup.now.maps.now name.now (bytes.now, must_exist) ≡ Ok (values_of p)) }
-    ensures fault { IfErr result (λ e. MatchBool (is_parse_memory e) ⊤ (patch_of lookup.now.symbols.now lookup.now.maps.now name.now (bytes.now, must_exist) ≡ Err e)) }
+    ensures patch { IfOk result (λ p.
+        patch_of lookup.now.symbols.now lookup.now.maps.now name.now (bytes.now, must_exist)
+        ≡ Ok (values_of p)) }
+    ensures fault { IfErr result (λ e.
+        MatchBool (is_parse_memory e) ⊤
+        (patch_of lookup.now.symbols.now lookup.now.maps.now name.now
+        (bytes.now, must_exist)
+        ≡ Err e)) }
 {
     match symbol_of(lookup, name) {
         Some(symbol) => match patch_by_symbol(alloc, lookup, name, bytes, symbol) {

@@ -31,7 +31,8 @@ fn overwrite(target: &mut Vec<u8>, offset: usize, bytes: &[u8])
 
 /// Writes bytes into the data of a map from an offset on.
 fn overwrite_map(target: &mut Map, offset: usize, bytes: &[u8])
-    ensures { target.new ≡ with_bytes target.old (overwritten (bytes_of target.old) offset bytes.now) }
+    ensures { target.new
+        ≡ with_bytes target.old (overwritten (bytes_of target.old) offset bytes.now) }
 {
     overwrite(target.data_mut(), offset, bytes);
 }

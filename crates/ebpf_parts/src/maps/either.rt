@@ -228,7 +228,9 @@ impl Map {
     /// The data that the map begins with, to be written. What is there when the borrow ends is the map's data,
     /// and all else stays.
     pub fn data_mut(&mut self) -> &mut Vec<u8>
-        ensures* writes_back { sem 𝓛 (Lends the_row (vec_row byte global_row ⟦<Global as Allocator>⟧) self.entry result (λ bytes. maps.with_bytes self.old bytes.items)) }
+        ensures* writes_back { sem 𝓛
+            (Lends the_row (vec_row byte global_row ⟦<Global as Allocator>⟧) self.entry result
+            (λ bytes. maps.with_bytes self.old bytes.items)) }
         ensures value { result.now.items ≡ maps.bytes_of self.old }
     {
         match self {
