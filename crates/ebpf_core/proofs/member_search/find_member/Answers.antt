@@ -1,5 +1,5 @@
 use Rattle.ebpf_core.specs.Places.{IsFirstMember}
-use Rattle.ebpf_core.proofs.Paths.{aside, first_member}
+use Rattle.ebpf_core.proofs.PlacePaths.{aside, first_member}
 use Rattle.ebpf_core.proofs.member_search.find_member.Goals as goal
 
 pub returns-clause-first : goal.returns-clause-first

@@ -1,4 +1,4 @@
-use Rattle.ebpf_core.proofs.Paths.{one_first_member}
+use Rattle.ebpf_core.proofs.PlacePaths.{one_first_member}
 use Rattle.ebpf_core.proofs.place_laws.one_first_member.Goals as goal
 
 pub returns : goal.returns

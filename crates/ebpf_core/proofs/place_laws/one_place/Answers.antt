@@ -1,5 +1,5 @@
 use Rattle.std.proofs.Common.{sym}
-use Rattle.ebpf_core.proofs.Paths.{one_place, path_leads}
+use Rattle.ebpf_core.proofs.PlacePaths.{one_place, path_leads}
 use Rattle.ebpf_core.proofs.place_laws.one_place.Goals as goal
 
 pub returns-clause-leads : goal.returns-clause-leads

@@ -1,7 +1,7 @@
 use Rattle.std.proofs.Common.{Some, None, Ok, Err, refl, sym, ap, ◌∙◌, arith}
 use Rattle.ebpf_core.specs.Places.{is_place_memory}
 use Rattle.ebpf_core_candidates.proofs.Refusals.{handed_on, refused}
-use Rattle.ebpf_core.proofs.Paths.{path_at, path_end}
+use Rattle.ebpf_core.proofs.PlacePaths.{path_at, path_end}
 use Rattle.ebpf_core.proofs.place_walk.follow_all.Goals as goal
 
 pub returns-in_err-next : goal.returns-in_err-next

@@ -2,7 +2,7 @@ use Rattle.std.proofs.Common.{◌≡◌, ◌∷◌, Ok, Err, sym, ◌∙◌, sub
 use Rattle.ebpf_base.specs.Faults.{Gives}
 use Rattle.ebpf_core.specs.Places.{is_place_memory}
 use Rattle.ebpf_core_candidates.proofs.Refusals.{exact, handed_on}
-use Rattle.ebpf_core.proofs.Paths.{place_begun, place_empty, place_named}
+use Rattle.ebpf_core.proofs.PlacePaths.{place_begun, place_empty, place_named}
 use Rattle.ebpf_core.proofs.place_walk.place.Goals as goal
 
 pub returns-in_default : goal.returns-in_default

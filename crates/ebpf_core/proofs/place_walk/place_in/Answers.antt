@@ -1,5 +1,5 @@
 use Rattle.ebpf_core.specs.Places.{PathLeads}
-use Rattle.ebpf_core.proofs.Paths.{aside, path_leads}
+use Rattle.ebpf_core.proofs.PlacePaths.{aside, path_leads}
 use Rattle.ebpf_core.proofs.place_walk.place_in.Goals as goal
 
 pub returns-clause-leads : goal.returns-clause-leads
