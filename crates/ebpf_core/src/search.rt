@@ -104,17 +104,17 @@ fn outcome_named(
     path: &LocalPath,
     searched: NamedType<'_>,
 ) -> Result<Outcome, RelocationError>
-    requires first { has_named index.now (searched_kinds searched.entry.ty.now).0
-        searched.entry.name.now
+    requires first { has_named index.now (searched_kinds searched.ty.now).0
+        searched.name.now
         ≡ true }
-    requires second { has_named index.now (searched_kinds searched.entry.ty.now).1
-        searched.entry.name.now
+    requires second { has_named index.now (searched_kinds searched.ty.now).1
+        searched.name.now
         ≡ true }
     ensures { Tells result
         (if_ok
         (of_types
-        (candidates_named index.now.info searched.entry.ty.now
-        searched.entry.name.now))
+        (candidates_named index.now.info searched.ty.now
+        searched.name.now))
         (outcome_among local.now index.now.info relocation.now path.now)) }
 {
     if was_enum64(searched.ty) {
@@ -132,14 +132,14 @@ fn ids_named(
     index: &KindsIndex<'_>,
     searched: NamedType<'_>,
 ) -> Result<Items<u32>, BtfError>
-    requires first { has_named index.now (searched_kinds searched.entry.ty.now).0
-        searched.entry.name.now
+    requires first { has_named index.now (searched_kinds searched.ty.now).0
+        searched.name.now
         ≡ true }
-    requires second { has_named index.now (searched_kinds searched.entry.ty.now).1
-        searched.entry.name.now
+    requires second { has_named index.now (searched_kinds searched.ty.now).1
+        searched.name.now
         ≡ true }
     ensures { Gives is_btf_memory result
-        (candidates_named index.now.info searched.entry.ty.now searched.entry.name.now) }
+        (candidates_named index.now.info searched.ty.now searched.name.now) }
 {
     if was_enum64(searched.ty) {
         let ids = ids_of_both(alloc, index, BtfKind::Union, BtfKind::Enum64, searched.name)?;
@@ -192,12 +192,12 @@ fn index_for<'a>(
     searched: NamedType<'_>,
 ) -> Result<usize, BtfError>
     requires types { All (λ index. index.info ≡ target.now) indices.old.items }
-    requires named { IsLocalType local.now searched.entry.ty.now searched.entry.name.now }
+    requires named { IsLocalType local.now searched.ty.now searched.name.now }
     ensures types { All (λ index. index.info ≡ target.now) indices.new.items }
     ensures place { IfOk result (λ n. n < length indices.new.items) }
     ensures names { IfOk result (λ n.
-        HasNameAt indices.new.items n (searched_kinds searched.entry.ty.now).0
-        (searched_kinds searched.entry.ty.now).1 searched.entry.name.now) }
+        HasNameAt indices.new.items n (searched_kinds searched.ty.now).0
+        (searched_kinds searched.ty.now).1 searched.name.now) }
     ensures memory { IfErr result (λ e. e ≡ OutOfMemory) }
 {
     let (first, second) = searched_kinds(searched.ty);
