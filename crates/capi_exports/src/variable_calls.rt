@@ -160,7 +160,7 @@ pub extern "C" fn ebpf_value(
     let Some(object) = handle.take(alloc) else {
         return CLOSED;
     };
-    let number = write_value(alloc, &object, name, value, len);
+    let number = write_value(&object, name, value, len);
     handle.put(alloc, object);
     number
 }

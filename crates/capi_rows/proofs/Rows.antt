@@ -1,26 +1,17 @@
 -- Rows with names, read one after the other.
-use Rattle.std.proofs.Common.{◌≡◌, ℕ, ◌+◌, ◌<◌, List, [], ◌∷◌, ◌++◌, map, length, drop, true, false, Some, None, Bor, refl, sym, ap, ◌∙◌, Option, Bool, cond}
+use Rattle.std.proofs.Common.{◌≡◌, ℕ, ◌+◌, ◌<◌, List, [], ◌∷◌, ◌++◌, map, length, drop, true, false, Some, None, Bor, refl, sym, ap, ◌∙◌, Option}
 use Rattle.std.proofs.lemmas.List.{append_assoc, map-append}
 use Rattle.std.proofs.lemmas.Str.{is_utf8-from_IsUtf8, IsUtf8-from_is_utf8}
 use Rattle.std.specs.Prelude.{ℤ, slice_index_or, option_map, if◌then◌else◌, Ok, Err}
 use Rattle.std.specs.List.{cons_option, filter_map}
-use Rattle.std.specs.Str.{is_utf8, IsUtf8, bytes_eq}
+use Rattle.std.specs.Str.{is_utf8, IsUtf8}
 use Rattle.std.specs.FinMap.{FinMap, get, insert}
-use Rattle.std.specs.BTreeMap.{is_at}
-use Rattle.std.specs.HashMap.{HashMap, Updates}
-use Rattle.std.specs.Map.{lookup}
-use Rattle.std.proofs.lemmas.Map.Text.{is_eq-slice_cmp}
 use Rattle.capi_rows.specs.Listings.{value_by_bytes}
-use Rattle.ebpf_base.proofs.Maps.{get-view, one_set}
-use Rattle.ebpf_base.proofs.TextMaps.{text_exact}
 use Rattle.ebpf_base.proofs.Lists.{rest_more}
-use Rattle.ebpf_base.specs.Maps.{put_all, text_cmp, text_total}
-use Rattle.ebpf_object.proofs.Values.{Given, get_given}
-use Rattle.ebpf_object.specs.Patches.{global_of, globals_of, Global}
+use Rattle.ebpf_base.specs.Maps.{put_all, text_cmp}
 use Rattle.ebpf_object.specs.Stages.{descriptor_of}
 use Rattle.capi_rows.specs.Descriptors.{text_of, name_in, descriptors_in}
 use Rattle.capi_rows.specs.Reads.{row_named, or_number}
-use Rattle.capi_rows.specs.Variables.{lent_value}
 use Rattle.capi_rows.specs.declared.reads.ebpf_descriptor.{ebpf_descriptor}
 use Rattle.capi_rows.specs.declared.variables.ebpf_value.{ebpf_value}
 
@@ -119,25 +110,3 @@ module _ {V : Type 0} (given_by : ebpf_value → Option (List ℕ × V)) where
       → i < length rows → row ≡ slice_index_or rows i row → None ≡ given_by row
       → left before (drop (i + 1) rows) ≡ left before (drop i rows)
   none_put before rows i row below here absent = read before rows i row None below here absent
-
--- ---- values of variables, put at names
-
-abbrev seen : Given → List (List ℕ × Global)
-seen es = map lent_value es
-
-looked_up : (es : Given) (q : List ℕ) → lookup (is_at (text_cmp q)) (seen es) ≡ option_map global_of (lookup (λ (k : Bor (List ℕ)). bytes_eq q k.now) es)
-looked_up es q = sym (get-view text_total (seen es) q) ∙ get_given es q
-
-chosen_global : (b : Bool) (v : Bor (List ℕ) × Bool) (before : Option (Bor (List ℕ) × Bool)) → option_map global_of (cond b (Some v) before) ≡ cond b (Some (global_of v)) (option_map global_of before)
-chosen_global true v before = refl
-chosen_global false v before = refl
-
--- a value that is put at a name stands there, and the others stay
-pub put_over : {S : Type 0} (m n : HashMap (Bor (List ℕ)) (Bor (List ℕ) × Bool) S) (k : Bor (List ℕ)) (v : Bor (List ℕ) × Bool)
-    → Updates (λ (a b : Bor (List ℕ)). bytes_eq a.now b.now) m n k (Some v) → globals_of n.entries ≡ insert (globals_of m.entries) k.now (global_of v)
-put_over m n k v updates = one_set text_total text_exact (seen m.entries) (seen n.entries) k.now (global_of v) (λ q.
-    let at : Bor (List ℕ) = record { ref_ptr = k.ref_ptr; now = q } in
-    looked_up n.entries q ∙ ap (option_map global_of) (updates.0 at)
-    ∙ chosen_global (bytes_eq k.now q) v (lookup (λ (b : Bor (List ℕ)). bytes_eq q b.now) m.entries)
-    ∙ ap (λ b. cond b (Some (global_of v)) (option_map global_of (lookup (λ (b : Bor (List ℕ)). bytes_eq q b.now) m.entries))) (sym (is_eq-slice_cmp k.now q))
-    ∙ ap (cond (is_at (text_cmp k.now) q) (Some (global_of v))) (sym (looked_up m.entries q)))

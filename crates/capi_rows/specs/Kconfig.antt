@@ -24,7 +24,8 @@ use Rattle.ebpf_object.specs.declared.object.Object.{Object}
 use Rattle.capi_rows.specs.Descriptors.{text_of, name_in}
 use Rattle.capi_rows.specs.Handles.{IsRefusal}
 use Rattle.capi_rows.specs.Numbers.{kconfig_refusal}
-use Rattle.capi_rows.specs.Variables.{are_named, bytes_in, have_values}
+use Rattle.capi_rows.specs.Variables.{are_named, have_values}
+use Rattle.ebpf_object.specs.Variables.{bytes_in}
 use Rattle.capi_rows.specs.declared.variables.ebpf_kconfig_extern.{ebpf_kconfig_extern}
 use Rattle.capi_rows.specs.declared.variables.ebpf_value.{ebpf_value}
 

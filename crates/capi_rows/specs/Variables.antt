@@ -1,13 +1,12 @@
 -- Values of variables, as C hands them over: each row says where its variable's name stands in a
 -- text, and where its value stands in a block of bytes.
 use denote.Ref.{Bor}
-use Rattle.std.specs.Prelude.{◌≡◌, ⊤, ℕ, ◌+◌, ◌==◌, not, true, Bool, List, length, take, drop}
-use Rattle.std.specs.Prelude.{nat_le, Option, Some, None, option_map, is_some, MatchBool}
-use Rattle.std.specs.Prelude.{if◌then◌else◌, [], ◌∷◌, ◌++◌, Result}
-use Rattle.std.specs.FinMap.{FinMap, empty, get, entries}
-use Rattle.std.specs.List.{filter_map, list_all, find}
+use Rattle.std.specs.Prelude.{◌≡◌, ⊤, ℕ, ◌+◌, ◌==◌, not, true, Bool, List, length}
+use Rattle.std.specs.Prelude.{Option, Some, None, option_map, is_some, MatchBool}
+use Rattle.std.specs.Prelude.{[], ◌∷◌, ◌++◌, Result}
+use Rattle.std.specs.FinMap.{FinMap, empty, entries}
+use Rattle.std.specs.List.{filter_map, list_all}
 use Rattle.std.specs.Option.{option_and_then}
-use Rattle.std.specs.Ordering.{nat_cmp}
 use Rattle.capi_rows.specs.Answers.{Listed}
 use Rattle.capi_rows.specs.Listings.{listed_by, zero_terminated}
 use Rattle.capi_rows.specs.FaultNumbers.{parse_refusal}
@@ -17,21 +16,15 @@ use Rattle.capi_rows.specs.declared.refusal.Refusal.{Refusal}
 use Rattle.ebpf_base.specs.Maps.{put_all, text_cmp}
 use Rattle.ebpf_model.specs.declared.symbol.Symbol.{Symbol}
 use Rattle.ebpf_object.specs.Patches.{Global, all_patched, patches_of, patches_fault}
-use Rattle.ebpf_object.specs.Patches.{symbol_indices, symbol_named, global_of}
+use Rattle.ebpf_object.specs.Patches.{symbol_indices, global_of}
+use Rattle.ebpf_object.specs.Variables.{bytes_in, value_named, variable_at}
 use Rattle.ebpf_object.specs.declared.object.Object.{Object}
-use Rattle.ebpf_parts.specs.Maps.{bytes_of, section_index_of}
 use Rattle.ebpf_parts.specs.Memory.{is_parse_memory}
-use Rattle.ebpf_parts.specs.declared.maps.either.Map.{Map}
 use Rattle.capi_rows.specs.Descriptors.{name_in, text_of}
 use Rattle.capi_rows.specs.Handles.{IsRefusal}
 use Rattle.capi_rows.specs.Reads.{or_number}
 use Rattle.capi_rows.specs.declared.variables.ebpf_value.{ebpf_value}
 use Rattle.capi_rows.specs.declared.variables.ebpf_variable.{ebpf_variable}
-
--- the bytes at an offset of a block, where it is inside
-abbrev pub bytes_in : List ℕ → ℕ → ℕ → Option (List ℕ)
-bytes_in bytes at count =
-    if nat_le (at + count) (length bytes) then Some (take count (drop at bytes)) else None
 
 -- a variable's name with its value, which stands in the bytes, and whether the object has to have
 -- the variable
@@ -82,47 +75,14 @@ CannotPatchAll rows text bytes o r =
 
 -- ---- the variables in the data of an object's maps, and what C reads of them
 
--- ---- where a symbol's bytes are
-
--- the first map, in byte order of the names, whose section it is
-abbrev pub map_of_section : List (List ℕ × Map) → Option ℕ → Option (List ℕ × Map)
-map_of_section maps None = None
-map_of_section maps (Some section) = find (λ e. section == section_index_of e.1) maps
-
--- the bytes that a symbol names in the data of a map, where they are inside
-abbrev pub symbol_bytes : List (List ℕ × Map) → Symbol → Option (List ℕ)
-symbol_bytes maps s =
-    option_and_then (λ e. bytes_in (bytes_of e.1) s.address s.size)
-    (map_of_section maps s.section_index)
-
--- the name of the map that has a symbol's bytes, where it has some
-abbrev pub map_if_inside : Symbol → List ℕ × Map → Option (List ℕ)
-map_if_inside s e = if nat_le (s.address + s.size) (length (bytes_of e.1)) then Some e.0 else None
-
-abbrev pub variable_map : List (List ℕ × Map) → Symbol → Option (List ℕ)
-variable_map maps s =
-    if s.size == 0
-    then None
-    else option_and_then (map_if_inside s) (map_of_section maps s.section_index)
-
 -- ---- the value of one
 
--- the symbol that some bytes name: of equal names that with the greatest index; bytes that are no
--- text name none
-abbrev pub symbol_by_bytes : FinMap nat_cmp Symbol → List ℕ → Option Symbol
-symbol_by_bytes symbols name = option_and_then (symbol_named symbols) (text_of name)
-
+-- the value of the variable that some bytes name; bytes that are no text name none
 abbrev pub read_value : List ℕ → Object → Result (List ℕ) ℕ
 read_value name o =
-    or_number NO_VARIABLE (λ bytes. bytes)
-    (option_and_then (symbol_bytes (entries o.maps)) (symbol_by_bytes o.symbol_table name))
+    or_number NO_VARIABLE (λ bytes. bytes) (option_and_then (value_named o) (text_of name))
 
 -- ---- all, in byte order of their names
-
--- the name of the map of a variable, and its symbol
-abbrev pub variable_at : FinMap nat_cmp Symbol → List (List ℕ × Map) → ℕ → Option (List ℕ × Symbol)
-variable_at symbols maps index =
-    option_and_then (λ s. option_map (λ map. (map, s)) (variable_map maps s)) (get symbols index)
 
 -- the names of a variable and of its map
 abbrev pub variable_text : List ℕ → List ℕ × Symbol → List ℕ

@@ -12,11 +12,12 @@ ghost use Rattle.capi_rows.specs.Reads.{read_func_infos, function_by_bytes, read
 use crate::codes::{NO_MAP, NO_PROGRAM};
 use crate::entries::value_by_bytes;
 use crate::programs::name_of_section;
-use crate::variables::{bytes_in, ebpf_value};
+use crate::variables::ebpf_value;
 use ebpf_base::{ByName, Items};
 use ebpf_btf_ext::{bpf_func_info, bpf_line_info};
 use ebpf_model::Function;
 use ebpf_object::Object;
+use ebpf_object::variables::bytes_in;
 use ebpf_parts::insn::bpf_insn;
 use std::alloc::{AllocError, Global};
 

@@ -1,26 +1,25 @@
 //! Variables in the data of maps, and their values as C hands them over.
 
-ghost use Rattle.std.specs.Prelude.{◌≡◌, IfOk, OnOk, option_map, ◌∷◌, [], ◌+◌, ◌==◌, nat_le, length, ◌++◌};
+ghost use Rattle.std.specs.Prelude.{◌≡◌, IfOk, OnOk, option_map, ◌∷◌, [], ◌+◌, length, ◌++◌};
 ghost use Rattle.std.specs.FinMap.{insert, entries};
 ghost use Rattle.std.specs.Option.{option_copied, option_and_then};
-ghost use Rattle.std.specs.List.{find};
 ghost use Rattle.capi_rows.specs.Listings.{zero_terminated};
 ghost use Rattle.ebpf_object.specs.Patches.{global_of, globals_of};
 ghost use Rattle.capi_rows.specs.Kconfig.{has_sign, kconfig_kind, kconfig_row};
-ghost use Rattle.capi_rows.specs.Variables.{bytes_in, are_named, have_values, value_of_row, values_in, map_if_inside, map_of_section, read_value, symbol_by_bytes, symbol_bytes, variable_map, row_if, text_if, variable_at, variable_row, variable_text, lent_value};
+ghost use Rattle.ebpf_object.specs.Variables.{value_named, variable_at};
+ghost use Rattle.capi_rows.specs.Descriptors.{text_of};
+ghost use Rattle.capi_rows.specs.Variables.{are_named, have_values, value_of_row, values_in, read_value, row_if, text_if, variable_row, variable_text, lent_value};
 ghost use Rattle.capi_rows.specs.Answers.{FillsList, or_memory, found_list};
-ghost use Rattle.ebpf_parts.specs.Maps.{section_index_of};
 ghost use Rattle.capi_rows.specs.Reads.{or_number};
 
 use crate::buffers::{Listing, RowFrom, add_name, add_row, write_list};
 use crate::codes::{MEMORY, NO_VARIABLE, flag};
 use crate::entries::Entry;
 use crate::reads::{name_in, text_of};
-use ebpf_base::ByName;
 use ebpf_kconfig::{KconfigExtern, KconfigType};
 use ebpf_model::Symbol;
-use ebpf_object::{Object, symbol_indices};
-use ebpf_parts::maps::Map;
+use ebpf_object::Object;
+use ebpf_object::variables::{bytes_in, variable_map};
 use std::alloc::{AllocError, Global};
 use std::collections::HashMap;
 
@@ -38,19 +37,6 @@ pub struct ebpf_value {
     pub value_len: usize,
     /// 0 where the object need not have the variable.
     pub must_exist: u32,
-}
-
-/// The bytes at an offset of a block, where it is inside.
-pub fn bytes_in(bytes: &[u8], at: usize, count: usize) -> Option<&[u8]>
-    ensures { option_copied result ≡ bytes_in bytes.now at count }
-{
-    let Some(end) = at.checked_add(count) else {
-        return None;
-    };
-    if end > bytes.len() {
-        return None;
-    }
-    Some(&bytes[at..end])
 }
 
 /// Whether each row names a variable.
@@ -183,128 +169,37 @@ impl RowFrom<KconfigExtern, ()> for ebpf_kconfig_extern {
     }
 }
 
-/// The first map of a section.
-fn first_of_section(maps: &ByName<Map>, section: usize) -> Option<Entry<'_, Map>>
-    ensures { result ≡ find (λ e. section == section_index_of e.1) (entries maps.now) }
+/// The value of the variable that some bytes name. Bytes that are no text name none.
+fn value_by_bytes<'a>(object: &'a Object, name: &[u8]) -> Result<Option<&'a [u8]>, AllocError>
+    ensures { IfOk result (λ value.
+        option_copied value ≡ option_and_then (value_named object.now) (text_of name.now)) }
 {
-    for (name, map) in maps.iter() {
-        if section == map.section_index() {
-            return Some(Entry {
-                name: name.as_str(),
-                value: map,
-            });
-        }
-    }
-    None
-}
-
-/// The first map whose section it is.
-fn map_of_section(maps: &ByName<Map>, section: Option<usize>) -> Option<Entry<'_, Map>>
-    ensures { result ≡ map_of_section (entries maps.now) section }
-{
-    match section {
-        Some(section) => first_of_section(maps, section),
-        None => None,
-    }
-}
-
-/// The bytes that a symbol names in the data of a map.
-fn symbol_bytes<'b>(maps: &'b ByName<Map>, symbol: &Symbol) -> Option<&'b [u8]>
-    ensures { option_copied result ≡ symbol_bytes (entries maps.now) symbol.now }
-{
-    match map_of_section(maps, symbol.section_index) {
-        Some(entry) => bytes_in(
-            entry.value.data(),
-            symbol.address as usize,
-            symbol.size as usize,
-        ),
-        None => None,
-    }
-}
-
-/// Whether a range lies inside.
-fn is_inside(address: u64, size: u64, len: usize) -> bool
-    ensures { result ≡ nat_le (address + size) len }
-{
-    match address.checked_add(size) {
-        Some(end) => end <= len as u64,
-        None => false,
-    }
-}
-
-/// The name of a map that has all of a symbol's bytes.
-fn map_if_inside<'b>(symbol: &Symbol, entry: &Entry<'b, Map>) -> Option<&'b str>
-    ensures { option_copied result ≡ map_if_inside symbol.now entry.now }
-{
-    if is_inside(symbol.address, symbol.size, entry.value.data().len()) {
-        Some(entry.name)
-    } else {
-        None
-    }
-}
-
-/// The name of the map that has a symbol's bytes, where it has some.
-pub fn variable_map<'b>(maps: &'b ByName<Map>, symbol: &Symbol) -> Option<&'b str>
-    ensures { option_copied result ≡ variable_map (entries maps.now) symbol.now }
-{
-    if symbol.size == 0 {
-        return None;
-    }
-    match map_of_section(maps, symbol.section_index) {
-        Some(entry) => map_if_inside(symbol, &entry),
-        None => None,
-    }
-}
-
-/// The symbol that some bytes name. Bytes that are no text name none.
-fn symbol_by_bytes<'a>(
-    alloc: Global,
-    object: &'a Object,
-    name: &[u8],
-) -> Result<Option<&'a Symbol>, AllocError>
-    ensures { IfOk result (λ symbol.
-        option_copied symbol ≡ symbol_by_bytes object.now.symbol_table name.now) }
-{
-    let Some(name) = text_of(name) else {
-        return Ok(None);
-    };
-    let numbers = symbol_indices(alloc, &object.symbol_table)?;
-    match numbers.get(name) {
-        Some(number) => Ok(object.symbol_table.get(*number)),
+    match text_of(name) {
+        Some(name) => object.value(name),
         None => Ok(None),
     }
 }
 
-/// The bytes of a symbol, where there is one.
-fn value_of<'b>(maps: &'b ByName<Map>, symbol: Option<&Symbol>) -> Result<&'b [u8], u32>
+/// A value, or that there is none.
+fn found_value(value: Option<&[u8]>) -> Result<&[u8], u32>
     ensures { found_list result
-        ≡ or_number NO_VARIABLE (λ bytes. bytes)
-        (option_and_then (symbol_bytes (entries maps.now)) (option_copied symbol.entry)) }
+        ≡ or_number NO_VARIABLE (λ bytes. bytes) (option_copied value.entry) }
 {
-    let Some(symbol) = symbol else {
-        return Err(NO_VARIABLE);
-    };
-    match symbol_bytes(maps, symbol) {
+    match value {
         Some(bytes) => Ok(bytes),
         None => Err(NO_VARIABLE),
     }
 }
 
 /// Writes the bytes of a variable, as `ebpf_value` does.
-pub fn write_value(
-    alloc: Global,
-    object: &Object,
-    name: &[u8],
-    value: &mut [u8],
-    len: &mut usize,
-) -> u32
+pub fn write_value(object: &Object, name: &[u8], value: &mut [u8], len: &mut usize) -> u32
     ensures { FillsList (or_memory result (read_value name.now object.now)) result value.old
         value.new len.old len.new }
 {
-    let Ok(symbol) = symbol_by_bytes(alloc, object, name) else {
+    let Ok(found) = value_by_bytes(object, name) else {
         return MEMORY;
     };
-    write_list(value_of(&object.maps, symbol), value, len)
+    write_list(found_value(found), value, len)
 }
 
 /// A variable in the data of a map.

@@ -1,4 +1,4 @@
-use Rattle.capi_rows.proofs.Rows.{put_over as put_over_entries}
+use Rattle.ebpf_object.proofs.VariableValues.{put_over as put_over_entries}
 use Rattle.capi_rows.proofs.variables.put_over.Goals as goal
 
 pub returns : goal.returns
