@@ -9,7 +9,7 @@ ghost use Rattle.ebpf_ksyms.specs.Sources.{Text};
 ghost use Rattle.cli_link.specs.Written.{shown_lines, program_name, WritesFinished, HasWritten};
 ghost use Rattle.ebpf_object.specs.Prepared.{IsParsed};
 ghost use Rattle.ebpf_parts.specs.declared.parse_mode.ParseMode.TheVariants.{Lenient};
-ghost use Rattle.cli_common.specs.EscapedName.{shown};
+ghost use Rattle.cli_common.specs.Shown.{shown};
 
 use cli_common::names::EscapedName;
 use cli_common::programs::ObjectProgram;
