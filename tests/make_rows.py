@@ -9,7 +9,7 @@ with files made by rows/elf.py and rows/btf.py. What has to be given is written 
 another reader, and never taken from what the program prints. A new action is a function that gives its text and an arm of
 the `match` in src/objects.rt of test_rows, in src/lib.rt of test_symbols, or in src/types.rt of test_btf_rows: it borrows
 the object or the types and doesn't hold them, or its proof takes minutes; it calls an object by test_bare_calls, which tells
-its answer and lets go of it. Then run this script, and `rt ci` compares.
+its answer and lets go of it. Then run this script, and `tests/quick.sh` compares.
 """
 from pathlib import Path
 

@@ -50,6 +50,18 @@ libraries() {
     done
 }
 
+# Prints the libraries under the heading `library` of crates.txt; all where there is no such heading.
+# usage: product ROOT
+product() {
+    local names
+    names=$(sed -n '/^# ---- library$/,/^# ---- [^l]/s/^\([a-z0-9_]*\)[ :].*/\1/p' "$1/crates.txt")
+    if [ -n "$names" ]; then
+        echo "$names"
+    else
+        libraries "$1"
+    fi
+}
+
 # Whether a file is there and no older than each source of some crates.
 # usage: is_current ROOT FILE CRATE ..
 is_current() {

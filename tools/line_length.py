@@ -202,12 +202,16 @@ def comment_lines(line):
 
 
 def import_lines(line):
-    """A `use` with its names on lines of their own."""
+    """A `use` as several, each with some of its names."""
     found = re.match(r"(.*\.\{)(.*)\}$", line)
     if not found:
         return [line]
-    lines = filled([[f"{name},"] for name in found[2].split(", ")], 4, ["    "])
-    return [found[1], *lines[:-1], lines[-1].rstrip(",") + "}"]
+    made = [[]]
+    for name in found[2].split(", "):
+        if made[-1] and len(found[1]) + len(", ".join([*made[-1], name])) + 1 > COLUMNS:
+            made.append([])
+        made[-1].append(name)
+    return [f"{found[1]}{', '.join(names)}}}" for names in made]
 
 
 def definition_lines(line):
@@ -263,14 +267,16 @@ def broken_line(line, is_spec):
 def is_limited(line, is_spec):
     """Whether the limit holds for a line: of code, only for terms, but not for imports, attributes and a ghost field's code."""
     if is_spec:
-        return True
+        # an import of one name can't be broken
+        return not re.match(r"use \S+( as \w+)?\}?$", line)
     if re.match(r" *(//|#\[|(pub )?(ghost )?use )", line) or "} by {" in line:
         return False
     return re.match(r" *(ensures|requires|ghost [a-z_]+:|ghost [a-z_]+ =)", line) is not None or set(line) & set("≡→λ×∷≤") != set()
 
 
 def words_of(text):
-    """The words of a file, without the marks of comments."""
+    """The words of a file, without the marks of comments, and with an import for each name."""
+    text = re.sub(r"(?m)^(use .*\.\{)(.*)\}$", lambda m: "\n".join(m[1] + name + "}" for name in m[2].split(", ")), text)
     return re.sub(r"\s", "", re.sub(r"(?m)^\s*--", "", text))
 
 

@@ -10,7 +10,7 @@
 # checkout whose versions differ, or one of whose libraries isn't proved, are not made.
 #
 # usage: release.sh [--deb] [--trial] [CRATE ..]
-#   CRATE    a library for Rattle, with those below it; without any: all of crates.txt
+#   CRATE    a library for Rattle, with those below it; without any: those of crates.txt under the heading `library`
 #   --trial  makes what can be made: versions may differ, and libraries that aren't proved are left out
 set -euo pipefail
 top=$(cd "$(dirname "$0")/.." && pwd)
@@ -28,12 +28,12 @@ stop() {
     exit 1
 }
 
-# Packs a folder of the room into dist/NAME.tar.xz.
+# Packs a folder of the room into dist/NAME.tar.xz. Blocks of one size, always by four threads, give the same bytes anywhere.
 # usage: pack NAME
 pack() {
     local made=$dist/$1.tar.xz
     tar -C "$room" --sort=name --format=gnu --mtime="@$time" --owner=0 --group=0 --numeric-owner --mode=u=rwX,go=rX \
-        -c "$1" | xz -9 -T1 >"$made.new"
+        -c "$1" | xz -6 -T4 --block-size=64MiB >"$made.new"
     mv "$made.new" "$made"
     echo "release.sh: $made: $(stat -c %s "$made") bytes, $(du -sb --apparent-size "$room/$1" | cut -f1) unpacked"
 }
@@ -140,7 +140,7 @@ done
 for crate in "${named[@]}"; do
     grep -qx -- "$crate" <<<"$(libraries "$top")" || stop "crates.txt has no library $crate"
 done
-[ ${#named[@]} -gt 0 ] || mapfile -t named < <(libraries "$top")
+[ ${#named[@]} -gt 0 ] || mapfile -t named < <(product "$top")
 for file in "${BUILT[@]}"; do
     [ -e "$top/$file" ] || stop "$file is not built: run tools/build.sh"
 done

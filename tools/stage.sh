@@ -7,7 +7,7 @@ top=$(cd "$(dirname "$0")/.." && pwd)
 # shellcheck source=tools/crates.sh
 . "$top/tools/crates.sh"
 # The pages for those who use the programs and the library for C; those that are there are taken.
-readonly PAGES=(CLI TOOL PROGRAMS C ERRORS BEHAVIOUR DIFFERENCES)
+readonly PAGES=(CLI C ERRORS BEHAVIOUR API)
 
 # Copies a file, under a name below FOLDER, with the version in the place of @VERSION@ where the name is that of a text.
 # usage: put MODE FILE NAME

@@ -9,12 +9,8 @@ use Rattle.capi_rows.specs.declared.refusal.Refusal.{Refusal}
 use Rattle.ebpf_btf.specs.TypeInfo.{TypeInfo}
 use Rattle.ebpf_load_info.specs.AttachTargets.{attach_target}
 use Rattle.ebpf_load_info.specs.declared.attach.AttachTarget.{AttachTarget}
-use Rattle.ebpf_load_info.specs.declared.attach.AttachTarget.TheVariants.{
-  NotWanted,
-  Unnamed,
-  Found,
-  NotFound,
-}
+use Rattle.ebpf_load_info.specs.declared.attach.AttachTarget.TheVariants.{NotWanted, Unnamed, Found}
+use Rattle.ebpf_load_info.specs.declared.attach.AttachTarget.TheVariants.{NotFound}
 use Rattle.ebpf_model.specs.Memory.{is_memory_at}
 use Rattle.ebpf_model.specs.declared.error.EbpfRelocationError.{EbpfRelocationError}
 use Rattle.ebpf_model.specs.declared.function.Program.{Program}

@@ -1,22 +1,6 @@
 -- What a pass over an object leaves of it, and why it refuses.
-use Rattle.std.specs.Prelude.{
-  ◌≡◌,
-  ◌⊎◌,
-  ⊤,
-  ℕ,
-  List,
-  [],
-  Option,
-  Some,
-  None,
-  Ok,
-  Err,
-  MatchBool,
-  true,
-  unwrap_or,
-  Result,
-  MatchResult,
-}
+use Rattle.std.specs.Prelude.{◌≡◌, ◌⊎◌, ⊤, ℕ, List, [], Option, Some, None, Ok, Err, MatchBool}
+use Rattle.std.specs.Prelude.{true, unwrap_or, Result, MatchResult}
 use Rattle.capi_rows.specs.FaultNumbers.{slot_refusal}
 use Rattle.capi_rows.specs.declared.refusal.Refusal.{Refusal}
 use Rattle.ebpf_base.specs.Faults.{fault_of}
@@ -32,19 +16,10 @@ use Rattle.ebpf_object.specs.LinkedPrograms.{linkable_of, programs_in_order, Pro
 use Rattle.ebpf_object.specs.Names.{has_function_in}
 use Rattle.ebpf_object.specs.Objects.{object_of}
 use Rattle.ebpf_object.specs.UnchangedFields.{KeepsOthers}
-use Rattle.ebpf_object.specs.Prepared.{
-  IsFirstPrepareFault,
-  IsParsed,
-  IsStageFault,
-  RefusesPreparing,
-  Stages,
-}
-use Rattle.ebpf_object.specs.WrittenSlots.{
-  relocated_slots,
-  AreRelocatedToTypes,
-  with_externs,
-  externs_fault,
-}
+use Rattle.ebpf_object.specs.Prepared.{IsFirstPrepareFault, IsParsed, IsStageFault}
+use Rattle.ebpf_object.specs.Prepared.{RefusesPreparing, Stages}
+use Rattle.ebpf_object.specs.WrittenSlots.{relocated_slots, AreRelocatedToTypes, with_externs}
+use Rattle.ebpf_object.specs.WrittenSlots.{externs_fault}
 use Rattle.ebpf_object.specs.Stages.{Chosen}
 use Rattle.ebpf_object.specs.declared.object.Object.{Object}
 use Rattle.ebpf_parts.specs.declared.parse_mode.ParseMode.{ParseMode}
@@ -53,12 +28,8 @@ use Rattle.ebpf_reloc.specs.Linking.{IsFirstRefusal}
 use Rattle.capi_rows.specs.Descriptors.{descriptors_in, have_names, NamesFirst}
 use Rattle.capi_rows.specs.FileTypes.{types_in, types_if, CannotRead, CannotReadIf}
 use Rattle.capi_rows.specs.Handles.{IsRefusal}
-use Rattle.capi_rows.specs.Numbers.{
-  ksyms_refusal,
-  types_refusal,
-  prepare_refusal,
-  kernel_types_refusal,
-}
+use Rattle.capi_rows.specs.Numbers.{ksyms_refusal, types_refusal, prepare_refusal}
+use Rattle.capi_rows.specs.Numbers.{kernel_types_refusal}
 use Rattle.capi_rows.specs.declared.reads.ebpf_descriptor.{ebpf_descriptor}
 
 -- ---- types

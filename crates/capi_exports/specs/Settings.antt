@@ -1,20 +1,6 @@
 -- What is set of an object before its relocation.
-use Rattle.std.specs.Prelude.{
-  ◌≡◌,
-  ℕ,
-  Bool,
-  List,
-  Option,
-  Some,
-  None,
-  MatchOption,
-  ◌==◌,
-  false,
-  not,
-  length,
-  MatchBool,
-  if◌then◌else◌,
-}
+use Rattle.std.specs.Prelude.{◌≡◌, ℕ, Bool, List, Option, Some, None, MatchOption, ◌==◌, false, not}
+use Rattle.std.specs.Prelude.{length, MatchBool, if◌then◌else◌}
 use Rattle.std.specs.FinMap.{FinMap, empty, insert}
 use Rattle.capi_rows.specs.Listings.{value_by_bytes}
 use Rattle.capi_rows.specs.Refusals.{plain}
@@ -22,11 +8,8 @@ use Rattle.capi_rows.specs.declared.codes.TheConstants.{BAD_NAME, CLOSED, WRONG_
 use Rattle.capi_rows.specs.declared.refusal.Refusal.{Refusal}
 use Rattle.ebpf_base.specs.Maps.{text_cmp}
 use Rattle.capi_exports.specs.declared.map_settings.Setting.{Setting}
-use Rattle.capi_exports.specs.declared.map_settings.Setting.TheVariants.{
-  MaxEntries,
-  ValueSize,
-  Data,
-}
+use Rattle.capi_exports.specs.declared.map_settings.Setting.TheVariants.{MaxEntries, ValueSize}
+use Rattle.capi_exports.specs.declared.map_settings.Setting.TheVariants.{Data}
 use Rattle.ebpf_object.specs.OlderHelpers.{AreSanitized}
 use Rattle.ebpf_object.specs.Patches.{all_patched, patches_of, patches_fault}
 use Rattle.ebpf_object.specs.declared.object.Object.{Object}

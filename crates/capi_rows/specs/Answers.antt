@@ -1,27 +1,7 @@
 -- What a call leaves in the buffers of its caller. Where it found what it has to write, it does so
 -- where all of it fits, and else says how much there is.
-use Rattle.std.specs.Prelude.{
-  ◌≡◌,
-  ℕ,
-  Bool,
-  ◌&&◌,
-  ◌==◌,
-  List,
-  ◌++◌,
-  length,
-  drop,
-  Result,
-  Ok,
-  Err,
-  nat_le,
-  if◌then◌else◌,
-  [],
-  take,
-  min,
-  Option,
-  is_some,
-  unwrap_or,
-}
+use Rattle.std.specs.Prelude.{◌≡◌, ℕ, Bool, ◌&&◌, ◌==◌, List, ◌++◌, length, drop, Result, Ok, Err}
+use Rattle.std.specs.Prelude.{nat_le, if◌then◌else◌, [], take, min, Option, is_some, unwrap_or}
 use denote.Ref.{Bor}
 use Rattle.capi_rows.specs.declared.codes.TheConstants.{DONE, ROOM, MEMORY}
 use Rattle.capi_rows.specs.declared.buffers.ebpf_counts.{ebpf_counts}

@@ -1,23 +1,6 @@
 -- Descriptors of maps, as C names them: each row says where its map's name stands in a text.
-use Rattle.std.specs.Prelude.{
-  ◌≡◌,
-  ℕ,
-  ◌+◌,
-  List,
-  length,
-  take,
-  drop,
-  nat_le,
-  Bool,
-  true,
-  Option,
-  Some,
-  None,
-  option_map,
-  is_some,
-  MatchBool,
-  if◌then◌else◌,
-}
+use Rattle.std.specs.Prelude.{◌≡◌, ℕ, ◌+◌, List, length, take, drop, nat_le, Bool, true, Option}
+use Rattle.std.specs.Prelude.{Some, None, option_map, is_some, MatchBool, if◌then◌else◌}
 use Rattle.std.specs.List.{filter_map, list_all}
 use Rattle.std.specs.Str.{is_utf8}
 use Rattle.ebpf_object.specs.Stages.{fds_written, fds_fault, Wrapped, Descriptor}

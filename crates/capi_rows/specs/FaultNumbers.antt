@@ -9,23 +9,10 @@ use Rattle.ebpf_parts.specs.declared.error.ParseError.TheVariants as parse
 use Rattle.ebpf_model.specs.declared.error.EbpfRelocationError.{EbpfRelocationError}
 use Rattle.ebpf_model.specs.declared.error.RelocationError.{RelocationError}
 use Rattle.ebpf_model.specs.declared.error.RelocationError.TheVariants as slot
-use Rattle.capi_rows.specs.Refusals.{
-  at_address,
-  at_offset,
-  at_section,
-  no_details,
-  of_index,
-  of_kind,
-  of_relocation,
-  of_size,
-  of_symbol,
-  of_type,
-  two_sizes,
-  refusal_with_details,
-  detailed_with_name,
-  plain,
-  refusal_with_name,
-}
+use Rattle.capi_rows.specs.Refusals.{at_address, at_offset, at_section, no_details, of_index}
+use Rattle.capi_rows.specs.Refusals.{of_kind, of_relocation, of_size, of_symbol, of_type, two_sizes}
+use Rattle.capi_rows.specs.Refusals.{refusal_with_details, detailed_with_name, plain}
+use Rattle.capi_rows.specs.Refusals.{refusal_with_name}
 use Rattle.capi_rows.specs.declared.codes.TheConstants.{MEMORY}
 use Rattle.capi_rows.specs.declared.refusal.Details.{Details}
 use Rattle.capi_rows.specs.declared.refusal.Refusal.{Refusal}

@@ -1,26 +1,7 @@
 -- The names of the types of a file.
-use Rattle.std.specs.Prelude.{
-  ℕ,
-  List,
-  Option,
-  Some,
-  None,
-  slice_get,
-  Bool,
-  is_some,
-  codes,
-  unwrap_or,
-  ◌≡◌,
-  ⊤,
-  [],
-  ◌∷◌,
-  Result,
-  Ok,
-  Err,
-  MatchBool,
-  ◌==◌,
-  if◌then◌else◌,
-}
+use Rattle.std.specs.Prelude.{ℕ, List, Option, Some, None, slice_get, Bool, is_some, codes}
+use Rattle.std.specs.Prelude.{unwrap_or, ◌≡◌, ⊤, [], ◌∷◌, Result, Ok, Err, MatchBool, ◌==◌}
+use Rattle.std.specs.Prelude.{if◌then◌else◌}
 use Rattle.std.specs.Option.{option_and_then}
 use Rattle.std.specs.Result.{result_ok}
 use Rattle.std.specs.FinMap.{contains_key}

@@ -3,21 +3,8 @@ use Rattle.capi_rows.specs.Listings.{value_by_bytes}
 use Rattle.ebpf_parts.specs.declared.maps.either.Map.{Map}
 use Rattle.ebpf_base.specs.Maps.{text_cmp}
 use Rattle.std.specs.FinMap.{FinMap, insert}
-use Rattle.std.specs.Prelude.{
-  ◌≡◌,
-  ◌⊎◌,
-  ⊤,
-  ℕ,
-  List,
-  Option,
-  Some,
-  None,
-  Result,
-  Err,
-  MatchBool,
-  MatchResult,
-  MatchOption,
-}
+use Rattle.std.specs.Prelude.{◌≡◌, ◌⊎◌, ⊤, ℕ, List, Option, Some, None, Result, Err, MatchBool}
+use Rattle.std.specs.Prelude.{MatchResult, MatchOption}
 use Rattle.capi_rows.specs.FaultNumbers.{parse_refusal}
 use Rattle.capi_rows.specs.Refusals.{plain, IsReported}
 use Rattle.capi_rows.specs.declared.codes.TheConstants.{CLOSED, MEMORY, DONE, NO_MAP}

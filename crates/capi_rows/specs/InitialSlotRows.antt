@@ -1,26 +1,8 @@
 -- What C reads of the initial values of maps.
-use Rattle.std.specs.Prelude.{
-  ◌≡◌,
-  ⊤,
-  ℕ,
-  ◌+◌,
-  Bool,
-  true,
-  false,
-  List,
-  [],
-  ◌∷◌,
-  ◌++◌,
-  length,
-  Some,
-  None,
-  MatchBool,
-}
-use Rattle.ebpf_initial_slots.specs.InitialSlots.{
-  is_initial_slot_memory,
-  initial_slots,
-  initial_slots_fault,
-}
+use Rattle.std.specs.Prelude.{◌≡◌, ⊤, ℕ, ◌+◌, Bool, true, false, List, [], ◌∷◌, ◌++◌, length, Some}
+use Rattle.std.specs.Prelude.{None, MatchBool}
+use Rattle.ebpf_initial_slots.specs.InitialSlots.{is_initial_slot_memory, initial_slots}
+use Rattle.ebpf_initial_slots.specs.InitialSlots.{initial_slots_fault}
 use Rattle.ebpf_initial_slots.specs.declared.slots.InitialSlot.{InitialSlot}
 use Rattle.ebpf_initial_slots.specs.declared.target.InitialTarget.{InitialTarget}
 use Rattle.ebpf_initial_slots.specs.declared.target.InitialTarget.TheVariants.{Map, Program}

@@ -1,26 +1,7 @@
 -- What C reads of the externs that the kernel's configuration gives.
 use denote.Ref.{Bor}
-use Rattle.std.specs.Prelude.{
-  ℕ,
-  Bool,
-  false,
-  [],
-  ◌∷◌,
-  length,
-  ◌≡◌,
-  ◌⊎◌,
-  ⊤,
-  List,
-  Option,
-  Some,
-  None,
-  Result,
-  Ok,
-  Err,
-  MatchBool,
-  true,
-  option_map,
-}
+use Rattle.std.specs.Prelude.{ℕ, Bool, false, [], ◌∷◌, length, ◌≡◌, ◌⊎◌, ⊤, List, Option, Some}
+use Rattle.std.specs.Prelude.{None, Result, Ok, Err, MatchBool, true, option_map}
 use Rattle.std.specs.List.{find, filter_map}
 use Rattle.std.specs.Option.{option_and_then}
 use Rattle.std.specs.Str.{bytes_eq}
@@ -32,12 +13,8 @@ use Rattle.capi_rows.specs.declared.codes.TheConstants.{NO_EXTERN, BAD_NAME, BAD
 use Rattle.capi_rows.specs.declared.refusal.Refusal.{Refusal}
 use Rattle.ebpf_base.specs.Maps.{put_all, text_cmp}
 use Rattle.ebpf_kconfig.specs.ConfiguredValues.{configured_value, loader_value, with_name}
-use Rattle.ebpf_kconfig.specs.KconfigExterns.{
-  kconfig_externs,
-  kconfig_externs_fault,
-  is_kconfig_memory,
-  kconfig_size,
-}
+use Rattle.ebpf_kconfig.specs.KconfigExterns.{kconfig_externs, kconfig_externs_fault}
+use Rattle.ebpf_kconfig.specs.KconfigExterns.{is_kconfig_memory, kconfig_size}
 use Rattle.ebpf_kconfig.specs.KconfigMaps.{kconfig_fault, symbols_defined, with_kconfig_map}
 use Rattle.ebpf_kconfig.specs.declared.error.KconfigError.{KconfigError}
 use Rattle.ebpf_kconfig.specs.declared.externs.KconfigExtern.{KconfigExtern}

@@ -1,64 +1,37 @@
 -- How programs are loaded, as numbers: by the names of their sections, and where those are no names
 -- that loaders know, by the kinds that files say.
-use Rattle.std.specs.Prelude.{
-  ℕ,
-  ◌+◌,
-  ◌*◌,
-  Some,
-  None,
-  if◌then◌else◌,
-  Bool,
-  false,
-  Option,
-  unwrap_or,
-  option_map,
-}
-use Rattle.ebpf_parts.specs.ProgramTypes.{
-  attach_type_number,
-  cgroup_skb_attach_type,
-  cgroup_sock_attach_type,
-  cgroup_sock_addr_attach_type,
-  cgroup_sockopt_attach_type,
-  sk_reuseport_attach_type,
-  sk_skb_attach_type,
-  xdp_attach_type,
-  program_type_number,
-  section_type,
-}
+use Rattle.std.specs.Prelude.{ℕ, ◌+◌, ◌*◌, Some, None, if◌then◌else◌, Bool, false, Option}
+use Rattle.std.specs.Prelude.{unwrap_or, option_map}
+use Rattle.ebpf_parts.specs.ProgramTypes.{attach_type_number, cgroup_skb_attach_type}
+use Rattle.ebpf_parts.specs.ProgramTypes.{cgroup_sock_attach_type, cgroup_sock_addr_attach_type}
+use Rattle.ebpf_parts.specs.ProgramTypes.{cgroup_sockopt_attach_type, sk_reuseport_attach_type}
+use Rattle.ebpf_parts.specs.ProgramTypes.{sk_skb_attach_type, xdp_attach_type, program_type_number}
+use Rattle.ebpf_parts.specs.ProgramTypes.{section_type}
 use Rattle.ebpf_parts.specs.declared.program_section.ProgramSection.{ProgramSection}
-use Rattle.ebpf_parts.specs.declared.program_section.ProgramSection.TheVariants.{
-  KRetProbe,
-  KProbe,
-  UProbe,
-  URetProbe,
-  TracePoint,
-  SocketFilter,
-  Xdp,
-  SkMsg,
-  SkSkbStream,
-  SockOps,
-  SchedClassifier,
-  CgroupSkb,
-  CgroupSockAddr,
-  CgroupSysctl,
-  CgroupSockopt,
-  LircMode2,
-  PerfEvent,
-  RawTracePoint,
-  Lsm,
-  LsmCgroup,
-  BtfTracePoint,
-  FEntry,
-  FExit,
-  FlowDissector,
-  Extension,
-  SkLookup,
-  SkReuseport,
-  CgroupSock,
-  CgroupDevice,
-  Iter,
-  Other,
-}
+use Rattle.ebpf_parts.specs.declared.program_section.ProgramSection.TheVariants.{KRetProbe, KProbe}
+use Rattle.ebpf_parts.specs.declared.program_section.ProgramSection.TheVariants.{UProbe, URetProbe}
+use Rattle.ebpf_parts.specs.declared.program_section.ProgramSection.TheVariants.{TracePoint}
+use Rattle.ebpf_parts.specs.declared.program_section.ProgramSection.TheVariants.{SocketFilter, Xdp}
+use Rattle.ebpf_parts.specs.declared.program_section.ProgramSection.TheVariants.{SkMsg, SkSkbStream}
+use Rattle.ebpf_parts.specs.declared.program_section.ProgramSection.TheVariants.{SockOps}
+use Rattle.ebpf_parts.specs.declared.program_section.ProgramSection.TheVariants.{SchedClassifier}
+use Rattle.ebpf_parts.specs.declared.program_section.ProgramSection.TheVariants.{CgroupSkb}
+use Rattle.ebpf_parts.specs.declared.program_section.ProgramSection.TheVariants.{CgroupSockAddr}
+use Rattle.ebpf_parts.specs.declared.program_section.ProgramSection.TheVariants.{CgroupSysctl}
+use Rattle.ebpf_parts.specs.declared.program_section.ProgramSection.TheVariants.{CgroupSockopt}
+use Rattle.ebpf_parts.specs.declared.program_section.ProgramSection.TheVariants.{LircMode2}
+use Rattle.ebpf_parts.specs.declared.program_section.ProgramSection.TheVariants.{PerfEvent}
+use Rattle.ebpf_parts.specs.declared.program_section.ProgramSection.TheVariants.{RawTracePoint, Lsm}
+use Rattle.ebpf_parts.specs.declared.program_section.ProgramSection.TheVariants.{LsmCgroup}
+use Rattle.ebpf_parts.specs.declared.program_section.ProgramSection.TheVariants.{BtfTracePoint}
+use Rattle.ebpf_parts.specs.declared.program_section.ProgramSection.TheVariants.{FEntry, FExit}
+use Rattle.ebpf_parts.specs.declared.program_section.ProgramSection.TheVariants.{FlowDissector}
+use Rattle.ebpf_parts.specs.declared.program_section.ProgramSection.TheVariants.{Extension}
+use Rattle.ebpf_parts.specs.declared.program_section.ProgramSection.TheVariants.{SkLookup}
+use Rattle.ebpf_parts.specs.declared.program_section.ProgramSection.TheVariants.{SkReuseport}
+use Rattle.ebpf_parts.specs.declared.program_section.ProgramSection.TheVariants.{CgroupSock}
+use Rattle.ebpf_parts.specs.declared.program_section.ProgramSection.TheVariants.{CgroupDevice, Iter}
+use Rattle.ebpf_parts.specs.declared.program_section.ProgramSection.TheVariants.{Other}
 use Rattle.ebpf_parts.specs.declared.programs.kind.ProgramKind.{ProgramKind}
 use Rattle.capi_rows.specs.Refusals.{flag}
 use Rattle.capi_rows.specs.declared.loading.TheConstants.{NO_ATTACH_TYPE}

@@ -3,36 +3,17 @@ use Rattle.std.specs.Prelude.{ℕ, List, Option, Some, None, length, is_some}
 use Rattle.ebpf_btf.specs.TypeInfo.{TypeInfo}
 use Rattle.ebpf_load_info.specs.MapTypeIds.{map_type_ids, no_type_ids}
 use Rattle.ebpf_load_info.specs.declared.map_type_ids.MapTypeIds.{MapTypeIds}
-use Rattle.ebpf_parts.specs.Maps.{
-  map_type_of,
-  key_size_of,
-  value_size_of,
-  max_entries_of,
-  map_flags_of,
-  map_extra_of,
-  pinning_of,
-  bytes_of,
-  section_index_of,
-  section_kind_of,
-  inner_of,
-}
+use Rattle.ebpf_parts.specs.Maps.{map_type_of, key_size_of, value_size_of, max_entries_of}
+use Rattle.ebpf_parts.specs.Maps.{map_flags_of, map_extra_of, pinning_of, bytes_of}
+use Rattle.ebpf_parts.specs.Maps.{section_index_of, section_kind_of, inner_of}
 use Rattle.ebpf_parts.specs.declared.maps.either.Map.{Map}
 use Rattle.ebpf_parts.specs.declared.maps.definition.PinningType.{PinningType}
 use Rattle.ebpf_parts.specs.declared.maps.definition.PinningType.TheVariants as pinned
 use Rattle.ebpf_parts.specs.declared.section.EbpfSectionKind.{EbpfSectionKind}
-use Rattle.ebpf_parts.specs.declared.section.EbpfSectionKind.TheVariants.{
-  Undefined,
-  Maps,
-  BtfMaps,
-  Program,
-  Data,
-  Rodata,
-  Bss,
-  Text,
-  BtfExt,
-  License,
-  Version,
-}
+use Rattle.ebpf_parts.specs.declared.section.EbpfSectionKind.TheVariants.{Undefined, Maps, BtfMaps}
+use Rattle.ebpf_parts.specs.declared.section.EbpfSectionKind.TheVariants.{Program, Data, Rodata}
+use Rattle.ebpf_parts.specs.declared.section.EbpfSectionKind.TheVariants.{Bss, Text, BtfExt}
+use Rattle.ebpf_parts.specs.declared.section.EbpfSectionKind.TheVariants.{License, Version}
 use Rattle.ebpf_parts.specs.declared.section.EbpfSectionKind.TheVariants as kind
 use Rattle.capi_rows.specs.Refusals.{flag}
 use Rattle.capi_rows.specs.declared.maps.ebpf_map.{ebpf_map}

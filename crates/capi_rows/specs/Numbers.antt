@@ -1,30 +1,11 @@
 -- The numbers and names of the refusals of what a loader asks for beside relocation.
 use Rattle.std.specs.Prelude.{ℕ, ◌+◌, List}
-use Rattle.capi_rows.specs.Refusals.{
-  at_offset,
-  no_details,
-  of_kind,
-  of_size,
-  of_symbol,
-  of_type,
-  two_sizes,
-  at_slot,
-  of_count,
-  of_index,
-  of_relocation,
-  two_addresses,
-  refusal_with_details,
-  detailed_with_name,
-  plain,
-  refusal_with_name,
-}
-use Rattle.capi_rows.specs.FaultNumbers.{
-  file_fault,
-  type_refusal,
-  parse_refusal,
-  slot_refusal,
-  type_fault,
-}
+use Rattle.capi_rows.specs.Refusals.{at_offset, no_details, of_kind, of_size, of_symbol, of_type}
+use Rattle.capi_rows.specs.Refusals.{two_sizes, at_slot, of_count, of_index, of_relocation}
+use Rattle.capi_rows.specs.Refusals.{two_addresses, refusal_with_details, detailed_with_name, plain}
+use Rattle.capi_rows.specs.Refusals.{refusal_with_name}
+use Rattle.capi_rows.specs.FaultNumbers.{file_fault, type_refusal, parse_refusal, slot_refusal}
+use Rattle.capi_rows.specs.FaultNumbers.{type_fault}
 use Rattle.capi_rows.specs.declared.codes.TheConstants.{MEMORY}
 use Rattle.capi_rows.specs.declared.refusal.Details.{Details}
 use Rattle.capi_rows.specs.declared.refusal.Refusal.{Refusal}

@@ -1,21 +1,6 @@
 -- What C reads of the CO-RE records of an object: what each comes to over a kernel's types.
-use Rattle.std.specs.Prelude.{
-  ◌≡◌,
-  ℕ,
-  List,
-  [],
-  ◌∷◌,
-  length,
-  is_some,
-  Option,
-  Some,
-  None,
-  Result,
-  Ok,
-  Err,
-  unwrap_or,
-  map,
-}
+use Rattle.std.specs.Prelude.{◌≡◌, ℕ, List, [], ◌∷◌, length, is_some, Option, Some, None, Result}
+use Rattle.std.specs.Prelude.{Ok, Err, unwrap_or, map}
 use Rattle.capi_rows.specs.Answers.{Listed}
 use Rattle.capi_rows.specs.Refusals.{flag}
 use Rattle.capi_rows.specs.Listings.{listed_by, zero_terminated}
@@ -24,14 +9,9 @@ use Rattle.ebpf_btf.specs.Strings.{text_at}
 use Rattle.ebpf_btf.specs.TypeInfo.{TypeInfo}
 use Rattle.ebpf_btf.specs.declared.error.BtfError.{BtfError}
 use Rattle.ebpf_core_relo.specs.declared.absence.Absence.{Absence}
-use Rattle.ebpf_core_relo.specs.declared.absence.Absence.TheVariants.{
-  NoType,
-  TypeOfAnotherKind,
-  NoMember,
-  MemberOfAnotherKind,
-  NoEnumerator,
-  NoValue,
-}
+use Rattle.ebpf_core_relo.specs.declared.absence.Absence.TheVariants.{NoType, TypeOfAnotherKind}
+use Rattle.ebpf_core_relo.specs.declared.absence.Absence.TheVariants.{NoMember, MemberOfAnotherKind}
+use Rattle.ebpf_core_relo.specs.declared.absence.Absence.TheVariants.{NoEnumerator, NoValue}
 use Rattle.ebpf_core_relo.specs.declared.outcomes.RecordOutcome.{RecordOutcome}
 use Rattle.ebpf_core_relo.specs.declared.outcomes.RecordResult.{RecordResult}
 use Rattle.ebpf_core_relo.specs.declared.outcomes.RecordResult.TheVariants.{Value, Absent, Refused}

@@ -1,25 +1,7 @@
 -- What C reads of a refusal, and of the numbers that its error states: a number that it doesn't
 -- state is 0.
-use Rattle.std.specs.Prelude.{
-  ℕ,
-  Bool,
-  if◌then◌else◌,
-  ◌+◌,
-  ◌*◌,
-  Some,
-  None,
-  is_some,
-  unwrap_or,
-  ◌≡◌,
-  List,
-  [],
-  ◌++◌,
-  length,
-  take,
-  drop,
-  min,
-  Option,
-}
+use Rattle.std.specs.Prelude.{ℕ, Bool, if◌then◌else◌, ◌+◌, ◌*◌, Some, None, is_some, unwrap_or, ◌≡◌}
+use Rattle.std.specs.Prelude.{List, [], ◌++◌, length, take, drop, min, Option}
 use Rattle.capi_rows.specs.declared.refusal.Details.{Details}
 use Rattle.capi_rows.specs.declared.refusal.Refusal.{Refusal}
 use Rattle.capi_rows.specs.declared.refusal.ebpf_refusal.{ebpf_refusal}

@@ -1,32 +1,9 @@
 -- Values of variables, as C hands them over: each row says where its variable's name stands in a
 -- text, and where its value stands in a block of bytes.
 use denote.Ref.{Bor}
-use Rattle.std.specs.Prelude.{
-  ◌≡◌,
-  ⊤,
-  ℕ,
-  ◌+◌,
-  ◌==◌,
-  not,
-  true,
-  Bool,
-  List,
-  length,
-  take,
-  drop,
-  nat_le,
-  Option,
-  Some,
-  None,
-  option_map,
-  is_some,
-  MatchBool,
-  if◌then◌else◌,
-  [],
-  ◌∷◌,
-  ◌++◌,
-  Result,
-}
+use Rattle.std.specs.Prelude.{◌≡◌, ⊤, ℕ, ◌+◌, ◌==◌, not, true, Bool, List, length, take, drop}
+use Rattle.std.specs.Prelude.{nat_le, Option, Some, None, option_map, is_some, MatchBool}
+use Rattle.std.specs.Prelude.{if◌then◌else◌, [], ◌∷◌, ◌++◌, Result}
 use Rattle.std.specs.FinMap.{FinMap, empty, get, entries}
 use Rattle.std.specs.List.{filter_map, list_all, find}
 use Rattle.std.specs.Option.{option_and_then}
@@ -39,15 +16,8 @@ use Rattle.capi_rows.specs.declared.codes.TheConstants.{BAD_NAME, BAD_VALUE, NO_
 use Rattle.capi_rows.specs.declared.refusal.Refusal.{Refusal}
 use Rattle.ebpf_base.specs.Maps.{put_all, text_cmp}
 use Rattle.ebpf_model.specs.declared.symbol.Symbol.{Symbol}
-use Rattle.ebpf_object.specs.Patches.{
-  Global,
-  all_patched,
-  patches_of,
-  patches_fault,
-  symbol_indices,
-  symbol_named,
-  global_of,
-}
+use Rattle.ebpf_object.specs.Patches.{Global, all_patched, patches_of, patches_fault}
+use Rattle.ebpf_object.specs.Patches.{symbol_indices, symbol_named, global_of}
 use Rattle.ebpf_object.specs.declared.object.Object.{Object}
 use Rattle.ebpf_parts.specs.Maps.{bytes_of, section_index_of}
 use Rattle.ebpf_parts.specs.Memory.{is_parse_memory}

@@ -3,7 +3,6 @@
 ghost use Rattle.std.specs.Prelude.{◌≡◌, ◌∷◌, []};
 ghost use Rattle.std.specs.Option.{option_copied};
 ghost use Rattle.capi_rows.specs.Listings.{zero_terminated};
-ghost use Rattle.ebpf_parts.specs.Maps.{inner_of};
 ghost use Rattle.capi_rows.specs.MapRows.{map_row, pinning_number, section_kind_number, shape_if, shape_of, type_ids_of};
 ghost use Rattle.capi_rows.specs.Reads.{answer_row, map_named, program_named, row_after};
 
@@ -140,21 +139,11 @@ fn shape_if(types: &Option<Btf>, name: &str, map: Option<&Map>) -> ebpf_map_shap
     }
 }
 
-/// The map that a map of maps holds.
-fn inner_of(map: &Map) -> Option<Map>
-    ensures { result ≡ inner_of map.now }
-{
-    match map.inner() {
-        Ok(inner) => inner,
-        Err(_) => None,
-    }
-}
-
 /// The row of a map whose name begins at an offset of the text.
 pub fn map_row(types: &Option<Btf>, name: &str, map: &Map, name_at: usize) -> ebpf_map
     ensures { result ≡ map_row types.now name.now map.now name_at }
 {
-    let inner = inner_of(map);
+    let inner = map.inner_map();
     ebpf_map {
         name_at,
         name_len: name.len(),

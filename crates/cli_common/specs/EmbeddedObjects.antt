@@ -1,39 +1,14 @@
 -- eBPF objects in a file that holds them as data (ELF-64 gABI, 'ELF Header', 'Sections').
-use Rattle.std.specs.Prelude.{
-  ◌≡◌,
-  ℕ,
-  ◌+◌,
-  ◌*◌,
-  ◌<◌,
-  ◌≤◌,
-  Bool,
-  false,
-  IsTrue,
-  ◌&&◌,
-  ◌||◌,
-  List,
-  [],
-  ◌∷◌,
-  length,
-  drop,
-  nat_le,
-  nat_eq,
-  ◌==◌,
-  if◌then◌else◌,
-  slice_index,
-}
+use Rattle.std.specs.Prelude.{◌≡◌, ℕ, ◌+◌, ◌*◌, ◌<◌, ◌≤◌, Bool, false, IsTrue, ◌&&◌, ◌||◌, List, []}
+use Rattle.std.specs.Prelude.{◌∷◌, length, drop, nat_le, nat_eq, ◌==◌, if◌then◌else◌, slice_index}
 use Rattle.std.specs.List.{starts_with}
 use Rattle.ebpf_base.specs.Numbers.{number_at}
-use Rattle.ebpf_elf.specs.declared.constants.TheConstants.{
-  MAGIC,
-  ELFCLASS64,
-  ELFDATA2LSB,
-  ELFDATA2MSB,
-  SHT_NOBITS,
-}
+use Rattle.ebpf_elf.specs.declared.constants.TheConstants.{MAGIC, ELFCLASS64, ELFDATA2LSB}
+use Rattle.ebpf_elf.specs.declared.constants.TheConstants.{ELFDATA2MSB, SHT_NOBITS}
 use Rattle.ebpf_elf.specs.declared.header.SectionHeader.{SectionHeader}
 use Rattle.ebpf_elf.specs.Headers.{header_at, ei_data, e_shoff, e_shnum}
-use Rattle.cli_common.specs.declared.embedded.TheConstants.{ET_REL, EM_BPF}
+use Rattle.cli_common.specs.declared.embedded.TheConstants.{ET_REL}
+use Rattle.ebpf_elf.specs.declared.constants.TheConstants.{EM_BPF}
 use Rattle.cli_common.specs.declared.embedded.ObjectRange.{ObjectRange}
 
 -- bytes that begin with the header of an ELF64 file, whose e_type (at 16) is ET_REL and whose

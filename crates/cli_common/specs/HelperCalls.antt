@@ -1,18 +1,6 @@
 -- Maps from lists of entries, of which the first with a key stands.
-use Rattle.std.specs.Prelude.{
-  List,
-  fold,
-  if◌then◌else◌,
-  ℕ,
-  Bool,
-  false,
-  ◌&&◌,
-  ◌==◌,
-  [],
-  Option,
-  Some,
-  None,
-}
+use Rattle.std.specs.Prelude.{List, fold, if◌then◌else◌, ℕ, Bool, false, ◌&&◌, ◌==◌, [], Option}
+use Rattle.std.specs.Prelude.{Some, None}
 use Rattle.std.specs.FinMap.{FinMap, insert, contains_key}
 use Rattle.std.specs.declared.cmp.Ordering.{Ordering}
 use Rattle.std.specs.BTreeSet.{BTreeSet, insert_key}

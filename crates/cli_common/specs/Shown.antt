@@ -1,19 +1,6 @@
 -- Names from files as text shows them: none of them says anything to a terminal.
-use Rattle.std.specs.Prelude.{
-  ℕ,
-  ◌/◌,
-  ◌%◌,
-  Bool,
-  ◌||◌,
-  ◌&&◌,
-  nat_le,
-  nat_lt,
-  ◌==◌,
-  if◌then◌else◌,
-  List,
-  [],
-  ◌∷◌,
-}
+use Rattle.std.specs.Prelude.{ℕ, ◌/◌, ◌%◌, Bool, ◌||◌, ◌&&◌, nat_le, nat_lt, ◌==◌, if◌then◌else◌}
+use Rattle.std.specs.Prelude.{List, [], ◌∷◌}
 use Rattle.std.specs.Char.{digit_char, encode_utf8}
 use Rattle.std.specs.List.{flat_map}
 use Rattle.std.specs.Str.{chars}

@@ -1,18 +1,6 @@
 -- The lines of a program's slots, and of a program.
-use Rattle.std.specs.Prelude.{
-  ℕ,
-  ◌+◌,
-  ◌/◌,
-  ◌%◌,
-  nat_lt,
-  if◌then◌else◌,
-  List,
-  [],
-  ◌∷◌,
-  ◌++◌,
-  length,
-  codes,
-}
+use Rattle.std.specs.Prelude.{ℕ, ◌+◌, ◌/◌, ◌%◌, nat_lt, if◌then◌else◌, List, [], ◌∷◌, ◌++◌, length}
+use Rattle.std.specs.Prelude.{codes}
 use Rattle.std.specs.Fmt.{decimal}
 use Rattle.std.specs.List.{flat_map}
 use Rattle.ebpf_parts.specs.Slots.{slot_bytes}

@@ -6,14 +6,11 @@ ghost use Rattle.cli_common.specs.EmbeddedObjects.{is_object, IsEnd, section_dat
 
 use ebpf_base::Endianness;
 use ebpf_base::numbers::{read_u16, read_u32, read_u64};
-use ebpf_elf::constants::{ELFCLASS64, ELFDATA2LSB, ELFDATA2MSB, MAGIC, SHT_NOBITS};
+use ebpf_elf::constants::{ELFCLASS64, ELFDATA2LSB, ELFDATA2MSB, EM_BPF, MAGIC, SHT_NOBITS};
 use std::alloc::{AllocError, Global};
 
 /// e_type of a relocatable file.
 pub const ET_REL: u16 = 1;
-
-/// e_machine of eBPF.
-pub const EM_BPF: u16 = 247;
 
 /// The size of an ELF header, and of a section header.
 pub const HEADER_SIZE: usize = 64;

@@ -1,9 +1,6 @@
 //! The machines that ELF files are for (ELF-64 gABI, 'ELF Header': e_machine).
 
-use ebpf_elf::constants::{ELFDATA2MSB, MAGIC};
-
-/// e_machine of eBPF.
-const EM_BPF: u16 = 247;
+use ebpf_elf::constants::{ELFDATA2MSB, EM_BPF, MAGIC};
 
 /// e_machine of no machine, as clang wrote it of eBPF once.
 const EM_NONE: u16 = 0;

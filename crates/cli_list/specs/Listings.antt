@@ -1,26 +1,7 @@
 -- What `ebpf list` writes from: the object's tables, row by row, in their order. The maps are read
 -- of the object itself.
-use Rattle.std.specs.Prelude.{
-  ℕ,
-  Bool,
-  true,
-  false,
-  List,
-  map,
-  Option,
-  Some,
-  None,
-  slice_get,
-  ◌≡◌,
-  MatchBool,
-  ◌⊎◌,
-  ◌-◌,
-  ◌^◌,
-  min,
-  [],
-  ◌∷◌,
-  not,
-}
+use Rattle.std.specs.Prelude.{ℕ, Bool, true, false, List, map, Option, Some, None, slice_get, ◌≡◌}
+use Rattle.std.specs.Prelude.{MatchBool, ◌⊎◌, ◌-◌, ◌^◌, min, [], ◌∷◌, not}
 use Rattle.std.specs.FinMap.{entries, get, FinMap}
 use Rattle.std.specs.List.{AllZip, filter, list_any, enumerate_from}
 use Rattle.std.specs.Map.{keys_of}
@@ -33,12 +14,8 @@ use Rattle.ebpf_model.specs.declared.error.EbpfRelocationError.{EbpfRelocationEr
 use Rattle.ebpf_model.specs.declared.symbol.ExternDesc.{ExternDesc}
 use Rattle.ebpf_object.specs.WrittenSlots.{with_externs, externs_fault}
 use Rattle.ebpf_object.specs.declared.object.Object.{Object}
-use Rattle.cli_common.specs.ObjectPrograms.{
-  known_externs,
-  program_row,
-  program_rows,
-  object_settings,
-}
+use Rattle.cli_common.specs.ObjectPrograms.{known_externs, program_row, program_rows}
+use Rattle.cli_common.specs.ObjectPrograms.{object_settings}
 use Rattle.ebpf_linker.specs.LinkMap.{copied_slot_count}
 use Rattle.ebpf_model.specs.declared.function.Program.{Program}
 use Rattle.ebpf_object.specs.Headline.{linkable}

@@ -1,19 +1,6 @@
 -- How many CO-RE records of an object ask what of which type.
-use Rattle.std.specs.Prelude.{
-  ◌≡◌,
-  ℕ,
-  ◌-◌,
-  ◌^◌,
-  min,
-  count_by,
-  Bool,
-  List,
-  [],
-  Option,
-  Some,
-  None,
-  unwrap_or,
-}
+use Rattle.std.specs.Prelude.{◌≡◌, ℕ, ◌-◌, ◌^◌, min, count_by, Bool, List, [], Option, Some, None}
+use Rattle.std.specs.Prelude.{unwrap_or}
 use Rattle.std.specs.BTreeMap.{BTreeMap, get}
 use Rattle.std.specs.List.{flat_map}
 use Rattle.std.specs.Ordering.{eq_by_cmp, nat_cmp, ordering_then}

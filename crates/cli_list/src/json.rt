@@ -52,7 +52,7 @@ fn write_sizes<W: Write>(json: &mut JsonWriter<'_, W>, map: &Map) -> io::Result<
 
 /// Writes the map that a map holds, or `null`.
 fn write_inner<W: Write>(json: &mut JsonWriter<'_, W>, map: &Map) -> io::Result<()> {
-    match map.inner()? {
+    match map.inner_map() {
         Some(inner) => {
             json.key("inner")?;
             json.object(|json| write_sizes(json, &inner))

@@ -121,13 +121,8 @@ struct MapColumns {
     has_inner: bool,
 }
 
-/// Whether a map holds maps.
-fn holds_maps(map: &Map) -> Result<bool, AllocError> {
-    Ok(map.inner()?.is_some())
-}
-
 /// Which columns of maps something stands in.
-fn map_columns(listing: &ObjectListing<'_>) -> Result<MapColumns, AllocError> {
+fn map_columns(listing: &ObjectListing<'_>) -> MapColumns {
     let mut columns = MapColumns {
         has_pinned: false,
         has_inner: false,
@@ -136,11 +131,11 @@ fn map_columns(listing: &ObjectListing<'_>) -> Result<MapColumns, AllocError> {
         if map.pinning() != PinningType::None {
             columns.has_pinned = true;
         }
-        if holds_maps(map)? {
+        if map.inner_map().is_some() {
             columns.has_inner = true;
         }
     }
-    Ok(columns)
+    columns
 }
 
 /// The columns of maps: that of pinning and that of inner maps only where something stands in it.
@@ -164,7 +159,7 @@ fn map_heads(alloc: Global, columns: MapColumns) -> Result<Vec<Column>, AllocErr
 
 /// The type of the map that a map holds.
 fn push_inner(table: &mut Table<'_>, map: &Map) -> Result<(), AllocError> {
-    match map.inner()? {
+    match map.inner_map() {
         Some(inner) => table.push_map_type(inner.map_type()),
         None => table.push_text("-"),
     }
@@ -219,7 +214,7 @@ fn write_maps<W: Write>(
     out: &mut W,
     listing: &ObjectListing<'_>,
 ) -> Result<(), Stop> {
-    let columns = map_columns(listing)?;
+    let columns = map_columns(listing);
     let heads = map_heads(alloc, columns)?;
     let mut table = Table::new(alloc, &heads)?;
     for (name, map) in listing.object.maps.iter() {

@@ -1,28 +1,11 @@
 -- The words of the command line `NAME FILE [--btf FILE] [--kallsyms FILE] [--program NAME]`.
-use Rattle.std.specs.Prelude.{
-  ℕ,
-  Bool,
-  true,
-  false,
-  List,
-  [],
-  ◌∷◌,
-  Option,
-  Some,
-  None,
-  nat_eq,
-  if◌then◌else◌,
-  codes,
-}
+use Rattle.std.specs.Prelude.{ℕ, Bool, true, false, List, [], ◌∷◌, Option, Some, None, nat_eq}
+use Rattle.std.specs.Prelude.{if◌then◌else◌, codes}
 use Rattle.std.specs.List.{starts_with}
 use Rattle.std.specs.Str.{bytes_eq}
 use Rattle.cli_plain.specs.declared.arguments.ArgumentKind.{ArgumentKind}
-use Rattle.cli_plain.specs.declared.arguments.ArgumentKind.TheVariants.{
-  File,
-  Btf,
-  Kallsyms,
-  Program,
-}
+use Rattle.cli_plain.specs.declared.arguments.ArgumentKind.TheVariants.{File, Btf, Kallsyms}
+use Rattle.cli_plain.specs.declared.arguments.ArgumentKind.TheVariants.{Program}
 use Rattle.cli_plain.specs.declared.arguments.Words.{Words}
 use Rattle.cli_plain.specs.declared.arguments.WordsError.{WordsError}
 use Rattle.cli_plain.specs.declared.arguments.WordsError.TheVariants.{Usage, OutOfMemory}

@@ -1,21 +1,7 @@
 -- What a run with status 0 has done, and why a program of the command line prints nothing, or not
 -- all.
-use Rattle.std.specs.Prelude.{
-  ⊤,
-  ℕ,
-  List,
-  Option,
-  IsSome,
-  MatchOption,
-  ◌≡◌,
-  Some,
-  None,
-  Bool,
-  true,
-  false,
-  Ok,
-  Err,
-}
+use Rattle.std.specs.Prelude.{⊤, ℕ, List, Option, IsSome, MatchOption, ◌≡◌, Some, None, Bool, true}
+use Rattle.std.specs.Prelude.{false, Ok, Err}
 use Rattle.std.specs.FinMap.{get}
 use Rattle.std.specs.Io.KnownBytes.{Appends}
 use Rattle.ebpf_inspect.specs.declared.report.ProgramReport.{ProgramReport}
@@ -33,14 +19,8 @@ use Rattle.cli_plain.specs.Linked.{IsFileLinked, kernel_types}
 use Rattle.cli_plain.specs.Printed.{report_named, printed}
 use Rattle.ebpf_object.specs.LinkedPrograms.{function_of_named_program}
 use Rattle.cli_plain.specs.declared.failure.Failure.{Failure}
-use Rattle.cli_plain.specs.declared.failure.Failure.TheVariants.{
-  NoProgram,
-  CannotRead,
-  Btf,
-  Preparing,
-  CannotWrite,
-  Memory,
-}
+use Rattle.cli_plain.specs.declared.failure.Failure.TheVariants.{NoProgram, CannotRead, Btf}
+use Rattle.cli_plain.specs.declared.failure.Failure.TheVariants.{Preparing, CannotWrite, Memory}
 
 -- ---- what a run of `ebpf-link` with status 0 has done
 

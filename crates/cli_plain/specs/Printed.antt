@@ -1,23 +1,6 @@
 -- What `ebpf-link` prints of an object, and what `ebpf-inspect` prints of an object's programs.
-use Rattle.std.specs.Prelude.{
-  ℕ,
-  List,
-  [],
-  ◌∷◌,
-  ◌++◌,
-  Option,
-  Some,
-  None,
-  codes,
-  ◌≡◌,
-  ⊤,
-  Bool,
-  true,
-  false,
-  Ok,
-  IsSome,
-  MatchOption,
-}
+use Rattle.std.specs.Prelude.{ℕ, List, [], ◌∷◌, ◌++◌, Option, Some, None, codes, ◌≡◌, ⊤, Bool, true}
+use Rattle.std.specs.Prelude.{false, Ok, IsSome, MatchOption}
 use Rattle.std.specs.FinMap.{entries}
 use Rattle.std.specs.Fmt.{decimal, digits}
 use Rattle.std.specs.List.{flat_map, find}

@@ -1,8 +1,8 @@
 //! The kernel of a command line: its types, symbols, configuration and version.
 
 use crate::prepared::PrepareWords;
-use cli_common::kernel_types::read_kernel;
 use cli_common::refuse::{Stop, read_given, refused};
+use cli_common::vmlinux_btf::read_kernel;
 use ebpf_base::Text;
 use ebpf_btf::{Btf, Endianness};
 

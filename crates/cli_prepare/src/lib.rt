@@ -1,6 +1,8 @@
 //! An object, opened and prepared as the arguments of `ebpf link` and `ebpf inspect` ask.
 #![tactic(auto)]
 
+mod kconfig_help;
+mod kconfig_values;
 mod kernel;
 mod opened;
 mod pass_help;
@@ -8,8 +10,6 @@ mod passes;
 mod prepared;
 mod refusals;
 mod refused_slots;
-mod settings;
-mod settings_help;
 
 pub use kernel::{Kernel, version_number};
 pub use opened::{Opened, open_file};

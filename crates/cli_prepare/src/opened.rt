@@ -4,10 +4,10 @@ ghost use Rattle.std.specs.Prelude.{◌≡◌, [], IfOk, OnOk};
 ghost use Rattle.ebpf_kconfig.specs.KconfigExterns.{kconfig_externs};
 ghost use Rattle.cli_prepare.specs.Opened.{IsOpened};
 
+use crate::kconfig_help::refuse_settings;
+use crate::kconfig_values::define_settings;
 use crate::kernel::{Kernel, given_kernel};
 use crate::prepared::PrepareWords;
-use crate::settings::define_settings;
-use crate::settings_help::refuse_settings;
 use cli_common::object_file::{parsed_object, read_object};
 use cli_common::programs::ObjectProgram;
 use cli_common::refuse::{Stop, chosen_programs};

@@ -5,7 +5,7 @@ use Rattle.std.specs.Ordering.{eq_by_cmp}
 use Rattle.std.specs.Cmp.Lexicographic.{pointwise}
 use Rattle.std.specs.List.{AllByRecursion}
 use Rattle.std.specs.List.Sorted.{IsStrictlySortedBy}
-use Rattle.std.specs.Map.{lookup, keys_of, update}
+use Rattle.std.specs.Map.{lookup, keys_of, values_of, update}
 use Rattle.std.specs.BTreeMap.{is_at}
 use Rattle.std.specs.Str.{bytes_eq}
 use Rattle.std.specs.String.{string_bytes, string_cmp, string_eq}
@@ -44,6 +44,11 @@ module _ {X Y : Type 0} where
   pub length-by_bytes : (es : List (String Y × X)) → length (by_bytes es) ≡ length es
   length-by_bytes [] = refl
   length-by_bytes (e ∷ es) = ap suc (length-by_bytes es)
+
+  -- the values beside the names
+  pub values-by_bytes : (es : List (String Y × X)) → values_of es ≡ values_of (by_bytes es)
+  values-by_bytes [] = refl
+  values-by_bytes (e ∷ es) = ap (λ vs. e.1 ∷ vs) (values-by_bytes es)
 
   -- the names, as their bytes
   pub keys-by_bytes : (es : List (String Y × X)) → map string_bytes (keys_of es) ≡ keys_of (by_bytes es)

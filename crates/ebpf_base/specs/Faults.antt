@@ -1,25 +1,6 @@
 -- Faults in order, what a call may answer for want of memory, and what follows an answer.
-use Rattle.std.specs.Prelude.{
-  ◌≡◌,
-  Bool,
-  List,
-  [],
-  ◌∷◌,
-  ⊤,
-  Option,
-  Some,
-  None,
-  Result,
-  Ok,
-  Err,
-  MatchBool,
-  if◌then◌else◌,
-  ◌<◌,
-  ℕ,
-  true,
-  false,
-  slice_get,
-}
+use Rattle.std.specs.Prelude.{◌≡◌, Bool, List, [], ◌∷◌, ⊤, Option, Some, None, Result, Ok, Err}
+use Rattle.std.specs.Prelude.{MatchBool, if◌then◌else◌, ◌<◌, ℕ, true, false, slice_get}
 use Rattle.std.specs.List.{flat_map}
 
 -- a row of a table of faults: whether the fault stands, and its error

@@ -1,31 +1,10 @@
 -- Finite maps: the orders of their keys, their entries, copies and changes.
-use Rattle.std.specs.Prelude.{
-  ◌≡◌,
-  ℕ,
-  List,
-  map,
-  string_bytes,
-  Bool,
-  ◌&&◌,
-  nat_le,
-  fold,
-  Option,
-  Some,
-  if◌then◌else◌,
-}
+use Rattle.std.specs.Prelude.{◌≡◌, ℕ, List, map, string_bytes, Bool, ◌&&◌, nat_le, fold, Option}
+use Rattle.std.specs.Prelude.{Some, if◌then◌else◌}
 use Rattle.std.specs.declared.string.String.{String}
 use Rattle.std.specs.Ordering.{nat_cmp, ordering_then, eq_by_cmp}
-use Rattle.std.specs.Cmp.{
-  IsTotalOrder,
-  nat_cmp_total,
-  then_total,
-  on_total,
-  IsPartialEquivalence,
-  eq_by_cmp_equiv,
-  partial_equiv_from_equiv,
-  on_per,
-  and_per,
-}
+use Rattle.std.specs.Cmp.{IsTotalOrder, nat_cmp_total, then_total, on_total, IsPartialEquivalence}
+use Rattle.std.specs.Cmp.{eq_by_cmp_equiv, partial_equiv_from_equiv, on_per, and_per}
 use Rattle.std.specs.Cmp.Lexicographic.{slice_cmp, nat_list_cmp_total, pointwise, lists_per}
 use denote.Ref.{Bor, MutBor}
 use Rattle.std.specs.declared.cmp.Ordering.{Ordering}

@@ -7,7 +7,7 @@ ghost use Rattle.std.specs.Borrow.{LendsSo, sem};
 ghost use Rattle.std.specs.FinMap as map;
 ghost use Rattle.ebpf_base.specs.Maps.{AreCopies, maps_eq, maps_eq_laws, text_cmp, coded_text, by_bytes, lent_bytes, text_total};
 ghost use Rattle.std.specs.List.Sorted.{IsStrictlySortedBy};
-ghost use Rattle.std.specs.Map.{keys_of};
+ghost use Rattle.std.specs.Map.{keys_of, values_of};
 ghost use Rattle.ebpf_base.specs.contracts.by_name.ByName.{the_row};
 
 use std::alloc::{AllocError, Global};
@@ -110,6 +110,14 @@ impl<V> ByName<V> {
         ensures fits { length result < 2 ^ 63 }
     {
         self.entries.iter()
+    }
+
+    /// The values, in byte order of their names.
+    pub fn values(&self) -> btree_map::Values<'_, String, V>
+        ensures all { result ≡ values_of (map.entries self.now) }
+        ensures fits { length result < 2 ^ 63 }
+    {
+        self.entries.values()
     }
 
     /// Replaces the value at a name, which comes back. `Err` gives the value back

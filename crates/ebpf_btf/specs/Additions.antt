@@ -1,18 +1,6 @@
 -- What is added to types and strings, and taken back. Ids and offsets have 32 bits.
-use Rattle.std.specs.Prelude.{
-  ℕ,
-  ◌^◌,
-  List,
-  [],
-  ◌∷◌,
-  ◌++◌,
-  take,
-  Option,
-  Some,
-  None,
-  nat_lt,
-  if◌then◌else◌,
-}
+use Rattle.std.specs.Prelude.{ℕ, ◌^◌, List, [], ◌∷◌, ◌++◌, take, Option, Some, None, nat_lt}
+use Rattle.std.specs.Prelude.{if◌then◌else◌}
 use Rattle.ebpf_btf.specs.declared.error.BtfError.{BtfError}
 use Rattle.ebpf_btf.specs.declared.error.BtfError.TheVariants.{TooLarge}
 use Rattle.ebpf_btf.specs.declared.types.BtfType.{BtfType}

@@ -1,27 +1,8 @@
 -- The bytes of types (the kernel's Documentation/bpf/btf.rst, 2.2 "Type Encoding").
 -- A type is three words, that is numbers of four bytes: the offset of its name, its info, its size
 -- or another type. Then the words of its kind follow.
-use Rattle.std.specs.Prelude.{
-  ◌≡◌,
-  ℕ,
-  ◌+◌,
-  ◌*◌,
-  ◌/◌,
-  ◌%◌,
-  ◌^◌,
-  ◌≤◌,
-  Bool,
-  List,
-  [],
-  ◌∷◌,
-  length,
-  Option,
-  Some,
-  None,
-  ◌==◌,
-  if◌then◌else◌,
-  ◌<◌,
-}
+use Rattle.std.specs.Prelude.{◌≡◌, ℕ, ◌+◌, ◌*◌, ◌/◌, ◌%◌, ◌^◌, ◌≤◌, Bool, List, [], ◌∷◌, length}
+use Rattle.std.specs.Prelude.{Option, Some, None, ◌==◌, if◌then◌else◌, ◌<◌}
 use Rattle.ebpf_base.specs.declared.endianness.Endianness.{Endianness}
 use Rattle.ebpf_btf.specs.declared.kind.BtfKind.{BtfKind}
 use Rattle.ebpf_btf.specs.declared.kind.BtfKind.TheVariants as kinds
@@ -31,28 +12,11 @@ use Rattle.ebpf_btf.specs.declared.members.BtfEnum64.{BtfEnum64}
 use Rattle.ebpf_btf.specs.declared.members.BtfParam.{BtfParam}
 use Rattle.ebpf_btf.specs.declared.members.DataSecEntry.{DataSecEntry}
 use Rattle.ebpf_btf.specs.declared.types.BtfType.{BtfType}
-use Rattle.ebpf_btf.specs.declared.types.BtfType.TheVariants.{
-  Unknown,
-  Fwd,
-  Const,
-  Volatile,
-  Restrict,
-  Ptr,
-  Typedef,
-  Func,
-  Int,
-  Float,
-  Enum,
-  Array,
-  Struct,
-  Union,
-  FuncProto,
-  Var,
-  DataSec,
-  DeclTag,
-  TypeTag,
-  Enum64,
-}
+use Rattle.ebpf_btf.specs.declared.types.BtfType.TheVariants.{Unknown, Fwd, Const, Volatile}
+use Rattle.ebpf_btf.specs.declared.types.BtfType.TheVariants.{Restrict, Ptr, Typedef, Func, Int}
+use Rattle.ebpf_btf.specs.declared.types.BtfType.TheVariants.{Float, Enum, Array, Struct, Union}
+use Rattle.ebpf_btf.specs.declared.types.BtfType.TheVariants.{FuncProto, Var, DataSec, DeclTag}
+use Rattle.ebpf_btf.specs.declared.types.BtfType.TheVariants.{TypeTag, Enum64}
 use Rattle.ebpf_base.specs.Numbers.{number_at}
 use Rattle.ebpf_btf.specs.Items.{items_at}
 use Rattle.ebpf_btf.specs.Types.{kind_of, kind_number}

@@ -1,24 +1,6 @@
 -- Types by the offsets where they stand.
-use Rattle.std.specs.Prelude.{
-  ◌≡◌,
-  ◌≤◌,
-  ◌*◌,
-  ◌^◌,
-  ◌<◌,
-  ◌==◌,
-  ℕ,
-  List,
-  [],
-  ◌∷◌,
-  Option,
-  None,
-  Some,
-  map,
-  length,
-  drop,
-  option_map,
-  unwrap_or,
-}
+use Rattle.std.specs.Prelude.{◌≡◌, ◌≤◌, ◌*◌, ◌^◌, ◌<◌, ◌==◌, ℕ, List, [], ◌∷◌, Option, None, Some}
+use Rattle.std.specs.Prelude.{map, length, drop, option_map, unwrap_or}
 use Rattle.std.specs.List.{All, find}
 use Rattle.ebpf_base.specs.declared.endianness.Endianness.{Endianness}
 use Rattle.ebpf_btf.specs.declared.fallback.Enum64Fallback.{Enum64Fallback}

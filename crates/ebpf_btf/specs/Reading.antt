@@ -1,29 +1,8 @@
 -- What bytes give, and their first fault: the header of `.BTF` and its two parts (the kernel's
 -- Documentation/bpf/btf.rst, 2. "BTF Type and String Encoding"; struct btf_header).
-use Rattle.std.specs.Prelude.{
-  ◌≡◌,
-  ℕ,
-  zero,
-  suc,
-  ◌+◌,
-  ◌∷◌,
-  ◌++◌,
-  [],
-  List,
-  length,
-  Option,
-  Some,
-  None,
-  Result,
-  Ok,
-  Err,
-  option_map,
-  nat_lt,
-  not,
-  ◌==◌,
-  if◌then◌else◌,
-  slice_range,
-}
+use Rattle.std.specs.Prelude.{◌≡◌, ℕ, zero, suc, ◌+◌, ◌∷◌, ◌++◌, [], List, length, Option, Some}
+use Rattle.std.specs.Prelude.{None, Result, Ok, Err, option_map, nat_lt, not, ◌==◌, if◌then◌else◌}
+use Rattle.std.specs.Prelude.{slice_range}
 use Rattle.ebpf_base.specs.Faults.{first_of}
 use Rattle.ebpf_base.specs.declared.endianness.Endianness.{Endianness}
 use Rattle.ebpf_btf.specs.declared.error.BtfError.{BtfError}

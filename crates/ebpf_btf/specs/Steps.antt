@@ -1,40 +1,12 @@
 -- Modifiers, and sizes.
-use Rattle.std.specs.Prelude.{
-  ℕ,
-  ◌*◌,
-  ◌^◌,
-  zero,
-  suc,
-  List,
-  Option,
-  Some,
-  None,
-  Result,
-  Ok,
-  Err,
-  nat_lt,
-  slice_get,
-  if◌then◌else◌,
-}
+use Rattle.std.specs.Prelude.{ℕ, ◌*◌, ◌^◌, zero, suc, List, Option, Some, None, Result, Ok, Err}
+use Rattle.std.specs.Prelude.{nat_lt, slice_get, if◌then◌else◌}
 use Rattle.ebpf_btf.specs.declared.error.BtfError.{BtfError}
-use Rattle.ebpf_btf.specs.declared.error.BtfError.TheVariants.{
-  InvalidTypeInfo,
-  UnexpectedBtfType,
-  UnknownBtfType,
-  MaximumTypeDepth,
-}
+use Rattle.ebpf_btf.specs.declared.error.BtfError.TheVariants.{InvalidTypeInfo, UnexpectedBtfType}
+use Rattle.ebpf_btf.specs.declared.error.BtfError.TheVariants.{UnknownBtfType, MaximumTypeDepth}
 use Rattle.ebpf_btf.specs.declared.types.BtfType.{BtfType}
-use Rattle.ebpf_btf.specs.declared.types.BtfType.TheVariants.{
-  Const,
-  Volatile,
-  Restrict,
-  Ptr,
-  Typedef,
-  Func,
-  Array,
-  Var,
-  TypeTag,
-}
+use Rattle.ebpf_btf.specs.declared.types.BtfType.TheVariants.{Const, Volatile, Restrict, Ptr}
+use Rattle.ebpf_btf.specs.declared.types.BtfType.TheVariants.{Typedef, Func, Array, Var, TypeTag}
 use Rattle.ebpf_base.specs.Faults.{if_ok}
 use Rattle.ebpf_btf.specs.Next.{if_some}
 use Rattle.ebpf_btf.specs.Types.{size_word}

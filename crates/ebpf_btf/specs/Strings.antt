@@ -1,24 +1,6 @@
 -- Strings by their offsets (the kernel's Documentation/bpf/btf.rst, 2.1 "String Encoding").
-use Rattle.std.specs.Prelude.{
-  ◌≡◌,
-  ℕ,
-  Bool,
-  false,
-  List,
-  take,
-  drop,
-  Option,
-  Some,
-  None,
-  Result,
-  Ok,
-  Err,
-  option_map,
-  is_some,
-  nat_lt,
-  ◌==◌,
-  ◌&&◌,
-}
+use Rattle.std.specs.Prelude.{◌≡◌, ℕ, Bool, false, List, take, drop, Option, Some, None, Result, Ok}
+use Rattle.std.specs.Prelude.{Err, option_map, is_some, nat_lt, ◌==◌, ◌&&◌}
 use Rattle.std.specs.List.{position, position_from}
 use Rattle.std.specs.Str.{bytes_eq}
 use Rattle.std.specs.Str.Lossy.{utf8_lossy}

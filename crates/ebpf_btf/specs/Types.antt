@@ -1,45 +1,16 @@
 -- The words of types (the kernel's Documentation/bpf/btf.rst, 2.2 "Type Encoding").
-use Rattle.std.specs.Prelude.{
-  ℕ,
-  ◌/◌,
-  ◌%◌,
-  ◌^◌,
-  Bool,
-  false,
-  List,
-  Option,
-  Some,
-  None,
-  ◌==◌,
-  if◌then◌else◌,
-}
+use Rattle.std.specs.Prelude.{ℕ, ◌/◌, ◌%◌, ◌^◌, Bool, false, List, Option, Some, None, ◌==◌}
+use Rattle.std.specs.Prelude.{if◌then◌else◌}
 use Rattle.ebpf_btf.specs.declared.array.BtfArray.{BtfArray}
 use Rattle.ebpf_btf.specs.declared.kind.BtfKind.{BtfKind}
 use Rattle.ebpf_btf.specs.declared.kind.BtfKind.TheVariants as kinds
 use Rattle.ebpf_btf.specs.declared.members.BtfMember.{BtfMember}
 use Rattle.ebpf_btf.specs.declared.types.BtfType.{BtfType}
-use Rattle.ebpf_btf.specs.declared.types.BtfType.TheVariants.{
-  Unknown,
-  Fwd,
-  Const,
-  Volatile,
-  Restrict,
-  Ptr,
-  Typedef,
-  Func,
-  Int,
-  Float,
-  Enum,
-  Array,
-  Struct,
-  Union,
-  FuncProto,
-  Var,
-  DataSec,
-  DeclTag,
-  TypeTag,
-  Enum64,
-}
+use Rattle.ebpf_btf.specs.declared.types.BtfType.TheVariants.{Unknown, Fwd, Const, Volatile}
+use Rattle.ebpf_btf.specs.declared.types.BtfType.TheVariants.{Restrict, Ptr, Typedef, Func, Int}
+use Rattle.ebpf_btf.specs.declared.types.BtfType.TheVariants.{Float, Enum, Array, Struct, Union}
+use Rattle.ebpf_btf.specs.declared.types.BtfType.TheVariants.{FuncProto, Var, DataSec, DeclTag}
+use Rattle.ebpf_btf.specs.declared.types.BtfType.TheVariants.{TypeTag, Enum64}
 
 unfoldable pub kind_of : BtfType → BtfKind
 kind_of Unknown = kinds.Unknown

@@ -1,22 +1,8 @@
 -- The variants of enumerations in one form (the kernel's Documentation/bpf/btf.rst, 2.2.6
 -- BTF_KIND_ENUM and 2.2.19
 -- BTF_KIND_ENUM64). Values have 64 bits.
-use Rattle.std.specs.Prelude.{
-  ℕ,
-  ◌+◌,
-  ◌*◌,
-  ◌-◌,
-  ◌^◌,
-  Bool,
-  List,
-  map,
-  Option,
-  Some,
-  None,
-  nat_le,
-  ◌&&◌,
-  if◌then◌else◌,
-}
+use Rattle.std.specs.Prelude.{ℕ, ◌+◌, ◌*◌, ◌-◌, ◌^◌, Bool, List, map, Option, Some, None, nat_le}
+use Rattle.std.specs.Prelude.{◌&&◌, if◌then◌else◌}
 use Rattle.ebpf_btf.specs.declared.members.BtfEnum.{BtfEnum}
 use Rattle.ebpf_btf.specs.declared.members.BtfEnum64.{BtfEnum64}
 use Rattle.ebpf_btf.specs.declared.members.Enum64VariantFallback.{Enum64VariantFallback}

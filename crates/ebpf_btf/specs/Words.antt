@@ -1,27 +1,7 @@
 -- Types as words, in which they are written (the kernel's Documentation/bpf/btf.rst, 2.2 "Type
 -- Encoding").
-use Rattle.std.specs.Prelude.{
-  ℕ,
-  ◌+◌,
-  ◌*◌,
-  ◌^◌,
-  Bool,
-  false,
-  List,
-  [],
-  ◌∷◌,
-  length,
-  drop,
-  flat_map,
-  sum_by,
-  Option,
-  None,
-  is_some,
-  unwrap_or,
-  nat_le,
-  ◌==◌,
-  if◌then◌else◌,
-}
+use Rattle.std.specs.Prelude.{ℕ, ◌+◌, ◌*◌, ◌^◌, Bool, false, List, [], ◌∷◌, length, drop, flat_map}
+use Rattle.std.specs.Prelude.{sum_by, Option, None, is_some, unwrap_or, nat_le, ◌==◌, if◌then◌else◌}
 use Rattle.std.specs.List.{list_any}
 use Rattle.byteorder.specs.Endian.{little_bytes, big_bytes}
 use Rattle.ebpf_base.specs.Faults.{first_of}
@@ -36,19 +16,9 @@ use Rattle.ebpf_btf.specs.declared.members.BtfEnum64.{BtfEnum64}
 use Rattle.ebpf_btf.specs.declared.members.BtfParam.{BtfParam}
 use Rattle.ebpf_btf.specs.declared.members.DataSecEntry.{DataSecEntry}
 use Rattle.ebpf_btf.specs.declared.types.BtfType.{BtfType}
-use Rattle.ebpf_btf.specs.declared.types.BtfType.TheVariants.{
-  Fwd,
-  Int,
-  Enum,
-  Array,
-  Struct,
-  Union,
-  FuncProto,
-  Var,
-  DataSec,
-  DeclTag,
-  Enum64,
-}
+use Rattle.ebpf_btf.specs.declared.types.BtfType.TheVariants.{Fwd, Int, Enum, Array, Struct, Union}
+use Rattle.ebpf_btf.specs.declared.types.BtfType.TheVariants.{FuncProto, Var, DataSec, DeclTag}
+use Rattle.ebpf_btf.specs.declared.types.BtfType.TheVariants.{Enum64}
 use Rattle.ebpf_btf.specs.Format.{further_words}
 use Rattle.ebpf_btf.specs.TypeInfo.{TypeInfo}
 use Rattle.ebpf_btf.specs.Types.{kind_of, kind_number, name_off, size_word, type_word}

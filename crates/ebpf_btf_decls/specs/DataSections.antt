@@ -1,20 +1,7 @@
 -- The DATASECs of a name, and what their entries give: the sections that types speak of (the
 -- kernel's Documentation/bpf/btf.rst, 2.2.15 "BTF_KIND_DATASEC").
-use Rattle.std.specs.Prelude.{
-  ℕ,
-  Bool,
-  true,
-  false,
-  List,
-  [],
-  Option,
-  Some,
-  None,
-  Result,
-  Ok,
-  Err,
-  ◌∷◌,
-}
+use Rattle.std.specs.Prelude.{ℕ, Bool, true, false, List, [], Option, Some, None, Result, Ok, Err}
+use Rattle.std.specs.Prelude.{◌∷◌}
 use Rattle.ebpf_base.specs.Faults.{if_ok}
 use Rattle.ebpf_btf.specs.Next.{if_some}
 use Rattle.ebpf_btf.specs.Strings.{is_name_at}

@@ -2,27 +2,8 @@
 -- what stands in for the functions.
 use Rattle.std.specs.FinMap.{FinMap, empty}
 use Rattle.std.specs.List.{position, flat_map}
-use Rattle.std.specs.Prelude.{
-  ◌≡◌,
-  length,
-  take,
-  ℕ,
-  Bool,
-  false,
-  List,
-  Option,
-  None,
-  ◌==◌,
-  codes,
-  true,
-  ◌||◌,
-  not,
-  Some,
-  Result,
-  Ok,
-  Err,
-  if◌then◌else◌,
-}
+use Rattle.std.specs.Prelude.{◌≡◌, length, take, ℕ, Bool, false, List, Option, None, ◌==◌, codes}
+use Rattle.std.specs.Prelude.{true, ◌||◌, not, Some, Result, Ok, Err, if◌then◌else◌}
 use Rattle.ebpf_base.specs.Faults.{or_else, first_some, fault_of, if_ok}
 use Rattle.ebpf_btf.specs.Next.{if_some}
 use Rattle.ebpf_base.specs.Maps.{put_all, text_cmp}
@@ -36,18 +17,11 @@ use Rattle.ebpf_btf.specs.declared.error.BtfError.TheVariants.{InvalidDatasec, I
 use Rattle.ebpf_btf.specs.declared.members.DataSecEntry.{DataSecEntry}
 use Rattle.ebpf_btf.specs.declared.types.BtfType.{BtfType}
 use Rattle.ebpf_btf.specs.declared.types.BtfType.TheVariants.{Int, Var, Func}
-use Rattle.ebpf_btf_decls.specs.DataSections.{
-  given,
-  DatasecMatch,
-  datasec_match,
-  matched_entries,
-  datasec_match_fault,
-}
+use Rattle.ebpf_btf_decls.specs.DataSections.{given, DatasecMatch, datasec_match, matched_entries}
+use Rattle.ebpf_btf_decls.specs.DataSections.{datasec_match_fault}
 use Rattle.ebpf_btf_decls.specs.declared.externs.FunctionOrFault.{FunctionOrFault}
-use Rattle.ebpf_btf_decls.specs.declared.externs.FunctionOrFault.TheVariants.{
-  Function,
-  UnreadableType,
-}
+use Rattle.ebpf_btf_decls.specs.declared.externs.FunctionOrFault.TheVariants.{Function}
+use Rattle.ebpf_btf_decls.specs.declared.externs.FunctionOrFault.TheVariants.{UnreadableType}
 use Rattle.ebpf_model.specs.declared.symbol.ExternDesc.{ExternDesc}
 
 -- ---- what contracts of private functions name and no public one

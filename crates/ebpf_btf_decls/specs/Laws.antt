@@ -4,14 +4,8 @@ use Rattle.ebpf_base.specs.Faults.{fault_of}
 use Rattle.ebpf_btf.specs.Strings.{text_at}
 use Rattle.ebpf_btf.specs.TypeInfo.{TypeInfo}
 use Rattle.ebpf_btf.specs.declared.members.BtfMember.{BtfMember}
-use Rattle.ebpf_btf_decls.specs.Maps.{
-  member_value,
-  definitions,
-  inner_member_value,
-  inner_definition,
-  btf_maps,
-  btf_maps_fault,
-}
+use Rattle.ebpf_btf_decls.specs.Maps.{member_value, definitions, inner_member_value}
+use Rattle.ebpf_btf_decls.specs.Maps.{inner_definition, btf_maps, btf_maps_fault}
 use Rattle.ebpf_parts.specs.declared.parse_mode.ParseMode.{ParseMode}
 use Rattle.ebpf_parts.specs.declared.parse_mode.ParseMode.TheVariants.{Strict, Lenient}
 

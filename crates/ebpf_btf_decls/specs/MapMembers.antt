@@ -1,29 +1,8 @@
 -- The members of a struct that declares a map (libbpf's "BTF-defined maps"), and the definition
 -- that they make.
-use Rattle.std.specs.Prelude.{
-  ℕ,
-  ◌+◌,
-  ◌*◌,
-  ◌^◌,
-  Bool,
-  true,
-  false,
-  List,
-  [],
-  ◌∷◌,
-  Option,
-  Some,
-  None,
-  Result,
-  Ok,
-  Err,
-  ◌==◌,
-  nat_lt,
-  unwrap_or,
-  slice_get,
-  codes,
-  if◌then◌else◌,
-}
+use Rattle.std.specs.Prelude.{ℕ, ◌+◌, ◌*◌, ◌^◌, Bool, true, false, List, [], ◌∷◌, Option, Some}
+use Rattle.std.specs.Prelude.{None, Result, Ok, Err, ◌==◌, nat_lt, unwrap_or, slice_get, codes}
+use Rattle.std.specs.Prelude.{if◌then◌else◌}
 use Rattle.std.specs.Str.{bytes_eq}
 use Rattle.ebpf_base.specs.Faults.{first_of, or_else, if_ok}
 use Rattle.ebpf_btf.specs.Next.{if_some}
@@ -39,24 +18,13 @@ use Rattle.ebpf_btf_decls.specs.declared.members.MapDefinitions.{MapDefinitions}
 use Rattle.ebpf_btf_decls.specs.declared.members.MapMember.{MapMember}
 use Rattle.ebpf_btf_decls.specs.declared.members.MapMember.TheVariants as about
 use Rattle.ebpf_btf_decls.specs.declared.members.MapNumber.{MapNumber}
-use Rattle.ebpf_btf_decls.specs.declared.members.MapNumber.TheVariants.{
-  MapType,
-  KeySize,
-  ValueSize,
-  MaxEntries,
-  MapFlags,
-  MapExtra,
-}
+use Rattle.ebpf_btf_decls.specs.declared.members.MapNumber.TheVariants.{MapType, KeySize, ValueSize}
+use Rattle.ebpf_btf_decls.specs.declared.members.MapNumber.TheVariants.{MaxEntries, MapFlags}
+use Rattle.ebpf_btf_decls.specs.declared.members.MapNumber.TheVariants.{MapExtra}
 use Rattle.ebpf_btf_decls.specs.declared.members.MemberValue.{MemberValue}
-use Rattle.ebpf_btf_decls.specs.declared.members.MemberValue.TheVariants.{
-  Number,
-  Pinning,
-  Key,
-  Value,
-  Values,
-  Programs,
-  Extra,
-}
+use Rattle.ebpf_btf_decls.specs.declared.members.MemberValue.TheVariants.{Number, Pinning, Key}
+use Rattle.ebpf_btf_decls.specs.declared.members.MemberValue.TheVariants.{Value, Values, Programs}
+use Rattle.ebpf_btf_decls.specs.declared.members.MemberValue.TheVariants.{Extra}
 use Rattle.ebpf_parts.specs.declared.maps.definition.BtfMapDef.{BtfMapDef}
 use Rattle.ebpf_parts.specs.declared.maps.definition.PinningType.{PinningType}
 use Rattle.ebpf_parts.specs.declared.maps.definition.PinningType.TheVariants as pinned

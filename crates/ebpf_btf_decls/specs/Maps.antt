@@ -1,55 +1,24 @@
 -- BTF-defined maps (libbpf's word): those of the DATASECs of a section as `.maps`.
 use Rattle.std.specs.List.{flat_map}
-use Rattle.std.specs.Prelude.{
-  Option,
-  option_map,
-  ℕ,
-  Bool,
-  false,
-  List,
-  [],
-  Some,
-  None,
-  Result,
-  Ok,
-  Err,
-  ◌==◌,
-  if◌then◌else◌,
-}
+use Rattle.std.specs.Prelude.{Option, option_map, ℕ, Bool, false, List, [], Some, None, Result, Ok}
+use Rattle.std.specs.Prelude.{Err, ◌==◌, if◌then◌else◌}
 use Rattle.ebpf_base.specs.Faults.{first_some, fault_of, if_ok}
 use Rattle.ebpf_btf.specs.Next.{if_some}
 use Rattle.ebpf_btf.specs.Steps.{type_at, resolved}
 use Rattle.ebpf_btf.specs.Strings.{type_name}
 use Rattle.ebpf_btf.specs.TypeInfo.{TypeInfo}
 use Rattle.ebpf_btf.specs.declared.error.BtfError.{BtfError}
-use Rattle.ebpf_btf.specs.declared.error.BtfError.TheVariants.{
-  InnerMapCannotBePinned,
-  MultiLevelMapInMapNotSupported,
-}
+use Rattle.ebpf_btf.specs.declared.error.BtfError.TheVariants.{InnerMapCannotBePinned}
+use Rattle.ebpf_btf.specs.declared.error.BtfError.TheVariants.{MultiLevelMapInMapNotSupported}
 use Rattle.ebpf_btf.specs.declared.members.BtfMember.{BtfMember}
 use Rattle.ebpf_btf.specs.declared.members.DataSecEntry.{DataSecEntry}
 use Rattle.ebpf_btf.specs.declared.types.BtfType.{BtfType}
 use Rattle.ebpf_btf.specs.declared.types.BtfType.TheVariants.{Var}
-use Rattle.ebpf_btf_decls.specs.DataSections.{
-  given,
-  all_given,
-  DatasecMatch,
-  Named,
-  UnreadableName,
-  datasec_match,
-}
-use Rattle.ebpf_btf_decls.specs.MapMembers.{
-  unexpected_type,
-  number,
-  sized_type,
-  own_number,
-  is_prototype_at,
-  members_at,
-  inner_map_struct,
-  map_member_at,
-  no_definitions,
-  with_all,
-}
+use Rattle.ebpf_btf_decls.specs.DataSections.{given, all_given, DatasecMatch, Named, UnreadableName}
+use Rattle.ebpf_btf_decls.specs.DataSections.{datasec_match}
+use Rattle.ebpf_btf_decls.specs.MapMembers.{unexpected_type, number, sized_type, own_number}
+use Rattle.ebpf_btf_decls.specs.MapMembers.{is_prototype_at, members_at, inner_map_struct}
+use Rattle.ebpf_btf_decls.specs.MapMembers.{map_member_at, no_definitions, with_all}
 use Rattle.ebpf_btf_decls.specs.declared.members.MapDefinitions.{MapDefinitions}
 use Rattle.ebpf_btf_decls.specs.declared.members.MapMember.{MapMember}
 use Rattle.ebpf_btf_decls.specs.declared.members.MapMember.TheVariants as about

@@ -5,27 +5,8 @@ use Rattle.std.specs.Bool.{MatchBool}
 use Rattle.std.specs.FinMap.{FinMap, get, insert}
 use Rattle.std.specs.List.{zip, flat_map}
 use Rattle.std.specs.Ordering.{nat_cmp}
-use Rattle.std.specs.Prelude.{
-  ◌≡◌,
-  ℕ,
-  List,
-  Result,
-  Ok,
-  Some,
-  zero,
-  suc,
-  [],
-  ◌∷◌,
-  length,
-  Option,
-  slice_get,
-  ◌≤◌,
-  ◌++◌,
-  Bool,
-  true,
-  None,
-  is_some,
-}
+use Rattle.std.specs.Prelude.{◌≡◌, ℕ, List, Result, Ok, Some, zero, suc, [], ◌∷◌, length, Option}
+use Rattle.std.specs.Prelude.{slice_get, ◌≤◌, ◌++◌, Bool, true, None, is_some}
 use Rattle.ebpf_base.specs.Faults.{first_some, or_else, fault_of}
 use Rattle.ebpf_btf.specs.Next.{if_some}
 use Rattle.ebpf_base.specs.Maps.{last_at, put_all, text_cmp}
@@ -36,21 +17,10 @@ use Rattle.ebpf_btf.specs.declared.error.BtfError.{BtfError}
 use Rattle.ebpf_btf.specs.declared.error.BtfError.TheVariants.{InvalidStringOffset}
 use Rattle.ebpf_btf.specs.declared.members.DataSecEntry.{DataSecEntry}
 use Rattle.ebpf_btf.specs.declared.types.BtfType.{BtfType}
-use Rattle.ebpf_btf_decls.specs.DataSections.{
-  datasec_match,
-  datasec_entries,
-  matched_entries,
-  given,
-}
-use Rattle.ebpf_btf_decls.specs.Maps.{
-  inner_struct_definition,
-  struct_definitions,
-  entries_maps,
-  entries_fault,
-  btf_maps,
-  btf_maps_fault,
-  map_with_symbol,
-}
+use Rattle.ebpf_btf_decls.specs.DataSections.{datasec_match, datasec_entries, matched_entries}
+use Rattle.ebpf_btf_decls.specs.DataSections.{given}
+use Rattle.ebpf_btf_decls.specs.Maps.{inner_struct_definition, struct_definitions, entries_maps}
+use Rattle.ebpf_btf_decls.specs.Maps.{entries_fault, btf_maps, btf_maps_fault, map_with_symbol}
 use Rattle.ebpf_btf_decls.specs.declared.data_sections.NamedSections.{NamedSections}
 use Rattle.ebpf_btf_decls.specs.declared.distinct_maps.DistinctMaps.{DistinctMaps}
 use Rattle.ebpf_btf_decls.specs.declared.known_structs.KnownStructs.{KnownStructs}

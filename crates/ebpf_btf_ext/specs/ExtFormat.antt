@@ -1,37 +1,15 @@
 -- The bytes of `.BTF.ext` (the kernel's Documentation/bpf/btf.rst, 4.2 ".BTF.ext section"; struct
 -- btf_ext_header, struct btf_ext_info_sec, and in include/uapi/linux/bpf.h struct bpf_core_relo).
-use Rattle.std.specs.Prelude.{
-  ℕ,
-  ◌+◌,
-  ◌*◌,
-  ◌/◌,
-  List,
-  [],
-  ◌∷◌,
-  map,
-  length,
-  Option,
-  None,
-  Result,
-  Ok,
-  Err,
-  nat_lt,
-  not,
-  ◌&&◌,
-  ◌==◌,
-  if◌then◌else◌,
-}
+use Rattle.std.specs.Prelude.{ℕ, ◌+◌, ◌*◌, ◌/◌, List, [], ◌∷◌, map, length, Option, None, Result}
+use Rattle.std.specs.Prelude.{Ok, Err, nat_lt, not, ◌&&◌, ◌==◌, if◌then◌else◌}
 use Rattle.std.specs.List.{range_with_len}
 use Rattle.ebpf_base.specs.Faults.{first_of, if_ok}
 use Rattle.ebpf_btf.specs.Next.{if_some}
 use Rattle.ebpf_base.specs.declared.endianness.Endianness.{Endianness}
 use Rattle.ebpf_base.specs.declared.endianness.Endianness.TheVariants.{Little}
 use Rattle.ebpf_btf.specs.declared.error.BtfError.{BtfError}
-use Rattle.ebpf_btf.specs.declared.error.BtfError.TheVariants.{
-  InvalidHeader,
-  InvalidInfo,
-  InvalidRelocationKind,
-}
+use Rattle.ebpf_btf.specs.declared.error.BtfError.TheVariants.{InvalidHeader, InvalidInfo}
+use Rattle.ebpf_btf.specs.declared.error.BtfError.TheVariants.{InvalidRelocationKind}
 use Rattle.ebpf_btf_ext.specs.declared.ext_infos.bpf_func_info.{bpf_func_info}
 use Rattle.ebpf_btf_ext.specs.declared.ext_infos.bpf_line_info.{bpf_line_info}
 use Rattle.ebpf_btf_ext.specs.declared.ext_infos.FuncSecInfo.{FuncSecInfo}

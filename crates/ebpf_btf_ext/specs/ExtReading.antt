@@ -1,22 +1,6 @@
 -- Func info and line info of `.BTF.ext`, by the names of sections.
-use Rattle.std.specs.Prelude.{
-  ℕ,
-  List,
-  [],
-  unwrap_or,
-  zero,
-  suc,
-  ◌+◌,
-  ◌-◌,
-  ◌∷◌,
-  Result,
-  Ok,
-  Err,
-  ◌==◌,
-  if◌then◌else◌,
-  ◌≡◌,
-  None,
-}
+use Rattle.std.specs.Prelude.{ℕ, List, [], unwrap_or, zero, suc, ◌+◌, ◌-◌, ◌∷◌, Result, Ok, Err}
+use Rattle.std.specs.Prelude.{◌==◌, if◌then◌else◌, ◌≡◌, None}
 use Rattle.std.specs.FinMap.{FinMap, get, empty}
 use Rattle.ebpf_base.specs.Maps.{put_all, text_cmp}
 use Rattle.ebpf_base.specs.Faults.{if_ok}
@@ -25,23 +9,10 @@ use Rattle.ebpf_base.specs.declared.endianness.Endianness.{Endianness}
 use Rattle.ebpf_btf.specs.Strings.{text_at}
 use Rattle.ebpf_btf.specs.declared.error.BtfError.{BtfError}
 use Rattle.ebpf_btf.specs.declared.error.BtfError.TheVariants.{InvalidInfo}
-use Rattle.ebpf_btf_ext.specs.ExtFormat.{
-  ext_header_fault,
-  func_part,
-  line_part,
-  core_relo_part,
-  part_fault,
-  record_size,
-  sections_start,
-  sections_end,
-  sec_name_off_at,
-  num_info_at,
-  section_end,
-  info_sec_fault,
-  func_infos,
-  line_infos,
-  core_relos_at,
-}
+use Rattle.ebpf_btf_ext.specs.ExtFormat.{ext_header_fault, func_part, line_part, core_relo_part}
+use Rattle.ebpf_btf_ext.specs.ExtFormat.{part_fault, record_size, sections_start, sections_end}
+use Rattle.ebpf_btf_ext.specs.ExtFormat.{sec_name_off_at, num_info_at, section_end, info_sec_fault}
+use Rattle.ebpf_btf_ext.specs.ExtFormat.{func_infos, line_infos, core_relos_at}
 use Rattle.ebpf_btf_ext.specs.declared.ext_infos.FuncSecInfo.{FuncSecInfo}
 use Rattle.ebpf_btf_ext.specs.declared.ext_infos.LineSecInfo.{LineSecInfo}
 use Rattle.ebpf_btf_ext.specs.declared.relocation.Relocation.{Relocation}

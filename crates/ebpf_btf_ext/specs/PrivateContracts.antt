@@ -1,23 +1,6 @@
 -- What contracts of private functions name and no public one.
-use Rattle.std.specs.Prelude.{
-  ◌+◌,
-  List,
-  ◌++◌,
-  Result,
-  Ok,
-  ◌≡◌,
-  ◌≤◌,
-  ℕ,
-  length,
-  ⊤,
-  Option,
-  Some,
-  None,
-  Err,
-  option_map,
-  slice_get,
-  if◌then◌else◌,
-}
+use Rattle.std.specs.Prelude.{◌+◌, List, ◌++◌, Result, Ok, ◌≡◌, ◌≤◌, ℕ, length, ⊤, Option, Some}
+use Rattle.std.specs.Prelude.{None, Err, option_map, slice_get, if◌then◌else◌}
 use Rattle.ebpf_btf.specs.declared.error.BtfError.{BtfError}
 use Rattle.ebpf_base.specs.Faults.{if_ok}
 use Rattle.ebpf_btf.specs.Next.{if_some}

@@ -2,20 +2,17 @@
 -- bpf_core_relo_kind).
 use Rattle.std.specs.Prelude.{◌≡◌, ℕ, Option, Some, None, ◌==◌, if◌then◌else◌}
 use Rattle.ebpf_btf_ext.specs.declared.relocation.RelocationKind.{RelocationKind}
-use Rattle.ebpf_btf_ext.specs.declared.relocation.RelocationKind.TheVariants.{
-  FieldByteOffset,
-  FieldByteSize,
-  FieldExists,
-  FieldSigned,
-  FieldLShift64,
-  FieldRShift64,
-  TypeIdLocal,
-  TypeIdTarget,
-  TypeExists,
-  TypeSize,
-  EnumVariantExists,
-  EnumVariantValue,
-}
+use Rattle.ebpf_btf_ext.specs.declared.relocation.RelocationKind.TheVariants.{FieldByteOffset}
+use Rattle.ebpf_btf_ext.specs.declared.relocation.RelocationKind.TheVariants.{FieldByteSize}
+use Rattle.ebpf_btf_ext.specs.declared.relocation.RelocationKind.TheVariants.{FieldExists}
+use Rattle.ebpf_btf_ext.specs.declared.relocation.RelocationKind.TheVariants.{FieldSigned}
+use Rattle.ebpf_btf_ext.specs.declared.relocation.RelocationKind.TheVariants.{FieldLShift64}
+use Rattle.ebpf_btf_ext.specs.declared.relocation.RelocationKind.TheVariants.{FieldRShift64}
+use Rattle.ebpf_btf_ext.specs.declared.relocation.RelocationKind.TheVariants.{TypeIdLocal}
+use Rattle.ebpf_btf_ext.specs.declared.relocation.RelocationKind.TheVariants.{TypeIdTarget}
+use Rattle.ebpf_btf_ext.specs.declared.relocation.RelocationKind.TheVariants.{TypeExists, TypeSize}
+use Rattle.ebpf_btf_ext.specs.declared.relocation.RelocationKind.TheVariants.{EnumVariantExists}
+use Rattle.ebpf_btf_ext.specs.declared.relocation.RelocationKind.TheVariants.{EnumVariantValue}
 
 unfoldable pub relocation_kind_number : RelocationKind → ℕ
 relocation_kind_number FieldByteOffset = 0

@@ -1,42 +1,9 @@
 -- The types of an object as the kernel takes them: the words that are written among their bytes,
 -- and the types that come of it.
-use Rattle.std.specs.Prelude.{
-  ℕ,
-  ◌+◌,
-  nat_lt,
-  List,
-  [],
-  ◌∷◌,
-  ◌++◌,
-  length,
-  codes,
-  Option,
-  None,
-  Result,
-  Ok,
-  Err,
-  if◌then◌else◌,
-  nat_le,
-  take,
-  drop,
-  fold,
-  Bool,
-  true,
-  false,
-  ◌||◌,
-  Some,
-  option_map,
-  zero,
-  suc,
-  ◌*◌,
-  not,
-  ◌&&◌,
-  ◌==◌,
-  map,
-  slice_get,
-  ◌≡◌,
-  ◌<◌,
-}
+use Rattle.std.specs.Prelude.{ℕ, ◌+◌, nat_lt, List, [], ◌∷◌, ◌++◌, length, codes, Option, None}
+use Rattle.std.specs.Prelude.{Result, Ok, Err, if◌then◌else◌, nat_le, take, drop, fold, Bool, true}
+use Rattle.std.specs.Prelude.{false, ◌||◌, Some, option_map, zero, suc, ◌*◌, not, ◌&&◌, ◌==◌, map}
+use Rattle.std.specs.Prelude.{slice_get, ◌≡◌, ◌<◌}
 use Rattle.std.specs.List.{find, flat_map, All}
 use Rattle.std.specs.Option.{option_map_or}
 use Rattle.ebpf_base.specs.Faults.{fault_of, or_else, first_of, first_in, if_ok}
@@ -55,45 +22,18 @@ use Rattle.ebpf_elf.specs.Names.{is_name}
 use Rattle.ebpf_elf.specs.Sections.{SectionOf, data_faults, data_of, section_name, sections}
 use Rattle.ebpf_btf.specs.declared.members.BtfParam.{BtfParam}
 use Rattle.ebpf_btf.specs.declared.error.BtfError as btf_errors
-use Rattle.ebpf_btf_load.specs.SectionWords.{
-  data_words,
-  kconfig_words,
-  full_size,
-  placed_rows,
-  in_offset_order,
-  extern_places,
-  rooms_end,
-  kconfig_rows,
-  rooms_in,
-}
-use Rattle.ebpf_btf_load.specs.KsymsSections.{
-  hidden_words,
-  ksyms_words,
-  all_strings,
-  standin_bytes,
-  standins_or_fault,
-  linkage_by,
-  linkage_in,
-  linkages_of,
-  ksyms_rows,
-  first_int,
-  standins_with,
-}
-use Rattle.ebpf_btf_load.specs.TypeSources.{
-  symbol_table_bytes,
-  TypeSources,
-  list_or_none,
-  if_no_fault,
-  type_starts,
-}
+use Rattle.ebpf_btf_load.specs.SectionWords.{data_words, kconfig_words, full_size, placed_rows}
+use Rattle.ebpf_btf_load.specs.SectionWords.{in_offset_order, extern_places, rooms_end}
+use Rattle.ebpf_btf_load.specs.SectionWords.{kconfig_rows, rooms_in}
+use Rattle.ebpf_btf_load.specs.KsymsSections.{hidden_words, ksyms_words, all_strings, standin_bytes}
+use Rattle.ebpf_btf_load.specs.KsymsSections.{standins_or_fault, linkage_by, linkage_in}
+use Rattle.ebpf_btf_load.specs.KsymsSections.{linkages_of, ksyms_rows, first_int, standins_with}
+use Rattle.ebpf_btf_load.specs.TypeSources.{symbol_table_bytes, TypeSources, list_or_none}
+use Rattle.ebpf_btf_load.specs.TypeSources.{if_no_fault, type_starts}
 use Rattle.ebpf_btf_load.specs.declared.ksyms.Standins.{Standins}
 use Rattle.ebpf_btf_load.specs.declared.error.KernelTypesError.{KernelTypesError}
-use Rattle.ebpf_btf_load.specs.declared.error.KernelTypesError.TheVariants.{
-  TooLarge,
-  OutOfMemory,
-  BtfError,
-  ElfError,
-}
+use Rattle.ebpf_btf_load.specs.declared.error.KernelTypesError.TheVariants.{TooLarge, OutOfMemory}
+use Rattle.ebpf_btf_load.specs.declared.error.KernelTypesError.TheVariants.{BtfError, ElfError}
 use Rattle.ebpf_btf_load.specs.declared.words.WrittenWord.{WrittenWord}
 use Rattle.ebpf_btf_load.specs.declared.data_sections.PlacedRow.{PlacedRow}
 

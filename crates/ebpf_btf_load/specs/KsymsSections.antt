@@ -1,37 +1,8 @@
 -- What `.ksyms` names, and functions: the INT and the VAR that stand in, the words of the section,
 -- hidden functions, linkages.
-use Rattle.std.specs.Prelude.{
-  ℕ,
-  ◌+◌,
-  nat_lt,
-  Bool,
-  false,
-  true,
-  not,
-  ◌&&◌,
-  ◌||◌,
-  ◌==◌,
-  List,
-  [],
-  ◌∷◌,
-  ◌++◌,
-  length,
-  codes,
-  Option,
-  Some,
-  None,
-  Result,
-  Ok,
-  Err,
-  slice_get,
-  if◌then◌else◌,
-  ◌*◌,
-  ◌%◌,
-  ◌^◌,
-  nat_le,
-  option_map,
-  fold,
-}
+use Rattle.std.specs.Prelude.{ℕ, ◌+◌, nat_lt, Bool, false, true, not, ◌&&◌, ◌||◌, ◌==◌, List, []}
+use Rattle.std.specs.Prelude.{◌∷◌, ◌++◌, length, codes, Option, Some, None, Result, Ok, Err}
+use Rattle.std.specs.Prelude.{slice_get, if◌then◌else◌, ◌*◌, ◌%◌, ◌^◌, nat_le, option_map, fold}
 use Rattle.std.specs.List.{flat_map, list_any, position_from, find}
 use Rattle.std.specs.Option.{option_to_list}
 use Rattle.ebpf_base.specs.Faults.{first_some, fault_of, if_ok}
@@ -49,17 +20,9 @@ use Rattle.ebpf_elf.specs.Names.{is_name}
 use Rattle.ebpf_elf.specs.Sections.{sections, section_name}
 use Rattle.ebpf_elf.specs.Symbols.{SymbolOf, entry, symbols, symbol_section_index}
 use Rattle.ebpf_btf_load.specs.SectionWords.{section_words}
-use Rattle.ebpf_btf_load.specs.TypeSources.{
-  start_of,
-  TypeSources,
-  list_or_none,
-  place_in,
-  if_no_fault,
-  has_btf_name,
-  is_function_symbol,
-  is_hidden,
-  type_starts,
-}
+use Rattle.ebpf_btf_load.specs.TypeSources.{start_of, TypeSources, list_or_none, place_in}
+use Rattle.ebpf_btf_load.specs.TypeSources.{if_no_fault, has_btf_name, is_function_symbol}
+use Rattle.ebpf_btf_load.specs.TypeSources.{is_hidden, type_starts}
 use Rattle.ebpf_btf_load.specs.declared.ksyms.Standins.{Standins}
 use Rattle.ebpf_btf_load.specs.declared.error.KernelTypesError.{KernelTypesError}
 use Rattle.ebpf_btf_load.specs.declared.error.KernelTypesError.TheVariants.{TooLarge, NotAVariable}

@@ -1,34 +1,8 @@
 -- What the words of sections are found from, where types stand among bytes, and symbols by binding,
 -- type and visibility (ELF-64 gABI, 'Symbol Table': st_info, st_other).
-use Rattle.std.specs.Prelude.{
-  ℕ,
-  nat_le,
-  List,
-  [],
-  ◌∷◌,
-  length,
-  slice_get,
-  unwrap_or,
-  if◌then◌else◌,
-  ◌+◌,
-  Option,
-  Some,
-  None,
-  Result,
-  Ok,
-  Err,
-  ◌*◌,
-  ◌/◌,
-  ◌%◌,
-  Bool,
-  false,
-  ◌&&◌,
-  ◌||◌,
-  ◌==◌,
-  nat_lt,
-  slice_index,
-  is_none,
-}
+use Rattle.std.specs.Prelude.{ℕ, nat_le, List, [], ◌∷◌, length, slice_get, unwrap_or, if◌then◌else◌}
+use Rattle.std.specs.Prelude.{◌+◌, Option, Some, None, Result, Ok, Err, ◌*◌, ◌/◌, ◌%◌, Bool, false}
+use Rattle.std.specs.Prelude.{◌&&◌, ◌||◌, ◌==◌, nat_lt, slice_index, is_none}
 use Rattle.std.specs.List.{find}
 use Rattle.std.specs.Option.{option_map_or}
 use Rattle.ebpf_base.specs.declared.endianness.Endianness.{Endianness}

@@ -1,24 +1,6 @@
 -- Answers, and how they are stated: an error without the texts in it that are for people to read.
-use Rattle.std.specs.Prelude.{
-  ◌≡◌,
-  ℕ,
-  ◌<◌,
-  true,
-  List,
-  [],
-  ◌∷◌,
-  ⊤,
-  MatchBool,
-  Some,
-  Result,
-  Ok,
-  Err,
-  is_ok,
-  slice_get,
-  if◌then◌else◌,
-  Bool,
-  false,
-}
+use Rattle.std.specs.Prelude.{◌≡◌, ℕ, ◌<◌, true, List, [], ◌∷◌, ⊤, MatchBool, Some, Result, Ok, Err}
+use Rattle.std.specs.Prelude.{is_ok, slice_get, if◌then◌else◌, Bool, false}
 use Rattle.ebpf_base.specs.Faults.{if_ok}
 use Rattle.ebpf_btf.specs.declared.error.BtfError.{BtfError}
 use Rattle.ebpf_btf.specs.Memory as types

@@ -1,45 +1,20 @@
 -- Where a field lies in a type, what a record learns of it, and the bytes that a program loads for
 -- it (the kernel's tools/lib/bpf/relo_core.c, bpf_core_calc_field_relo).
-use Rattle.std.specs.Prelude.{
-  ℕ,
-  ◌+◌,
-  ◌*◌,
-  ◌/◌,
-  ◌==◌,
-  ◌&&◌,
-  ◌||◌,
-  nat_le,
-  nat_lt,
-  Bool,
-  List,
-  [],
-  ◌∷◌,
-  find,
-  Option,
-  None,
-  option_and_then,
-  Result,
-  Ok,
-  Err,
-  if◌then◌else◌,
-  ◌-◌,
-  Some,
-  slice_get,
-}
+use Rattle.std.specs.Prelude.{ℕ, ◌+◌, ◌*◌, ◌/◌, ◌==◌, ◌&&◌, ◌||◌, nat_le, nat_lt, Bool, List, []}
+use Rattle.std.specs.Prelude.{◌∷◌, find, Option, None, option_and_then, Result, Ok, Err}
+use Rattle.std.specs.Prelude.{if◌then◌else◌, ◌-◌, Some, slice_get}
 use Rattle.ebpf_btf.specs.declared.error.BtfError.{BtfError}
 use Rattle.ebpf_btf.specs.declared.error.BtfError.TheVariants.{InvalidTypeInfo}
 use Rattle.ebpf_base.specs.Faults.{if_ok}
 use Rattle.ebpf_btf.specs.Next.{if_some}
 use Rattle.ebpf_btf.specs.declared.members.BtfMember.{BtfMember}
 use Rattle.ebpf_btf_ext.specs.declared.relocation.RelocationKind.{RelocationKind}
-use Rattle.ebpf_btf_ext.specs.declared.relocation.RelocationKind.TheVariants.{
-  FieldByteOffset,
-  FieldByteSize,
-  FieldExists,
-  FieldSigned,
-  FieldLShift64,
-  FieldRShift64,
-}
+use Rattle.ebpf_btf_ext.specs.declared.relocation.RelocationKind.TheVariants.{FieldByteOffset}
+use Rattle.ebpf_btf_ext.specs.declared.relocation.RelocationKind.TheVariants.{FieldByteSize}
+use Rattle.ebpf_btf_ext.specs.declared.relocation.RelocationKind.TheVariants.{FieldExists}
+use Rattle.ebpf_btf_ext.specs.declared.relocation.RelocationKind.TheVariants.{FieldSigned}
+use Rattle.ebpf_btf_ext.specs.declared.relocation.RelocationKind.TheVariants.{FieldLShift64}
+use Rattle.ebpf_btf_ext.specs.declared.relocation.RelocationKind.TheVariants.{FieldRShift64}
 use Rattle.ebpf_btf.specs.declared.types.BtfType.{BtfType}
 use Rattle.ebpf_btf.specs.declared.types.BtfType.TheVariants.{Ptr, Int}
 use Rattle.ebpf_btf.specs.Steps.{resolved, resolved_type, size_of, type_at}

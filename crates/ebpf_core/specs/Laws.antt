@@ -6,24 +6,13 @@ use Rattle.ebpf_btf_ext.specs.declared.relocation.Relocation.{Relocation}
 use Rattle.ebpf_btf.specs.declared.variants.BtfVariant.{BtfVariant}
 use Rattle.ebpf_core.specs.Answers.{FirstFails, each, of_types}
 use Rattle.ebpf_core.specs.LocalPaths.{LocalSideIs, local_path}
-use Rattle.ebpf_core.specs.Outcomes.{
-  found_at_candidate,
-  matches,
-  type_name_at,
-  values_agree,
-  differing_names,
-  local_loaded,
-  match_value,
-  FirstVariantIs,
-  first_variant,
-  outcome_among,
-}
+use Rattle.ebpf_core.specs.Outcomes.{found_at_candidate, matches, type_name_at, values_agree}
+use Rattle.ebpf_core.specs.Outcomes.{differing_names, local_loaded, match_value, FirstVariantIs}
+use Rattle.ebpf_core.specs.Outcomes.{first_variant, outcome_among}
 use Rattle.ebpf_core.specs.Searches.{candidates_for, is_local, question_of, outcome_of}
 use Rattle.ebpf_core.specs.declared.error.RelocationError.{RelocationError}
-use Rattle.ebpf_core.specs.declared.error.RelocationError.TheVariants.{
-  BtfError,
-  ConflictingCandidates,
-}
+use Rattle.ebpf_core.specs.declared.error.RelocationError.TheVariants.{BtfError}
+use Rattle.ebpf_core.specs.declared.error.RelocationError.TheVariants.{ConflictingCandidates}
 use Rattle.ebpf_core.specs.declared.field.LoadedField.{LoadedField}
 use Rattle.ebpf_core.specs.declared.matches.Match.{Match}
 use Rattle.ebpf_core.specs.declared.paths.LocalPath.{LocalPath}

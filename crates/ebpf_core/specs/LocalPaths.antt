@@ -1,33 +1,7 @@
 -- What a record says of its local type, as an equation and step by step.
-use Rattle.std.specs.Prelude.{
-  ℕ,
-  ◌^◌,
-  ◌==◌,
-  ◌&&◌,
-  nat_le,
-  nat_lt,
-  List,
-  [],
-  ◌∷◌,
-  length,
-  map,
-  Option,
-  Some,
-  None,
-  option_map,
-  Result,
-  Ok,
-  Err,
-  if◌then◌else◌,
-  ◌+◌,
-  ◌||◌,
-  Bool,
-  false,
-  ◌++◌,
-  fold,
-  slice_get,
-  ◌≡◌,
-}
+use Rattle.std.specs.Prelude.{ℕ, ◌^◌, ◌==◌, ◌&&◌, nat_le, nat_lt, List, [], ◌∷◌, length, map}
+use Rattle.std.specs.Prelude.{Option, Some, None, option_map, Result, Ok, Err, if◌then◌else◌, ◌+◌}
+use Rattle.std.specs.Prelude.{◌||◌, Bool, false, ◌++◌, fold, slice_get, ◌≡◌}
 use Rattle.std.specs.List.{slice_split}
 use Rattle.std.specs.Str.{all_ascii_digits}
 use Rattle.std.specs.Str.Parse.{digits_value, without_leading_plus}
@@ -50,29 +24,24 @@ use Rattle.ebpf_core.specs.declared.places.Step.{Step}
 use Rattle.ebpf_core.specs.declared.places.Step.TheVariants.{Name, Index}
 use Rattle.ebpf_core.specs.Places.{checked_place, element_place, is_last_of}
 use Rattle.ebpf_btf_ext.specs.declared.relocation.RelocationKind.{RelocationKind}
-use Rattle.ebpf_btf_ext.specs.declared.relocation.RelocationKind.TheVariants.{
-  FieldByteOffset,
-  FieldByteSize,
-  FieldExists,
-  FieldSigned,
-  FieldLShift64,
-  FieldRShift64,
-  TypeIdLocal,
-  TypeIdTarget,
-  TypeExists,
-  TypeSize,
-  EnumVariantExists,
-  EnumVariantValue,
-}
+use Rattle.ebpf_btf_ext.specs.declared.relocation.RelocationKind.TheVariants.{FieldByteOffset}
+use Rattle.ebpf_btf_ext.specs.declared.relocation.RelocationKind.TheVariants.{FieldByteSize}
+use Rattle.ebpf_btf_ext.specs.declared.relocation.RelocationKind.TheVariants.{FieldExists}
+use Rattle.ebpf_btf_ext.specs.declared.relocation.RelocationKind.TheVariants.{FieldSigned}
+use Rattle.ebpf_btf_ext.specs.declared.relocation.RelocationKind.TheVariants.{FieldLShift64}
+use Rattle.ebpf_btf_ext.specs.declared.relocation.RelocationKind.TheVariants.{FieldRShift64}
+use Rattle.ebpf_btf_ext.specs.declared.relocation.RelocationKind.TheVariants.{TypeIdLocal}
+use Rattle.ebpf_btf_ext.specs.declared.relocation.RelocationKind.TheVariants.{TypeIdTarget}
+use Rattle.ebpf_btf_ext.specs.declared.relocation.RelocationKind.TheVariants.{TypeExists, TypeSize}
+use Rattle.ebpf_btf_ext.specs.declared.relocation.RelocationKind.TheVariants.{EnumVariantExists}
+use Rattle.ebpf_btf_ext.specs.declared.relocation.RelocationKind.TheVariants.{EnumVariantValue}
 use Rattle.ebpf_btf.specs.declared.error.BtfError.{BtfError as TypeError}
 use Rattle.ebpf_core.specs.declared.error.RelocationError.{RelocationError}
-use Rattle.ebpf_core.specs.declared.error.RelocationError.TheVariants.{
-  InvalidAccessString,
-  MaximumNestingLevelReached,
-  InvalidAccessIndex,
-  InvalidRelocationKindForType,
-  BtfError,
-}
+use Rattle.ebpf_core.specs.declared.error.RelocationError.TheVariants.{InvalidAccessString}
+use Rattle.ebpf_core.specs.declared.error.RelocationError.TheVariants.{MaximumNestingLevelReached}
+use Rattle.ebpf_core.specs.declared.error.RelocationError.TheVariants.{InvalidAccessIndex}
+use Rattle.ebpf_core.specs.declared.error.RelocationError.TheVariants.{InvalidRelocationKindForType}
+use Rattle.ebpf_core.specs.declared.error.RelocationError.TheVariants.{BtfError}
 use Rattle.ebpf_core.specs.declared.paths.LocalPath.{LocalPath}
 use Rattle.ebpf_core.specs.declared.paths.NamedPath.{NamedPath}
 use Rattle.ebpf_core.specs.declared.local_walk.LocalSpot.{LocalSpot}

@@ -1,33 +1,8 @@
 -- The members of a type, the view of a type with those of its anonymous members, and what a search
 -- for a name comes to (the kernel's tools/lib/bpf/relo_core.c, bpf_core_match_member).
-use Rattle.std.specs.Prelude.{
-  ℕ,
-  ◌==◌,
-  nat_lt,
-  if◌then◌else◌,
-  List,
-  [],
-  map,
-  slice_get,
-  unwrap_or,
-  Result,
-  Ok,
-  Err,
-  zero,
-  suc,
-  ◌+◌,
-  Bool,
-  true,
-  false,
-  ◌∷◌,
-  ◌≡◌,
-  ◌<◌,
-  ◌≤◌,
-  ◌^◌,
-  Option,
-  Some,
-  None,
-}
+use Rattle.std.specs.Prelude.{ℕ, ◌==◌, nat_lt, if◌then◌else◌, List, [], map, slice_get, unwrap_or}
+use Rattle.std.specs.Prelude.{Result, Ok, Err, zero, suc, ◌+◌, Bool, true, false, ◌∷◌, ◌≡◌, ◌<◌}
+use Rattle.std.specs.Prelude.{◌≤◌, ◌^◌, Option, Some, None}
 use Rattle.std.specs.List.{enumerate_from, flat_map}
 use Rattle.std.specs.Option.{option_map_or}
 use Rattle.ebpf_btf.specs.declared.error.BtfError.{BtfError}
@@ -41,12 +16,8 @@ use Rattle.ebpf_btf.specs.Types.{bit_offset, members_of}
 use Rattle.ebpf_core.specs.declared.places.PlaceFault.{PlaceFault}
 use Rattle.ebpf_core.specs.declared.places.PlaceFault.TheVariants.{NestingLevel, Btf}
 use Rattle.ebpf_core.specs.declared.member_search.Role.{Role}
-use Rattle.ebpf_core.specs.declared.member_search.Role.TheVariants.{
-  Anonymous,
-  Other,
-  Fitting,
-  Misfit,
-}
+use Rattle.ebpf_core.specs.declared.member_search.Role.TheVariants.{Anonymous, Other, Fitting}
+use Rattle.ebpf_core.specs.declared.member_search.Role.TheVariants.{Misfit}
 use Rattle.ebpf_core.specs.declared.member_search.Answer.{Answer}
 use Rattle.ebpf_core.specs.declared.member_search.Answer.TheVariants.{Found, Absent}
 use Rattle.ebpf_core.specs.declared.member_search.FoundMember.{FoundMember}

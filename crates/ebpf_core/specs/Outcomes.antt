@@ -1,33 +1,8 @@
 -- What a record comes to over all candidates (the kernel's Documentation/bpf/llvm_reloc.rst, "CO-RE
 -- Relocations", and tools/lib/bpf/relo_core.c, bpf_core_spec_match and bpf_core_calc_relo_insn).
-use Rattle.std.specs.Prelude.{
-  ℕ,
-  Bool,
-  List,
-  [],
-  Option,
-  Some,
-  None,
-  option_map,
-  unwrap_or,
-  Result,
-  Ok,
-  Err,
-  if◌then◌else◌,
-  ◌≡◌,
-  ◌<◌,
-  true,
-  false,
-  length,
-  slice_get,
-  ◌==◌,
-  ◌&&◌,
-  not,
-  nat_eq,
-  ◌∷◌,
-  filter,
-  option_and_then,
-}
+use Rattle.std.specs.Prelude.{ℕ, Bool, List, [], Option, Some, None, option_map, unwrap_or, Result}
+use Rattle.std.specs.Prelude.{Ok, Err, if◌then◌else◌, ◌≡◌, ◌<◌, true, false, length, slice_get}
+use Rattle.std.specs.Prelude.{◌==◌, ◌&&◌, not, nat_eq, ◌∷◌, filter, option_and_then}
 use Rattle.std.specs.List.{filter_map, list_all}
 use Rattle.std.specs.Option.{option_eq}
 use Rattle.std.specs.Result.{result_ok}
@@ -45,20 +20,15 @@ use Rattle.ebpf_core.specs.declared.places.FieldPlace.{FieldPlace}
 use Rattle.ebpf_core.specs.Places.{place_of}
 use Rattle.ebpf_btf_ext.specs.declared.relocation.Relocation.{Relocation}
 use Rattle.ebpf_btf_ext.specs.declared.relocation.RelocationKind.{RelocationKind}
-use Rattle.ebpf_btf_ext.specs.declared.relocation.RelocationKind.TheVariants.{
-  FieldExists,
-  TypeIdTarget,
-  TypeExists,
-  TypeSize,
-  EnumVariantExists,
-  EnumVariantValue,
-}
+use Rattle.ebpf_btf_ext.specs.declared.relocation.RelocationKind.TheVariants.{FieldExists}
+use Rattle.ebpf_btf_ext.specs.declared.relocation.RelocationKind.TheVariants.{TypeIdTarget}
+use Rattle.ebpf_btf_ext.specs.declared.relocation.RelocationKind.TheVariants.{TypeExists, TypeSize}
+use Rattle.ebpf_btf_ext.specs.declared.relocation.RelocationKind.TheVariants.{EnumVariantExists}
+use Rattle.ebpf_btf_ext.specs.declared.relocation.RelocationKind.TheVariants.{EnumVariantValue}
 use Rattle.ebpf_core.specs.declared.error.RelocationError.{RelocationError}
-use Rattle.ebpf_core.specs.declared.error.RelocationError.TheVariants.{
-  MaximumNestingLevelReached,
-  BtfError,
-  ConflictingCandidates,
-}
+use Rattle.ebpf_core.specs.declared.error.RelocationError.TheVariants.{MaximumNestingLevelReached}
+use Rattle.ebpf_core.specs.declared.error.RelocationError.TheVariants.{BtfError}
+use Rattle.ebpf_core.specs.declared.error.RelocationError.TheVariants.{ConflictingCandidates}
 use Rattle.ebpf_core.specs.declared.paths.NamedPath.{NamedPath}
 use Rattle.ebpf_core.specs.declared.matches.FoundMatch.{FoundMatch}
 use Rattle.ebpf_core.specs.declared.matches.Match.{Match}

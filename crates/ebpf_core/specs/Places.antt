@@ -1,35 +1,8 @@
 -- Where a named path leads in a target type (the kernel's tools/lib/bpf/relo_core.c,
 -- bpf_core_spec_match).
-use Rattle.std.specs.Prelude.{
-  ℕ,
-  ◌+◌,
-  ◌*◌,
-  ◌^◌,
-  ◌==◌,
-  ◌&&◌,
-  ◌||◌,
-  nat_lt,
-  if◌then◌else◌,
-  Bool,
-  false,
-  List,
-  [],
-  ◌∷◌,
-  length,
-  slice_get,
-  Option,
-  Some,
-  None,
-  Result,
-  Ok,
-  Err,
-  option_and_then,
-  ◌≡◌,
-  ◌<◌,
-  ◌≤◌,
-  ⊤,
-  MatchBool,
-}
+use Rattle.std.specs.Prelude.{ℕ, ◌+◌, ◌*◌, ◌^◌, ◌==◌, ◌&&◌, ◌||◌, nat_lt, if◌then◌else◌, Bool}
+use Rattle.std.specs.Prelude.{false, List, [], ◌∷◌, length, slice_get, Option, Some, None, Result}
+use Rattle.std.specs.Prelude.{Ok, Err, option_and_then, ◌≡◌, ◌<◌, ◌≤◌, ⊤, MatchBool}
 use Rattle.ebpf_base.specs.Faults.{if_ok}
 use Rattle.ebpf_btf.specs.Steps.{resolved, size_of}
 use Rattle.ebpf_btf.specs.TypeInfo.{TypeInfo}
@@ -40,17 +13,8 @@ use Rattle.ebpf_btf.specs.declared.error.BtfError.{BtfError}
 use Rattle.ebpf_btf.specs.declared.error.BtfError.TheVariants.{InvalidTypeInfo}
 use Rattle.ebpf_btf.specs.declared.types.BtfType.{BtfType}
 use Rattle.ebpf_btf.specs.declared.types.BtfType.TheVariants.{Struct}
-use Rattle.ebpf_core.specs.Members.{
-  IsEntry,
-  ViewEntry,
-  if_read,
-  member_search,
-  members_in,
-  MemberSearch,
-  search_entries,
-  first_fitting,
-  stop,
-}
+use Rattle.ebpf_core.specs.Members.{IsEntry, ViewEntry, if_read, member_search, members_in}
+use Rattle.ebpf_core.specs.Members.{MemberSearch, search_entries, first_fitting, stop}
 use Rattle.ebpf_core.specs.declared.places.PlaceFault.{PlaceFault}
 use Rattle.ebpf_core.specs.declared.places.PlaceFault.TheVariants.{NestingLevel, Btf}
 use Rattle.ebpf_core.specs.declared.places.FieldPlace.{FieldPlace}

@@ -1,37 +1,13 @@
 -- The types of a kernel that a local type may stand for, and what a record comes to over them (the
 -- kernel's tools/lib/bpf/libbpf.c, bpf_core_find_cands, and relo_core.c, bpf_core_calc_relo_insn).
-use Rattle.std.specs.Prelude.{
-  ℕ,
-  ◌&&◌,
-  Bool,
-  true,
-  false,
-  List,
-  Option,
-  Some,
-  None,
-  is_some,
-  Result,
-  Ok,
-  Err,
-  if◌then◌else◌,
-  ◌≡◌,
-  [],
-  ◌∷◌,
-  slice_get,
-}
+use Rattle.std.specs.Prelude.{ℕ, ◌&&◌, Bool, true, false, List, Option, Some, None, is_some, Result}
+use Rattle.std.specs.Prelude.{Ok, Err, if◌then◌else◌, ◌≡◌, [], ◌∷◌, slice_get}
 use Rattle.std.specs.BTreeMap.{BTreeMap, get}
 use Rattle.std.specs.Ordering.{nat_cmp, ordering_then}
 use Rattle.std.specs.declared.cmp.Ordering.{Ordering}
-use Rattle.ebpf_core_candidates.specs.Candidates.{
-  candidates,
-  candidates_fault,
-  candidates_of_both,
-  candidates_of_both_fault,
-  IndexedTypes,
-  has_named,
-  is_among_kinds,
-}
+use Rattle.ebpf_core_candidates.specs.Candidates.{candidates, candidates_fault, candidates_of_both}
+use Rattle.ebpf_core_candidates.specs.Candidates.{candidates_of_both_fault, IndexedTypes, has_named}
+use Rattle.ebpf_core_candidates.specs.Candidates.{is_among_kinds}
 use Rattle.ebpf_btf.specs.declared.error.BtfError.{BtfError}
 use Rattle.ebpf_btf_ext.specs.declared.relocation.Relocation.{Relocation}
 use Rattle.ebpf_btf_ext.specs.declared.relocation.RelocationKind.{RelocationKind}

@@ -113,8 +113,8 @@ fn outcome_named(
     ensures { Tells result
         (if_ok
         (of_types
-        (candidates_named index.now.info searched.ty.now
-        searched.name.now))
+        (candidates_named index.now.info searched.entry.ty.now
+        searched.entry.name.now))
         (outcome_among local.now index.now.info relocation.now path.now)) }
 {
     if was_enum64(searched.ty) {
@@ -139,7 +139,7 @@ fn ids_named(
         searched.name.now
         ≡ true }
     ensures { Gives is_btf_memory result
-        (candidates_named index.now.info searched.ty.now searched.name.now) }
+        (candidates_named index.now.info searched.entry.ty.now searched.entry.name.now) }
 {
     if was_enum64(searched.ty) {
         let ids = ids_of_both(alloc, index, BtfKind::Union, BtfKind::Enum64, searched.name)?;
@@ -196,8 +196,8 @@ fn index_for<'a>(
     ensures types { All (λ index. index.info ≡ target.now) indices.new.items }
     ensures place { IfOk result (λ n. n < length indices.new.items) }
     ensures names { IfOk result (λ n.
-        HasNameAt indices.new.items n (searched_kinds searched.ty.now).0
-        (searched_kinds searched.ty.now).1 searched.name.now) }
+        HasNameAt indices.new.items n (searched_kinds searched.entry.ty.now).0
+        (searched_kinds searched.entry.ty.now).1 searched.entry.name.now) }
     ensures memory { IfErr result (λ e. e ≡ OutOfMemory) }
 {
     let (first, second) = searched_kinds(searched.ty);

@@ -1,34 +1,9 @@
 -- The types that a local type may stand for, by kind and name (CO-RE, "Compile Once, Run
 -- Everywhere": the kernel's tools/lib/bpf, bpf_core_find_cands), and what an index of types was
 -- made for.
-use Rattle.std.specs.Prelude.{
-  ◌≡◌,
-  ℕ,
-  ◌<◌,
-  Bool,
-  true,
-  false,
-  All,
-  List,
-  length,
-  map,
-  filter,
-  slice_get,
-  Option,
-  Some,
-  None,
-  Result,
-  Ok,
-  Err,
-  ◌&&◌,
-  ◌||◌,
-  if◌then◌else◌,
-  ◌/◌,
-  ◌%◌,
-  ◌^◌,
-  slice_index_or,
-  ◌==◌,
-}
+use Rattle.std.specs.Prelude.{◌≡◌, ℕ, ◌<◌, Bool, true, false, All, List, length, map, filter}
+use Rattle.std.specs.Prelude.{slice_get, Option, Some, None, Result, Ok, Err, ◌&&◌, ◌||◌}
+use Rattle.std.specs.Prelude.{if◌then◌else◌, ◌/◌, ◌%◌, ◌^◌, slice_index_or, ◌==◌}
 use Rattle.std.specs.List.{enumerate_from, list_any}
 use Rattle.std.specs.List.Sorted.{IsStrictlyIncreasing}
 use Rattle.std.specs.Str.{bytes_eq}

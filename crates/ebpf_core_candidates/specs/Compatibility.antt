@@ -1,36 +1,9 @@
 -- Which types of an object fit which of a kernel. These are definitions of this library, after what
 -- bpf_core_fields_are_compat and bpf_core_types_are_compat of the kernel's
 -- tools/lib/bpf/relo_core.c decide.
-use Rattle.std.specs.Prelude.{
-  ℕ,
-  zero,
-  suc,
-  ◌/◌,
-  ◌%◌,
-  ◌^◌,
-  Bool,
-  true,
-  false,
-  List,
-  [],
-  ◌∷◌,
-  ◌++◌,
-  length,
-  map,
-  take,
-  drop,
-  unwrap_or,
-  Option,
-  Some,
-  None,
-  Result,
-  Ok,
-  Err,
-  ◌==◌,
-  ◌&&◌,
-  ◌||◌,
-  if◌then◌else◌,
-}
+use Rattle.std.specs.Prelude.{ℕ, zero, suc, ◌/◌, ◌%◌, ◌^◌, Bool, true, false, List, [], ◌∷◌, ◌++◌}
+use Rattle.std.specs.Prelude.{length, map, take, drop, unwrap_or, Option, Some, None, Result, Ok}
+use Rattle.std.specs.Prelude.{Err, ◌==◌, ◌&&◌, ◌||◌, if◌then◌else◌}
 use Rattle.std.specs.List.{zip, flat_map}
 use Rattle.std.specs.Str.{bytes_eq}
 use Rattle.ebpf_base.specs.Faults.{first_some, if_ok}

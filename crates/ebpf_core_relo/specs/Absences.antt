@@ -1,36 +1,9 @@
 -- Why a record has no value: how far along its path the kernel's types come, and what is missing
 -- there.
-use Rattle.std.specs.Prelude.{
-  ℕ,
-  zero,
-  suc,
-  ◌==◌,
-  nat_lt,
-  Bool,
-  true,
-  false,
-  List,
-  [],
-  ◌∷◌,
-  length,
-  take,
-  fold,
-  Option,
-  Some,
-  None,
-  option_map,
-  option_and_then,
-  unwrap_or,
-  Result,
-  Ok,
-  Err,
-  slice_get,
-  if◌then◌else◌,
-  ◌≡◌,
-  ◌≢◌,
-  ◌<◌,
-  ◌≤◌,
-}
+use Rattle.std.specs.Prelude.{ℕ, zero, suc, ◌==◌, nat_lt, Bool, true, false, List, [], ◌∷◌, length}
+use Rattle.std.specs.Prelude.{take, fold, Option, Some, None, option_map, option_and_then}
+use Rattle.std.specs.Prelude.{unwrap_or, Result, Ok, Err, slice_get, if◌then◌else◌, ◌≡◌, ◌≢◌, ◌<◌}
+use Rattle.std.specs.Prelude.{◌≤◌}
 use Rattle.std.specs.List.{list_any}
 use Rattle.std.specs.Result.{result_ok}
 use Rattle.ebpf_btf.specs.Steps.{resolved_type, resolved}
@@ -40,15 +13,8 @@ use Rattle.ebpf_btf.specs.Types.{members_of}
 use Rattle.ebpf_btf.specs.declared.error.BtfError.{BtfError}
 use Rattle.ebpf_btf.specs.declared.members.BtfMember.{BtfMember}
 use Rattle.ebpf_btf.specs.declared.types.BtfType.{BtfType}
-use Rattle.ebpf_core.specs.Members.{
-  anonymous_levels,
-  member_search,
-  members_in,
-  is_misfit,
-  view,
-  search_entries,
-  first_fitting,
-}
+use Rattle.ebpf_core.specs.Members.{anonymous_levels, member_search, members_in, is_misfit, view}
+use Rattle.ebpf_core.specs.Members.{search_entries, first_fitting}
 use Rattle.ebpf_core.specs.Places.{place_of}
 use Rattle.ebpf_core.specs.declared.places.PlaceFault.{PlaceFault}
 use Rattle.ebpf_core.specs.declared.places.FieldPlace.{FieldPlace}
@@ -68,14 +34,9 @@ use Rattle.ebpf_core.specs.declared.matches.Match.{Match}
 use Rattle.ebpf_core.specs.declared.outcome.Outcome.{Outcome}
 use Rattle.ebpf_core.specs.declared.paths.NamedPath.TheVariants as paths
 use Rattle.ebpf_core_relo.specs.declared.absence.Absence.{Absence}
-use Rattle.ebpf_core_relo.specs.declared.absence.Absence.TheVariants.{
-  NoType,
-  TypeOfAnotherKind,
-  NoMember,
-  MemberOfAnotherKind,
-  NoEnumerator,
-  NoValue,
-}
+use Rattle.ebpf_core_relo.specs.declared.absence.Absence.TheVariants.{NoType, TypeOfAnotherKind}
+use Rattle.ebpf_core_relo.specs.declared.absence.Absence.TheVariants.{NoMember, MemberOfAnotherKind}
+use Rattle.ebpf_core_relo.specs.declared.absence.Absence.TheVariants.{NoEnumerator, NoValue}
 use Rattle.ebpf_core_relo.specs.declared.absence.Furthest.{Furthest}
 
 -- ---- how far a path leads

@@ -1,69 +1,23 @@
 -- What the slots of a function become that carry the outcome of a record (RFC 9669, sections 3 to
 -- 5; the kernel's tools/lib/bpf/relo_core.c, bpf_core_patch_insn and bpf_core_poison_insn).
-use Rattle.std.specs.Prelude.{
-  ℕ,
-  ◌+◌,
-  ◌*◌,
-  ◌/◌,
-  ◌%◌,
-  ◌^◌,
-  ◌==◌,
-  nat_lt,
-  ℤ,
-  pos,
-  Bool,
-  true,
-  false,
-  List,
-  [],
-  length,
-  Option,
-  Some,
-  None,
-  option_map,
-  Result,
-  Ok,
-  Err,
-  slice_get,
-  slice_set,
-  if◌then◌else◌,
-  ◌≡◌,
-  ◌≢◌,
-}
+use Rattle.std.specs.Prelude.{ℕ, ◌+◌, ◌*◌, ◌/◌, ◌%◌, ◌^◌, ◌==◌, nat_lt, ℤ, pos, Bool, true, false}
+use Rattle.std.specs.Prelude.{List, [], length, Option, Some, None, option_map, Result, Ok, Err}
+use Rattle.std.specs.Prelude.{slice_get, slice_set, if◌then◌else◌, ◌≡◌, ◌≢◌}
 use Rattle.std.specs.Int.{w32, cast_signed}
 use Rattle.ebpf_btf.specs.Next.{if_some}
 use Rattle.ebpf_core.specs.declared.error.RelocationError.{RelocationError}
-use Rattle.ebpf_core.specs.declared.error.RelocationError.TheVariants.{
-  InvalidInstruction,
-  InvalidInstructionIndex,
-}
+use Rattle.ebpf_core.specs.declared.error.RelocationError.TheVariants.{InvalidInstruction}
+use Rattle.ebpf_core.specs.declared.error.RelocationError.TheVariants.{InvalidInstructionIndex}
 use Rattle.ebpf_core.specs.declared.field.FieldClass.{FieldClass}
 use Rattle.ebpf_core.specs.declared.field.FieldClass.TheVariants.{Pointer, UnsignedInt}
 use Rattle.ebpf_core.specs.declared.field.LoadedField.{LoadedField}
 use Rattle.ebpf_core.specs.declared.outcome.Outcome.{Outcome}
 use Rattle.ebpf_core_relo.specs.declared.carried.Carrier.{Carrier}
-use Rattle.ebpf_core_relo.specs.declared.carried.Carrier.TheVariants.{
-  Immediate,
-  Offset,
-  WideLoad,
-  Nothing,
-}
+use Rattle.ebpf_core_relo.specs.declared.carried.Carrier.TheVariants.{Immediate, Offset, WideLoad}
+use Rattle.ebpf_core_relo.specs.declared.carried.Carrier.TheVariants.{Nothing}
 use Rattle.ebpf_parts.specs.declared.insn.bpf_insn.{bpf_insn}
-use Rattle.ebpf_parts.specs.Slots.{
-  call,
-  class_alu,
-  class_alu64,
-  class_jmp,
-  class_jmp32,
-  class_ld,
-  ld_imm64,
-  poison_call,
-  size_b,
-  size_dw,
-  size_h,
-  size_w,
-  src_of,
-}
+use Rattle.ebpf_parts.specs.Slots.{call, class_alu, class_alu64, class_jmp, class_jmp32, class_ld}
+use Rattle.ebpf_parts.specs.Slots.{ld_imm64, poison_call, size_b, size_dw, size_h, size_w, src_of}
 
 -- where a slot carries a number, by its class in the low three bits: arithmetic (4 and 7) in the
 -- immediate, a load or store through a register (1, 2 and 3) in the offset, a wide load (0) in two

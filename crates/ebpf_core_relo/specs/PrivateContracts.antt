@@ -1,26 +1,6 @@
 -- What contracts of private functions name and no public one.
-use Rattle.std.specs.Prelude.{
-  ◌≡◌,
-  ⊤,
-  [],
-  MatchBool,
-  Result,
-  Ok,
-  Err,
-  ℕ,
-  List,
-  ◌∷◌,
-  ◌++◌,
-  Option,
-  Some,
-  None,
-  nat_le,
-  if◌then◌else◌,
-  ◌+◌,
-  ◌<◌,
-  length,
-  slice_set,
-}
+use Rattle.std.specs.Prelude.{◌≡◌, ⊤, [], MatchBool, Result, Ok, Err, ℕ, List, ◌∷◌, ◌++◌, Option}
+use Rattle.std.specs.Prelude.{Some, None, nat_le, if◌then◌else◌, ◌+◌, ◌<◌, length, slice_set}
 use Rattle.ebpf_core.specs.Answers.{without_texts, is_record_memory}
 use Rattle.ebpf_core.specs.declared.error.RelocationError.{RelocationError}
 use Rattle.ebpf_core_relo.specs.declared.error.BtfRelocationError.{BtfRelocationError}
@@ -38,11 +18,8 @@ use Rattle.ebpf_core_relo.specs.declared.carried.PatchedSlots.{PatchedSlots}
 use Rattle.ebpf_btf.specs.declared.error.BtfError.TheVariants.{InvalidStringOffset}
 use Rattle.ebpf_core.specs.declared.error.RelocationError.TheVariants.{BtfError, SectionNotFound}
 use Rattle.ebpf_core_relo.specs.declared.outcomes.FoundSection.{FoundSection}
-use Rattle.ebpf_core_relo.specs.declared.outcomes.FoundSection.TheVariants.{
-  Number,
-  NoName,
-  NoSection,
-}
+use Rattle.ebpf_core_relo.specs.declared.outcomes.FoundSection.TheVariants.{Number, NoName}
+use Rattle.ebpf_core_relo.specs.declared.outcomes.FoundSection.TheVariants.{NoSection}
 
 -- The call leaves what is stated, or answers the stated fault, its texts for people aside, or a
 -- want of memory.

@@ -1,38 +1,8 @@
 -- The slots that CO-RE records touch, and what each record of an object comes to, also behind one
 -- that is refused.
-use Rattle.std.specs.Prelude.{
-  ◌≡◌,
-  ◌⊎◌,
-  ℕ,
-  ◌+◌,
-  ◌-◌,
-  ◌/◌,
-  ◌%◌,
-  ◌<◌,
-  ◌==◌,
-  Bool,
-  true,
-  false,
-  List,
-  [],
-  map,
-  flat_map,
-  length,
-  Option,
-  Some,
-  None,
-  option_map,
-  Result,
-  Ok,
-  Err,
-  slice_get,
-  ◌∷◌,
-  fold,
-  is_some,
-  if◌then◌else◌,
-  ◌≢◌,
-  take,
-}
+use Rattle.std.specs.Prelude.{◌≡◌, ◌⊎◌, ℕ, ◌+◌, ◌-◌, ◌/◌, ◌%◌, ◌<◌, ◌==◌, Bool, true, false, List}
+use Rattle.std.specs.Prelude.{[], map, flat_map, length, Option, Some, None, option_map, Result, Ok}
+use Rattle.std.specs.Prelude.{Err, slice_get, ◌∷◌, fold, is_some, if◌then◌else◌, ◌≢◌, take}
 use Rattle.std.specs.FinMap.{FinMap, get, empty}
 use Rattle.ebpf_base.specs.Maps.{key_cmp, text_cmp}
 use Rattle.ebpf_btf.specs.Strings.{text_at}
@@ -54,17 +24,9 @@ use Rattle.ebpf_core.specs.declared.error.RelocationError.TheVariants.{SectionNo
 use Rattle.ebpf_elf.specs.declared.section.SectionIndex.{SectionIndex}
 use Rattle.ebpf_core_relo.specs.Carried.{written}
 use Rattle.ebpf_core_relo.specs.Spans.{spans_of, span_at}
-use Rattle.ebpf_core_relo.specs.Records.{
-  RelocationInputs,
-  Written,
-  own_slots,
-  slots_so_far,
-  slots_written,
-  with_slots,
-  record_applied,
-  error_in_section,
-  unnamed_section,
-}
+use Rattle.ebpf_core_relo.specs.Records.{RelocationInputs, Written, own_slots, slots_so_far}
+use Rattle.ebpf_core_relo.specs.Records.{slots_written, with_slots, record_applied}
+use Rattle.ebpf_core_relo.specs.Records.{error_in_section, unnamed_section}
 use Rattle.ebpf_core_relo.specs.Absences.{absence_of}
 use Rattle.ebpf_core_relo.specs.declared.outcomes.RecordOutcome.{RecordOutcome}
 use Rattle.ebpf_core_relo.specs.declared.outcomes.RecordResult.{RecordResult}

@@ -1,26 +1,8 @@
 -- What the CO-RE records of an object make of the slots of its functions (the kernel's
 -- Documentation/bpf/llvm_reloc.rst, "CO-RE Relocations"; Documentation/bpf/btf.rst, 4.2), and why
 -- they are refused.
-use Rattle.std.specs.Prelude.{
-  ℕ,
-  Bool,
-  List,
-  ◌-◌,
-  ◌/◌,
-  [],
-  ◌∷◌,
-  ◌++◌,
-  Option,
-  Some,
-  None,
-  Result,
-  Ok,
-  Err,
-  codes,
-  ◌≡◌,
-  take,
-  slice_get,
-}
+use Rattle.std.specs.Prelude.{ℕ, Bool, List, ◌-◌, ◌/◌, [], ◌∷◌, ◌++◌, Option, Some, None, Result}
+use Rattle.std.specs.Prelude.{Ok, Err, codes, ◌≡◌, take, slice_get}
 use Rattle.std.specs.FinMap.{FinMap, empty, get, insert}
 use Rattle.std.specs.Fmt.{decimal}
 use Rattle.ebpf_core.specs.Answers.{without_texts, is_record_memory}
@@ -32,11 +14,8 @@ use Rattle.ebpf_btf.specs.Next.{if_some}
 use Rattle.ebpf_btf.specs.Strings.{text_at}
 use Rattle.ebpf_btf.specs.TypeInfo.{TypeInfo}
 use Rattle.ebpf_core.specs.Searches.{outcome_of, Sides}
-use Rattle.ebpf_core.specs.declared.error.RelocationError.TheVariants.{
-  BtfError,
-  FunctionNotFound,
-  SectionNotFound,
-}
+use Rattle.ebpf_core.specs.declared.error.RelocationError.TheVariants.{BtfError, FunctionNotFound}
+use Rattle.ebpf_core.specs.declared.error.RelocationError.TheVariants.{SectionNotFound}
 use Rattle.ebpf_elf.specs.declared.section.SectionIndex.{SectionIndex}
 use Rattle.ebpf_parts.specs.declared.insn.bpf_insn.{bpf_insn}
 use Rattle.ebpf_model.specs.Symbols.{FunctionKey}

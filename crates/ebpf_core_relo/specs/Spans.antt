@@ -1,27 +1,7 @@
 -- Which function of a section a record is about, and which of its slots: the spans of functions in
 -- the data of their section, and which of them holds an offset.
-use Rattle.std.specs.Prelude.{
-  ℕ,
-  ◌/◌,
-  Bool,
-  ◌&&◌,
-  List,
-  Option,
-  find,
-  nat_le,
-  nat_lt,
-  ◌+◌,
-  nat_eq,
-  length,
-  map,
-  filter,
-  ◌≡◌,
-  true,
-  [],
-  ◌∷◌,
-  ◌++◌,
-  max,
-}
+use Rattle.std.specs.Prelude.{ℕ, ◌/◌, Bool, ◌&&◌, List, Option, find, nat_le, nat_lt, ◌+◌, nat_eq}
+use Rattle.std.specs.Prelude.{length, map, filter, ◌≡◌, true, [], ◌∷◌, ◌++◌, max}
 use Rattle.ebpf_core_relo.specs.declared.spans.Span.{Span}
 use Rattle.std.specs.FinMap.{FinMap, entries}
 use Rattle.ebpf_base.specs.Maps.{key_cmp}

@@ -1,55 +1,18 @@
 -- The faults of a file, in the order in which they are looked for.
-use Rattle.std.specs.Prelude.{
-  ℕ,
-  ◌+◌,
-  ◌*◌,
-  ◌%◌,
-  not,
-  ◌&&◌,
-  ◌||◌,
-  List,
-  [],
-  ◌∷◌,
-  length,
-  Option,
-  Some,
-  None,
-  nat_lt,
-  nat_eq,
-  ◌==◌,
-  if◌then◌else◌,
-  slice_index,
-}
+use Rattle.std.specs.Prelude.{ℕ, ◌+◌, ◌*◌, ◌%◌, not, ◌&&◌, ◌||◌, List, [], ◌∷◌, length, Option}
+use Rattle.std.specs.Prelude.{Some, None, nat_lt, nat_eq, ◌==◌, if◌then◌else◌, slice_index}
 use Rattle.std.specs.List.{list_any, starts_with}
 use Rattle.ebpf_base.specs.Faults.{Row}
-use Rattle.ebpf_elf.specs.declared.constants.TheConstants.{
-  MAGIC,
-  ELFCLASS64,
-  ELFDATA2LSB,
-  ELFDATA2MSB,
-  SHN_XINDEX,
-}
+use Rattle.ebpf_elf.specs.declared.constants.TheConstants.{MAGIC, ELFCLASS64, ELFDATA2LSB}
+use Rattle.ebpf_elf.specs.declared.constants.TheConstants.{ELFDATA2MSB, SHN_XINDEX}
 use Rattle.ebpf_elf.specs.declared.error.ElfReadError.{ElfReadError}
-use Rattle.ebpf_elf.specs.declared.error.ElfReadError.TheVariants.{
-  TooShort,
-  BadMagic,
-  NotElf64,
-  BadByteOrder,
-  BadSectionTable,
-  BadStringTable,
-  BadSymbolTable,
-  BadRelocationTable,
-  ExtendedNumbering,
-}
-use Rattle.ebpf_elf.specs.Headers.{
-  e_shoff,
-  e_shentsize,
-  e_shnum,
-  e_shstrndx,
-  section,
-  section_indices,
-  is_inside,
-}
+use Rattle.ebpf_elf.specs.declared.error.ElfReadError.TheVariants.{TooShort, BadMagic, NotElf64}
+use Rattle.ebpf_elf.specs.declared.error.ElfReadError.TheVariants.{BadByteOrder, BadSectionTable}
+use Rattle.ebpf_elf.specs.declared.error.ElfReadError.TheVariants.{BadStringTable, BadSymbolTable}
+use Rattle.ebpf_elf.specs.declared.error.ElfReadError.TheVariants.{BadRelocationTable}
+use Rattle.ebpf_elf.specs.declared.error.ElfReadError.TheVariants.{ExtendedNumbering}
+use Rattle.ebpf_elf.specs.Headers.{e_shoff, e_shentsize, e_shnum, e_shstrndx, section}
+use Rattle.ebpf_elf.specs.Headers.{section_indices, is_inside}
 use Rattle.ebpf_elf.specs.Names.{is_string_table}
 use Rattle.ebpf_elf.specs.Symbols.{symbol_table_section, st_shndx_at, symbol_table_indices}
 use Rattle.ebpf_elf.specs.Relocations.{holds_relocations, is_bad_relocation_table}

@@ -1,20 +1,7 @@
 -- The header of a file and those of its sections, by index (ELF-64 gABI, 'ELF Header' and
 -- 'Sections').
-use Rattle.std.specs.Prelude.{
-  ℕ,
-  ◌+◌,
-  ◌-◌,
-  ◌*◌,
-  Bool,
-  ◌||◌,
-  List,
-  length,
-  nat_le,
-  ◌==◌,
-  if◌then◌else◌,
-  slice_index,
-  slice_range,
-}
+use Rattle.std.specs.Prelude.{ℕ, ◌+◌, ◌-◌, ◌*◌, Bool, ◌||◌, List, length, nat_le, ◌==◌}
+use Rattle.std.specs.Prelude.{if◌then◌else◌, slice_index, slice_range}
 use Rattle.std.specs.List.{range_with_len}
 use Rattle.ebpf_base.specs.declared.endianness.Endianness.{Endianness}
 use Rattle.ebpf_base.specs.declared.endianness.Endianness.TheVariants.{Little, Big}
@@ -25,6 +12,10 @@ use Rattle.ebpf_elf.specs.declared.header.SectionHeader.{SectionHeader}
 -- EI_DATA, the byte at 5
 unfoldable pub ei_data : List ℕ → Endianness
 ei_data bytes = if slice_index bytes 5 == ELFDATA2MSB then Big else Little
+
+-- e_machine, the machine that the file is for
+unfoldable pub e_machine : List ℕ → ℕ
+e_machine bytes = number_at (ei_data bytes) 2 bytes 18
 
 -- e_shoff, where the section headers stand; 0 where there are none
 unfoldable pub e_shoff : List ℕ → ℕ

@@ -1,22 +1,6 @@
 -- Names, and the tables that hold them (ELF-64 gABI, 'String Table').
-use Rattle.std.specs.Prelude.{
-  ℕ,
-  Bool,
-  false,
-  ◌&&◌,
-  ◌||◌,
-  List,
-  [],
-  take,
-  drop,
-  Option,
-  Some,
-  None,
-  nat_lt,
-  ◌==◌,
-  if◌then◌else◌,
-  option_map,
-}
+use Rattle.std.specs.Prelude.{ℕ, Bool, false, ◌&&◌, ◌||◌, List, [], take, drop, Option, Some, None}
+use Rattle.std.specs.Prelude.{nat_lt, ◌==◌, if◌then◌else◌, option_map}
 use Rattle.std.specs.List.{position}
 use Rattle.std.specs.Str.{is_utf8, bytes_eq}
 use Rattle.ebpf_elf.specs.declared.constants.TheConstants.{SHT_STRTAB}

@@ -1,36 +1,11 @@
 -- The sections with relocations, and the relocations of a section (ELF-64 gABI, 'Relocation').
-use Rattle.std.specs.Prelude.{
-  ℕ,
-  ◌+◌,
-  ◌-◌,
-  ◌*◌,
-  ◌/◌,
-  ◌%◌,
-  ◌^◌,
-  Bool,
-  not,
-  ◌&&◌,
-  ◌||◌,
-  List,
-  [],
-  map,
-  filter,
-  Option,
-  Some,
-  None,
-  nat_lt,
-  ◌==◌,
-  if◌then◌else◌,
-}
+use Rattle.std.specs.Prelude.{ℕ, ◌+◌, ◌-◌, ◌*◌, ◌/◌, ◌%◌, ◌^◌, Bool, not, ◌&&◌, ◌||◌, List, [], map}
+use Rattle.std.specs.Prelude.{filter, Option, Some, None, nat_lt, ◌==◌, if◌then◌else◌}
 use Rattle.std.specs.List.{flat_map, range_with_len}
 use Rattle.ebpf_base.specs.declared.endianness.Endianness.{Endianness}
 use Rattle.ebpf_base.specs.Numbers.{number_at}
-use Rattle.ebpf_elf.specs.declared.constants.TheConstants.{
-  R_BPF_64_64,
-  R_BPF_64_32,
-  SHT_REL,
-  SHT_RELA,
-}
+use Rattle.ebpf_elf.specs.declared.constants.TheConstants.{R_BPF_64_64, R_BPF_64_32, SHT_REL}
+use Rattle.ebpf_elf.specs.declared.constants.TheConstants.{SHT_RELA}
 use Rattle.ebpf_elf.specs.declared.relocation.ElfRelocation.{ElfRelocation}
 use Rattle.ebpf_elf.specs.declared.relocation.EntryExtent.{EntryExtent}
 use Rattle.ebpf_elf.specs.Headers.{ei_data, section, section_count, is_inside}

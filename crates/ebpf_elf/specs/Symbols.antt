@@ -1,50 +1,16 @@
 -- The symbol table of a file and its symbols (ELF-64 gABI, 'Symbol Table').
-use Rattle.std.specs.Prelude.{
-  ℕ,
-  ◌+◌,
-  ◌-◌,
-  ◌*◌,
-  ◌/◌,
-  ◌%◌,
-  Bool,
-  not,
-  ◌&&◌,
-  ◌||◌,
-  List,
-  [],
-  map,
-  Option,
-  Some,
-  None,
-  nat_le,
-  ◌==◌,
-  if◌then◌else◌,
-}
+use Rattle.std.specs.Prelude.{ℕ, ◌+◌, ◌-◌, ◌*◌, ◌/◌, ◌%◌, Bool, not, ◌&&◌, ◌||◌, List, [], map}
+use Rattle.std.specs.Prelude.{Option, Some, None, nat_le, ◌==◌, if◌then◌else◌}
 use Rattle.std.specs.List.{find, range_with_len}
 use Rattle.ebpf_base.specs.declared.endianness.Endianness.{Endianness}
 use Rattle.ebpf_base.specs.Numbers.{number_at}
-use Rattle.ebpf_elf.specs.declared.constants.TheConstants.{
-  SHN_LORESERVE,
-  SHT_SYMTAB,
-  STT_NOTYPE,
-  STT_OBJECT,
-  STT_FUNC,
-  STT_SECTION,
-  STT_FILE,
-  STT_COMMON,
-  STT_TLS,
-  STT_GNU_IFUNC,
-  STB_WEAK,
-}
+use Rattle.ebpf_elf.specs.declared.constants.TheConstants.{SHN_LORESERVE, SHT_SYMTAB, STT_NOTYPE}
+use Rattle.ebpf_elf.specs.declared.constants.TheConstants.{STT_OBJECT, STT_FUNC, STT_SECTION}
+use Rattle.ebpf_elf.specs.declared.constants.TheConstants.{STT_FILE, STT_COMMON, STT_TLS}
+use Rattle.ebpf_elf.specs.declared.constants.TheConstants.{STT_GNU_IFUNC, STB_WEAK}
 use Rattle.ebpf_elf.specs.declared.symbol.SymbolKind.{SymbolKind}
-use Rattle.ebpf_elf.specs.declared.symbol.SymbolKind.TheVariants.{
-  Unknown,
-  Text,
-  Data,
-  Section,
-  File,
-  Tls,
-}
+use Rattle.ebpf_elf.specs.declared.symbol.SymbolKind.TheVariants.{Unknown, Text, Data, Section}
+use Rattle.ebpf_elf.specs.declared.symbol.SymbolKind.TheVariants.{File, Tls}
 use Rattle.ebpf_elf.specs.declared.symbol.SymbolEntry.{SymbolEntry}
 use Rattle.ebpf_elf.specs.Headers.{ei_data, section, section_indices, range_of}
 use Rattle.ebpf_elf.specs.Names.{string_table_name}

@@ -11,6 +11,9 @@ pub const ELFDATA2LSB: u8 = 1;
 /// EI_DATA of a big-endian file.
 pub const ELFDATA2MSB: u8 = 2;
 
+/// The machine of eBPF (e_machine; the kernel's include/uapi/linux/elf-em.h).
+pub const EM_BPF: u16 = 247;
+
 /// The first reserved section index.
 pub const SHN_LORESERVE: u16 = 0xff00;
 /// The section index that stands for one kept elsewhere.

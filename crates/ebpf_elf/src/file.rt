@@ -5,12 +5,14 @@ ghost use Rattle.std.specs.List.{find};
 ghost use Rattle.std.specs.Option.{ForSome};
 ghost use Rattle.ebpf_base.specs.Faults.{IsFirstFault, IsClear, rows_of, first_of, first_in, fault_of};
 ghost use Rattle.ebpf_elf.specs.Faults.{faults, names_faults, symbol_table_faults, relocation_faults};
-ghost use Rattle.ebpf_elf.specs.Headers.{ei_data};
+ghost use Rattle.ebpf_elf.specs.Headers.{e_machine, ei_data};
+ghost use Rattle.ebpf_elf.specs.declared.constants.TheConstants.{EM_BPF};
 ghost use Rattle.ebpf_elf.specs.Names.{section_names, is_name};
 ghost use Rattle.ebpf_elf.specs.Relocations.{relocation_sections};
 ghost use Rattle.ebpf_elf.specs.Sections.{sections, section_name};
 ghost use Rattle.ebpf_elf.specs.Symbols.{symbol_table_section, symbols};
 
+use crate::constants::EM_BPF;
 use crate::error::ElfReadError;
 use crate::header::{SectionTable, identify, section_table};
 use crate::relocation::RelocationSections;
@@ -134,6 +136,21 @@ impl<'a> ElfFile<'a> {
         ensures { result ≡ ei_data self.now }
     {
         self.layout.table.endianness
+    }
+
+    /// The number of the machine that the file is for (e_machine).
+    #[tactic(auto, unfolding(crate::specs::Headers::e_machine))]
+    pub fn machine(&self) -> u16
+        ensures { result ≡ e_machine self.now }
+    {
+        read_u16(self.layout.table.endianness, self.layout.table.bytes, 18)
+    }
+
+    /// Whether the file is for eBPF. `parse` takes files for any machine.
+    pub fn is_bpf(&self) -> bool
+        ensures { result ≡ (e_machine self.now == EM_BPF) }
+    {
+        self.machine() == EM_BPF
     }
 
     /// The sections from index 1 on, in order.

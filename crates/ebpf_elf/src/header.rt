@@ -58,6 +58,7 @@ pub struct SectionTable<'a> {
     ghost starts: { start ≡ e_shoff bytes.now },
     ghost counts: { count ≡ section_count bytes.now },
     ghost inside: { start + 64 * count ≤ length bytes.now },
+    ghost room: { 64 ≤ length bytes.now },
 }
 
 /// The table of section headers. Without one its start is 0.

@@ -1,35 +1,7 @@
 -- The initial values of maps of maps and of programs.
-use Rattle.std.specs.Prelude.{
-  Bool,
-  true,
-  false,
-  ℕ,
-  ◌+◌,
-  ◌-◌,
-  ◌/◌,
-  ◌%◌,
-  ◌==◌,
-  ◌&&◌,
-  ◌||◌,
-  nat_le,
-  nat_lt,
-  not,
-  List,
-  [],
-  ◌∷◌,
-  map,
-  fold,
-  Option,
-  Some,
-  None,
-  option_map,
-  unwrap_or,
-  Result,
-  Ok,
-  Err,
-  if◌then◌else◌,
-  ◌≡◌,
-}
+use Rattle.std.specs.Prelude.{Bool, true, false, ℕ, ◌+◌, ◌-◌, ◌/◌, ◌%◌, ◌==◌, ◌&&◌, ◌||◌, nat_le}
+use Rattle.std.specs.Prelude.{nat_lt, not, List, [], ◌∷◌, map, fold, Option, Some, None, option_map}
+use Rattle.std.specs.Prelude.{unwrap_or, Result, Ok, Err, if◌then◌else◌, ◌≡◌}
 use Rattle.std.specs.FinMap.{FinMap, get, insert, contains_key, entries, empty}
 use Rattle.std.specs.List.{find, flat_map}
 use Rattle.std.specs.Option.{option_and_then, option_map_or}
@@ -46,21 +18,19 @@ use Rattle.ebpf_model.specs.declared.symbol.Symbol.{Symbol}
 use Rattle.ebpf_object.specs.declared.object.Object.{Object}
 use Rattle.ebpf_initial_slots.specs.MapVariables.{maps_section_name, map_variables}
 use Rattle.ebpf_initial_slots.specs.declared.error.InitialSlotError.{InitialSlotError}
-use Rattle.ebpf_initial_slots.specs.declared.error.InitialSlotError.TheVariants.{
-  OutOfMemory,
-  ElfError,
-  UnknownSymbol,
-  OutsideMaps,
-  UnsupportedMapType,
-  NotInMaps,
-  UnsupportedKeySize,
-  UnknownMap,
-  UnknownProgram,
-  NotAnEntryPoint,
-  NoValues,
-  OutsideValues,
-  Misaligned,
-}
+use Rattle.ebpf_initial_slots.specs.declared.error.InitialSlotError.TheVariants.{OutOfMemory}
+use Rattle.ebpf_initial_slots.specs.declared.error.InitialSlotError.TheVariants.{ElfError}
+use Rattle.ebpf_initial_slots.specs.declared.error.InitialSlotError.TheVariants.{UnknownSymbol}
+use Rattle.ebpf_initial_slots.specs.declared.error.InitialSlotError.TheVariants.{OutsideMaps}
+use Rattle.ebpf_initial_slots.specs.declared.error.InitialSlotError.TheVariants.{UnsupportedMapType}
+use Rattle.ebpf_initial_slots.specs.declared.error.InitialSlotError.TheVariants.{NotInMaps}
+use Rattle.ebpf_initial_slots.specs.declared.error.InitialSlotError.TheVariants.{UnsupportedKeySize}
+use Rattle.ebpf_initial_slots.specs.declared.error.InitialSlotError.TheVariants.{UnknownMap}
+use Rattle.ebpf_initial_slots.specs.declared.error.InitialSlotError.TheVariants.{UnknownProgram}
+use Rattle.ebpf_initial_slots.specs.declared.error.InitialSlotError.TheVariants.{NotAnEntryPoint}
+use Rattle.ebpf_initial_slots.specs.declared.error.InitialSlotError.TheVariants.{NoValues}
+use Rattle.ebpf_initial_slots.specs.declared.error.InitialSlotError.TheVariants.{OutsideValues}
+use Rattle.ebpf_initial_slots.specs.declared.error.InitialSlotError.TheVariants.{Misaligned}
 use Rattle.ebpf_initial_slots.specs.declared.slots.InitialSlot.{InitialSlot}
 use Rattle.ebpf_initial_slots.specs.declared.target.InitialTarget.{InitialTarget}
 use Rattle.ebpf_initial_slots.specs.declared.variables.MapVariable.{MapVariable}

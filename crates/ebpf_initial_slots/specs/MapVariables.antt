@@ -1,23 +1,7 @@
 -- The variables of the section `.maps`, each of which declares a map (libbpf 1.5, libbpf.c:
 -- bpf_object__init_user_btf_maps, btf_fixup_datasec, bpf_object__collect_map_relos).
-use Rattle.std.specs.Prelude.{
-  ℕ,
-  ◌-◌,
-  ◌/◌,
-  ◌==◌,
-  Bool,
-  List,
-  [],
-  codes,
-  length,
-  slice_get,
-  Option,
-  Some,
-  None,
-  option_map,
-  unwrap_or,
-  if◌then◌else◌,
-}
+use Rattle.std.specs.Prelude.{ℕ, ◌-◌, ◌/◌, ◌==◌, Bool, List, [], codes, length, slice_get, Option}
+use Rattle.std.specs.Prelude.{Some, None, option_map, unwrap_or, if◌then◌else◌}
 use Rattle.std.specs.FinMap.{get}
 use Rattle.std.specs.List.{flat_map}
 use Rattle.std.specs.Option.{option_and_then, option_map_or, option_to_list}

@@ -1,40 +1,10 @@
 -- The value of an extern by a kernel's configuration as text (libbpf 1.5, libbpf.c:
 -- bpf_object__process_kconfig_line, set_kcfg_value_tri, set_kcfg_value_str, parse_u64,
 -- is_kcfg_value_in_range, set_kcfg_value_num).
-use Rattle.std.specs.Prelude.{
-  ℕ,
-  min,
-  ◌+◌,
-  ◌-◌,
-  ◌*◌,
-  ◌/◌,
-  ◌%◌,
-  ◌^◌,
-  nat_eq,
-  nat_lt,
-  ◌==◌,
-  ◌&&◌,
-  ◌||◌,
-  Bool,
-  true,
-  List,
-  [],
-  ◌∷◌,
-  ◌++◌,
-  codes,
-  length,
-  take,
-  drop,
-  replicate,
-  slice_index,
-  Option,
-  Some,
-  None,
-  Result,
-  Ok,
-  Err,
-  if◌then◌else◌,
-}
+use Rattle.std.specs.Prelude.{ℕ, min, ◌+◌, ◌-◌, ◌*◌, ◌/◌, ◌%◌, ◌^◌, nat_eq, nat_lt, ◌==◌, ◌&&◌}
+use Rattle.std.specs.Prelude.{◌||◌, Bool, true, List, [], ◌∷◌, ◌++◌, codes, length, take, drop}
+use Rattle.std.specs.Prelude.{replicate, slice_index, Option, Some, None, Result, Ok, Err}
+use Rattle.std.specs.Prelude.{if◌then◌else◌}
 use Rattle.std.specs.Char.{digit_value}
 use Rattle.std.specs.Int.{w64, to_le_bytes, to_be_bytes}
 use Rattle.std.specs.List.{slice_split, starts_with}
@@ -43,11 +13,8 @@ use Rattle.ebpf_base.specs.Faults.{first_some, if_ok}
 use Rattle.ebpf_base.specs.declared.endianness.Endianness.{Endianness}
 use Rattle.ebpf_base.specs.declared.endianness.Endianness.TheVariants.{Little, Big}
 use Rattle.ebpf_kconfig.specs.declared.error.KconfigError.{KconfigError}
-use Rattle.ebpf_kconfig.specs.declared.error.KconfigError.TheVariants.{
-  UnsuitedValue,
-  ValueOutOfRange,
-  OutOfMemory,
-}
+use Rattle.ebpf_kconfig.specs.declared.error.KconfigError.TheVariants.{UnsuitedValue}
+use Rattle.ebpf_kconfig.specs.declared.error.KconfigError.TheVariants.{ValueOutOfRange, OutOfMemory}
 use Rattle.ebpf_kconfig.specs.declared.externs.KconfigExtern.{KconfigExtern}
 use Rattle.ebpf_kconfig.specs.declared.kconfig_type.KconfigType.{KconfigType}
 use Rattle.ebpf_kconfig.specs.declared.kconfig_type.KconfigType.TheVariants as kconfig_types

@@ -1,32 +1,8 @@
 -- The externs that the kernel's configuration gives, and their types (libbpf 1.5, libbpf.c:
 -- find_kcfg_type; btf.c: btf__align_of).
-use Rattle.std.specs.Prelude.{
-  ℕ,
-  min,
-  max,
-  ◌/◌,
-  ◌%◌,
-  ◌^◌,
-  Bool,
-  ◌==◌,
-  ◌||◌,
-  codes,
-  Option,
-  Some,
-  None,
-  if◌then◌else◌,
-  true,
-  false,
-  nat_eq,
-  List,
-  [],
-  ◌∷◌,
-  unwrap_or,
-  Result,
-  Ok,
-  Err,
-  slice_get,
-}
+use Rattle.std.specs.Prelude.{ℕ, min, max, ◌/◌, ◌%◌, ◌^◌, Bool, ◌==◌, ◌||◌, codes, Option, Some}
+use Rattle.std.specs.Prelude.{None, if◌then◌else◌, true, false, nat_eq, List, [], ◌∷◌, unwrap_or}
+use Rattle.std.specs.Prelude.{Result, Ok, Err, slice_get}
 use Rattle.std.specs.Option.{option_and_then, option_map_or}
 use Rattle.std.specs.Result.{result_ok}
 use Rattle.std.specs.FinMap.{FinMap, get, entries, empty}
@@ -38,14 +14,8 @@ use Rattle.ebpf_btf.specs.Strings.{is_text, text_at, id_of_name}
 use Rattle.ebpf_btf.specs.TypeInfo.{TypeInfo}
 use Rattle.ebpf_btf.specs.Types.{is_signed}
 use Rattle.ebpf_btf.specs.declared.types.BtfType.{BtfType}
-use Rattle.ebpf_btf.specs.declared.types.BtfType.TheVariants.{
-  Int,
-  Enum,
-  Enum64,
-  Array,
-  DataSec,
-  Var,
-}
+use Rattle.ebpf_btf.specs.declared.types.BtfType.TheVariants.{Int, Enum, Enum64, Array, DataSec}
+use Rattle.ebpf_btf.specs.declared.types.BtfType.TheVariants.{Var}
 use Rattle.ebpf_base.specs.Faults.{fault_of, first_some, if_ok}
 use Rattle.ebpf_base.specs.Maps.{put_all, text_cmp}
 use Rattle.ebpf_btf.specs.declared.error.BtfError.{BtfError}
@@ -54,13 +24,9 @@ use Rattle.ebpf_model.specs.declared.symbol.Symbol.{Symbol}
 use Rattle.ebpf_btf.specs.declared.kind.BtfKind.TheVariants as kinds
 use Rattle.ebpf_kconfig.specs.declared.kconfig_type.KconfigType.{KconfigType}
 use Rattle.ebpf_kconfig.specs.declared.error.KconfigError.{KconfigError}
-use Rattle.ebpf_kconfig.specs.declared.error.KconfigError.TheVariants.{
-  OutOfMemory,
-  NotAVariable,
-  UnreadableName,
-  UnknownName,
-  UnsupportedType,
-}
+use Rattle.ebpf_kconfig.specs.declared.error.KconfigError.TheVariants.{OutOfMemory, NotAVariable}
+use Rattle.ebpf_kconfig.specs.declared.error.KconfigError.TheVariants.{UnreadableName, UnknownName}
+use Rattle.ebpf_kconfig.specs.declared.error.KconfigError.TheVariants.{UnsupportedType}
 use Rattle.ebpf_kconfig.specs.declared.externs.KconfigExtern.{KconfigExtern}
 use Rattle.ebpf_kconfig.specs.declared.settings.ValueFault.{ValueFault}
 use Rattle.ebpf_kconfig.specs.declared.kconfig_type.KconfigType.TheVariants as kconfig_types

@@ -1,31 +1,8 @@
 -- The map `.kconfig`, where the externs stand in its value, and the symbols that stand in it
 -- (libbpf 1.5, libbpf.c: cmp_externs, bpf_object__collect_externs, bpf_object__init_kconfig_map).
-use Rattle.std.specs.Prelude.{
-  ℕ,
-  ◌+◌,
-  ◌-◌,
-  ◌*◌,
-  ◌/◌,
-  ◌^◌,
-  nat_lt,
-  ◌==◌,
-  List,
-  [],
-  ◌∷◌,
-  ◌++◌,
-  length,
-  fold,
-  replicate,
-  Option,
-  Some,
-  None,
-  unwrap_or,
-  if◌then◌else◌,
-  true,
-  ◌≡◌,
-  option_map,
-  map,
-}
+use Rattle.std.specs.Prelude.{ℕ, ◌+◌, ◌-◌, ◌*◌, ◌/◌, ◌^◌, nat_lt, ◌==◌, List, [], ◌∷◌, ◌++◌, length}
+use Rattle.std.specs.Prelude.{fold, replicate, Option, Some, None, unwrap_or, if◌then◌else◌, true}
+use Rattle.std.specs.Prelude.{◌≡◌, option_map, map}
 use Rattle.std.specs.FinMap.{FinMap, get, insert, entries, empty}
 use Rattle.std.specs.List.{flat_map}
 use Rattle.std.specs.Map.{keys_of}
@@ -48,13 +25,8 @@ use Rattle.ebpf_parts.specs.declared.maps.either.Map.{Map}
 use Rattle.ebpf_parts.specs.declared.maps.either.Map.TheVariants.{Legacy}
 use Rattle.ebpf_parts.specs.declared.section.EbpfSectionKind.TheVariants.{Rodata}
 use Rattle.ebpf_parts.specs.declared.maps.definition.PinningType.TheVariants as pinned
-use Rattle.ebpf_kconfig.specs.KconfigExterns.{
-  kconfig_alignment,
-  kconfig_size,
-  kconfig_section,
-  kconfig_externs,
-  kconfig_externs_fault,
-}
+use Rattle.ebpf_kconfig.specs.KconfigExterns.{kconfig_alignment, kconfig_size, kconfig_section}
+use Rattle.ebpf_kconfig.specs.KconfigExterns.{kconfig_externs, kconfig_externs_fault}
 use Rattle.ebpf_kconfig.specs.declared.error.KconfigError.{KconfigError}
 use Rattle.ebpf_kconfig.specs.declared.error.KconfigError.TheVariants.{NoValue, WrongSize, TooLarge}
 use Rattle.ebpf_kconfig.specs.declared.externs.KconfigExtern.{KconfigExtern}

@@ -4,32 +4,9 @@ use Rattle.std.specs.Char.{digit_value, is_ascii_whitespace}
 use Rattle.std.specs.IoError.{error_kind}
 use Rattle.std.specs.Iterator.{Drains}
 use Rattle.std.specs.List.{slice_split, list_all, list_any, filter_map}
-use Rattle.std.specs.Prelude.{
-  Bool,
-  true,
-  false,
-  if◌then◌else◌,
-  ℕ,
-  ◌^◌,
-  ◌&&◌,
-  List,
-  [],
-  ◌∷◌,
-  length,
-  filter,
-  nat_lt,
-  Option,
-  Some,
-  None,
-  ◌≡◌,
-  ◌++◌,
-  Result,
-  Ok,
-  Err,
-  ◌==◌,
-  slice_get,
-  string_bytes,
-}
+use Rattle.std.specs.Prelude.{Bool, true, false, if◌then◌else◌, ℕ, ◌^◌, ◌&&◌, List, [], ◌∷◌, length}
+use Rattle.std.specs.Prelude.{filter, nat_lt, Option, Some, None, ◌≡◌, ◌++◌, Result, Ok, Err, ◌==◌}
+use Rattle.std.specs.Prelude.{slice_get, string_bytes}
 use Rattle.std.specs.Str.{bytes_eq}
 use Rattle.std.specs.Str.Parse.{digits_value, without_leading_plus}
 use Rattle.std.specs.declared.alloc.Global.{Global}
@@ -41,13 +18,10 @@ use Rattle.ebpf_base.specs.Faults.{first_some}
 use Rattle.ebpf_btf.specs.declared.error.BtfError.{BtfError}
 use Rattle.ebpf_btf.specs.declared.error.BtfError.TheVariants as types
 use Rattle.ebpf_ksyms.specs.declared.error.KsymsError.{KsymsError}
-use Rattle.ebpf_ksyms.specs.declared.error.KsymsError.TheVariants.{
-  BtfError as BtfFault,
-  KallsymsAccessError,
-  OutOfMemory,
-  AmbiguousResolution,
-  KallsymsParseError,
-}
+use Rattle.ebpf_ksyms.specs.declared.error.KsymsError.TheVariants.{BtfError as BtfFault}
+use Rattle.ebpf_ksyms.specs.declared.error.KsymsError.TheVariants.{KallsymsAccessError, OutOfMemory}
+use Rattle.ebpf_ksyms.specs.declared.error.KsymsError.TheVariants.{AmbiguousResolution}
+use Rattle.ebpf_ksyms.specs.declared.error.KsymsError.TheVariants.{KallsymsParseError}
 
 -- ---- refusals of the layers below, as refusals of resolution
 

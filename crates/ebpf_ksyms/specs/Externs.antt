@@ -2,31 +2,9 @@
 use Rattle.std.specs.FinMap.{FinMap, entries, from_sorted}
 use Rattle.std.specs.Iterator.{Yields}
 use Rattle.std.specs.List.{filter_map}
-use Rattle.std.specs.Prelude.{
-  ℕ,
-  List,
-  Bool,
-  true,
-  false,
-  Option,
-  Some,
-  None,
-  Result,
-  Ok,
-  Err,
-  unwrap_or,
-  ◌≡◌,
-  ◌&&◌,
-  ◌++◌,
-  [],
-  ◌∷◌,
-  map,
-  not,
-  nat_lt,
-  length,
-  if◌then◌else◌,
-  ◌⊎◌,
-}
+use Rattle.std.specs.Prelude.{ℕ, List, Bool, true, false, Option, Some, None, Result, Ok, Err}
+use Rattle.std.specs.Prelude.{unwrap_or, ◌≡◌, ◌&&◌, ◌++◌, [], ◌∷◌, map, not, nat_lt, length}
+use Rattle.std.specs.Prelude.{if◌then◌else◌, ◌⊎◌}
 use Rattle.ebpf_base.specs.Faults.{fault_of, first_some, if_ok}
 use Rattle.ebpf_base.specs.Maps.{text_cmp}
 use Rattle.ebpf_btf.specs.EssentialNames.{essential_name}
@@ -40,25 +18,15 @@ use Rattle.ebpf_btf.specs.declared.kind.BtfKind.TheVariants as kinds
 use Rattle.ebpf_btf.specs.declared.types.BtfType.{BtfType}
 use Rattle.ebpf_btf.specs.declared.types.BtfType.TheVariants.{Func, Var}
 use Rattle.ebpf_core_candidates.specs.Compatibility.{types_compatible}
-use Rattle.ebpf_ksyms.specs.Addresses.{
-  of_type_fault,
-  Item,
-  Line,
-  line_of_item,
-  lines_fault,
-  address_of,
-  Counts,
-  is_one_of,
-}
+use Rattle.ebpf_ksyms.specs.Addresses.{of_type_fault, Item, Line, line_of_item, lines_fault}
+use Rattle.ebpf_ksyms.specs.Addresses.{address_of, Counts, is_one_of}
 use Rattle.ebpf_ksyms.specs.declared.error.KsymsError.{KsymsError}
-use Rattle.ebpf_ksyms.specs.declared.error.KsymsError.TheVariants.{
-  FunctionNotFound,
-  IncompatibleFunctionSignature,
-  IncompatibleVariableType,
-  InvalidExternType,
-  VariableNotFound,
-  TypedKsymRequiresKernelBtf,
-}
+use Rattle.ebpf_ksyms.specs.declared.error.KsymsError.TheVariants.{FunctionNotFound}
+use Rattle.ebpf_ksyms.specs.declared.error.KsymsError.TheVariants.{IncompatibleFunctionSignature}
+use Rattle.ebpf_ksyms.specs.declared.error.KsymsError.TheVariants.{IncompatibleVariableType}
+use Rattle.ebpf_ksyms.specs.declared.error.KsymsError.TheVariants.{InvalidExternType}
+use Rattle.ebpf_ksyms.specs.declared.error.KsymsError.TheVariants.{VariableNotFound}
+use Rattle.ebpf_ksyms.specs.declared.error.KsymsError.TheVariants.{TypedKsymRequiresKernelBtf}
 use Rattle.ebpf_ksyms.specs.declared.ids.ExternKind.{ExternKind}
 use Rattle.ebpf_ksyms.specs.declared.ids.ExternKind.TheVariants.{Function, Variable}
 use Rattle.ebpf_model.specs.declared.symbol.ExternDesc.{ExternDesc}

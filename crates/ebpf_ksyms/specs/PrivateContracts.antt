@@ -1,23 +1,6 @@
 -- What contracts of private functions name and no public one: entries, ids and addresses in tables.
-use Rattle.std.specs.Prelude.{
-  ℕ,
-  List,
-  [],
-  ◌∷◌,
-  Option,
-  Some,
-  None,
-  if◌then◌else◌,
-  ◌≡◌,
-  true,
-  ◌++◌,
-  length,
-  map,
-  nat_lt,
-  Ok,
-  Err,
-  option_map,
-}
+use Rattle.std.specs.Prelude.{ℕ, List, [], ◌∷◌, Option, Some, None, if◌then◌else◌, ◌≡◌, true, ◌++◌}
+use Rattle.std.specs.Prelude.{length, map, nat_lt, Ok, Err, option_map}
 use Rattle.std.specs.FinMap.{empty}
 use Rattle.std.specs.List.{position_from, filter_map}
 use Rattle.std.specs.Option.{option_and_then}
@@ -33,31 +16,11 @@ use Rattle.ebpf_btf.specs.declared.kind.BtfKind.{BtfKind}
 use Rattle.ebpf_btf.specs.declared.types.BtfType.{BtfType}
 use Rattle.ebpf_btf.specs.declared.types.BtfType.TheVariants.{Func, Var}
 use Rattle.ebpf_core_candidates.specs.Candidates.{is_hash_marked, name_hash}
-use Rattle.ebpf_ksyms.specs.Addresses.{
-  is_one_of,
-  Item,
-  Line,
-  address_of,
-  line_of_item,
-  lines_fault,
-  address_if_named,
-  stated_fault,
-  Counts,
-  address_and_name,
-  stated_address,
-}
-use Rattle.ebpf_ksyms.specs.Externs.{
-  NamedExtern,
-  Externs,
-  is_typeless,
-  left_without,
-  with_address,
-  is_typed,
-  outcome_by,
-  with_outcome,
-  KernelIds,
-  lookup_key_of,
-}
+use Rattle.ebpf_ksyms.specs.Addresses.{is_one_of, Item, Line, address_of, line_of_item, lines_fault}
+use Rattle.ebpf_ksyms.specs.Addresses.{address_if_named, stated_fault, Counts, address_and_name}
+use Rattle.ebpf_ksyms.specs.Addresses.{stated_address}
+use Rattle.ebpf_ksyms.specs.Externs.{NamedExtern, Externs, is_typeless, left_without, with_address}
+use Rattle.ebpf_ksyms.specs.Externs.{is_typed, outcome_by, with_outcome, KernelIds, lookup_key_of}
 use Rattle.ebpf_ksyms.specs.declared.error.KsymsError.{KsymsError}
 use Rattle.ebpf_ksyms.specs.declared.ids.NameIds.{NameIds}
 use Rattle.ebpf_ksyms.specs.declared.ids.ExternKind.{ExternKind}

@@ -1,30 +1,7 @@
 -- Resolution with lines from a reader or from a text.
-use Rattle.std.specs.Prelude.{
-  ◌≡◌,
-  ℕ,
-  ◌<◌,
-  ◌⊎◌,
-  ⊤,
-  Bool,
-  true,
-  false,
-  List,
-  [],
-  ◌∷◌,
-  ◌++◌,
-  length,
-  map,
-  Option,
-  Some,
-  None,
-  Ok,
-  IfSome,
-  Err,
-  MatchBool,
-  MatchOption,
-  string_bytes,
-  if◌then◌else◌,
-}
+use Rattle.std.specs.Prelude.{◌≡◌, ℕ, ◌<◌, ◌⊎◌, ⊤, Bool, true, false, List, [], ◌∷◌, ◌++◌, length}
+use Rattle.std.specs.Prelude.{map, Option, Some, None, Ok, IfSome, Err, MatchBool, MatchOption}
+use Rattle.std.specs.Prelude.{string_bytes, if◌then◌else◌}
 use Rattle.std.specs.Io.BufRead.{drop_through, first_line}
 use Rattle.std.specs.IoError.{error_kind}
 use Rattle.std.specs.List.{AllByRecursion}
@@ -35,14 +12,8 @@ use Rattle.std.specs.declared.io.ErrorKind.TheVariants.{InvalidData}
 use Rattle.ebpf_base.specs.Faults.{or_else}
 use Rattle.ebpf_btf.specs.TypeInfo.{TypeInfo}
 use Rattle.ebpf_ksyms.specs.Addresses.{Line, Item, is_memory_kind}
-use Rattle.ebpf_ksyms.specs.Externs.{
-  Externs,
-  lines_refused,
-  names_refused,
-  reads_lines,
-  resolved_externs,
-  types_refused,
-}
+use Rattle.ebpf_ksyms.specs.Externs.{Externs, lines_refused, names_refused, reads_lines}
+use Rattle.ebpf_ksyms.specs.Externs.{resolved_externs, types_refused}
 use Rattle.ebpf_ksyms.specs.declared.error.KsymsError.{KsymsError}
 use Rattle.ebpf_ksyms.specs.declared.error.KsymsError.TheVariants.{KallsymsAccessError}
 

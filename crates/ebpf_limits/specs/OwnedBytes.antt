@@ -1,34 +1,7 @@
 -- How many bytes an object owns, and how many what is made of a file owns at most.
-use Rattle.std.specs.Prelude.{
-  ℕ,
-  List,
-  [],
-  Option,
-  Some,
-  None,
-  is_some,
-  if◌then◌else◌,
-  ◌+◌,
-  ◌∷◌,
-  ◌*◌,
-  length,
-  ◌-◌,
-  ◌%◌,
-  ◌^◌,
-  Bool,
-  true,
-  false,
-  map,
-  filter,
-  codes,
-  nat_lt,
-  min,
-  slice_get,
-  ◌≡◌,
-  ◌≤◌,
-  ◌<◌,
-  unwrap_or,
-}
+use Rattle.std.specs.Prelude.{ℕ, List, [], Option, Some, None, is_some, if◌then◌else◌, ◌+◌, ◌∷◌}
+use Rattle.std.specs.Prelude.{◌*◌, length, ◌-◌, ◌%◌, ◌^◌, Bool, true, false, map, filter, codes}
+use Rattle.std.specs.Prelude.{nat_lt, min, slice_get, ◌≡◌, ◌≤◌, ◌<◌, unwrap_or}
 use Rattle.std.specs.Result.{result_ok}
 use Rattle.std.specs.FinMap.{entries, FinMap}
 use Rattle.std.specs.Ordering.{nat_cmp}
@@ -44,14 +17,8 @@ use Rattle.ebpf_base.specs.declared.endianness.Endianness.{Endianness}
 use Rattle.ebpf_btf.specs.Format.{word}
 use Rattle.ebpf_btf.specs.Words.{types_length}
 use Rattle.ebpf_elf.specs.Relocations.{relocation_sections, relocated_section, entry_count}
-use Rattle.ebpf_elf.specs.Symbols.{
-  SymbolOf,
-  entry,
-  symbols,
-  symbol_name,
-  symbol_kind,
-  symbol_section_index,
-}
+use Rattle.ebpf_elf.specs.Symbols.{SymbolOf, entry, symbols, symbol_name, symbol_kind}
+use Rattle.ebpf_elf.specs.Symbols.{symbol_section_index}
 use Rattle.ebpf_elf.specs.declared.relocation.ElfRelocation.{ElfRelocation}
 use Rattle.ebpf_elf.specs.declared.symbol.SymbolEntry.{SymbolEntry}
 use Rattle.ebpf_btf_ext.specs.ExtFormat.{func_part, line_part, core_relo_part, part_length}
@@ -66,31 +33,17 @@ use Rattle.ebpf_model.specs.declared.function.Program.{Program}
 use Rattle.ebpf_model.specs.declared.symbol.Symbol.{Symbol}
 use Rattle.ebpf_object.specs.Objects.{object_as, parse_fault_as}
 use Rattle.ebpf_object.specs.declared.object.Object.{Object}
-use Rattle.ebpf_parsing.specs.Records.{
-  func_info_of,
-  line_info_of,
-  is_func_at,
-  is_line_in,
-  slot_of_func,
-  slot_of_line,
-  slot_of,
-  rises_from,
-}
+use Rattle.ebpf_parsing.specs.Records.{func_info_of, line_info_of, is_func_at, is_line_in}
+use Rattle.ebpf_parsing.specs.Records.{slot_of_func, slot_of_line, slot_of, rises_from}
 use Rattle.ebpf_parsing.specs.Symbols.{is_text_symbol}
 use Rattle.ebpf_parts.specs.Maps.{bytes_of}
 use Rattle.ebpf_parts.specs.Sections.{kind_of_section, name_or_empty}
 use Rattle.ebpf_parts.specs.declared.maps.either.Map.{Map}
 use Rattle.ebpf_parts.specs.declared.parse_mode.ParseMode.{ParseMode}
 use Rattle.ebpf_parts.specs.declared.section.EbpfSectionKind.{EbpfSectionKind}
-use Rattle.ebpf_parts.specs.declared.section.EbpfSectionKind.TheVariants.{
-  Maps,
-  BtfMaps,
-  Data,
-  Rodata,
-  Bss,
-  Text,
-  Program as Programs,
-}
+use Rattle.ebpf_parts.specs.declared.section.EbpfSectionKind.TheVariants.{Maps, BtfMaps, Data}
+use Rattle.ebpf_parts.specs.declared.section.EbpfSectionKind.TheVariants.{Rodata, Bss, Text}
+use Rattle.ebpf_parts.specs.declared.section.EbpfSectionKind.TheVariants.{Program as Programs}
 
 -- ---- what can be read of a file's sections before any other fault of the file is known. Data
 -- outside the file, and type information with a fault, is none here: a file with such a section is

@@ -1,30 +1,8 @@
 -- The copies of functions in a linked program: their slots, their references, and what writing them
 -- needs.
-use Rattle.std.specs.Prelude.{
-  ◌≡◌,
-  ℕ,
-  ◌+◌,
-  pos,
-  ◌-ℤ◌,
-  List,
-  [],
-  ◌∷◌,
-  ◌++◌,
-  length,
-  slice_index,
-  slice_set,
-  None,
-  Vec,
-  Option,
-  Some,
-  slice_get,
-  ◌<◌,
-  ◌≤◌,
-  All,
-  Result,
-  Ok,
-  Err,
-}
+use Rattle.std.specs.Prelude.{◌≡◌, ℕ, ◌+◌, pos, ◌-ℤ◌, List, [], ◌∷◌, ◌++◌, length, slice_index}
+use Rattle.std.specs.Prelude.{slice_set, None, Vec, Option, Some, slice_get, ◌<◌, ◌≤◌, All, Result}
+use Rattle.std.specs.Prelude.{Ok, Err}
 use Rattle.std.specs.declared.alloc.Global.{Global}
 use Rattle.ebpf_linker.specs.Faults.{content_fault, checked_references, LeastFault}
 use Rattle.ebpf_linker.specs.Functions.{relinked, SlotReference, Nothing, Faulty, Names, Among}

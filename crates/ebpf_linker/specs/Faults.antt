@@ -1,43 +1,12 @@
 -- What may be wrong with linking a program, where it stands, and which of it is the least.
-use Rattle.std.specs.Prelude.{
-  ◌≡◌,
-  ℕ,
-  ◌+◌,
-  ◌-◌,
-  ◌^◌,
-  Bool,
-  true,
-  false,
-  not,
-  ◌||◌,
-  if◌then◌else◌,
-  nat_lt,
-  nat_le,
-  ◌⊎◌,
-  List,
-  [],
-  ◌∷◌,
-  ◌++◌,
-  length,
-  Option,
-  Some,
-}
+use Rattle.std.specs.Prelude.{◌≡◌, ℕ, ◌+◌, ◌-◌, ◌^◌, Bool, true, false, not, ◌||◌, if◌then◌else◌}
+use Rattle.std.specs.Prelude.{nat_lt, nat_le, ◌⊎◌, List, [], ◌∷◌, ◌++◌, length, Option, Some}
 use Rattle.std.specs.List.{list_any}
 use Rattle.ebpf_base.specs.Faults.{first_of}
 use Rattle.ebpf_btf_ext.specs.declared.ext_infos.bpf_line_info.{bpf_line_info}
-use Rattle.ebpf_linker.specs.Functions.{
-  SlotReference,
-  Nothing,
-  Faulty,
-  Names,
-  References,
-  FunctionContent,
-  Functions,
-  content_at,
-  Among,
-  Distinct,
-  total,
-}
+use Rattle.ebpf_linker.specs.Functions.{SlotReference, Nothing, Faulty, Names, References}
+use Rattle.ebpf_linker.specs.Functions.{FunctionContent, Functions, content_at, Among, Distinct}
+use Rattle.ebpf_linker.specs.Functions.{total}
 use Rattle.ebpf_linker.specs.Order.{Before, KeyPath, HasReferenceFault}
 
 abbrev pub same : Bool → Bool → Bool

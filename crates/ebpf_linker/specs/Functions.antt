@@ -1,44 +1,11 @@
 -- Functions by their keys, what their slots refer to and do, and what a linked program is.
-use Rattle.std.specs.Prelude.{
-  ℕ,
-  ◌/◌,
-  ◌%◌,
-  ℤ,
-  pos,
-  negsuc,
-  Bool,
-  ◌&&◌,
-  ◌||◌,
-  not,
-  ◌==◌,
-  if◌then◌else◌,
-  List,
-  Option,
-  None,
-  slice_get,
-  ◌≡◌,
-  ◌+◌,
-  ◌-ℤ◌,
-  ◌⊎◌,
-  [],
-  ◌∷◌,
-  length,
-  Some,
-}
+use Rattle.std.specs.Prelude.{ℕ, ◌/◌, ◌%◌, ℤ, pos, negsuc, Bool, ◌&&◌, ◌||◌, not, ◌==◌}
+use Rattle.std.specs.Prelude.{if◌then◌else◌, List, Option, None, slice_get, ◌≡◌, ◌+◌, ◌-ℤ◌, ◌⊎◌, []}
+use Rattle.std.specs.Prelude.{◌∷◌, length, Some}
 use Rattle.ebpf_btf_ext.specs.declared.ext_infos.bpf_func_info.{bpf_func_info}
 use Rattle.ebpf_btf_ext.specs.declared.ext_infos.bpf_line_info.{bpf_line_info}
-use Rattle.ebpf_parts.specs.Slots.{
-  class_jmp,
-  class_jmp32,
-  exit,
-  ld_imm64,
-  ja,
-  ja32,
-  pseudo_func,
-  dst_of,
-  registers,
-  is_pseudo_call,
-}
+use Rattle.ebpf_parts.specs.Slots.{class_jmp, class_jmp32, exit, ld_imm64, ja, ja32, pseudo_func}
+use Rattle.ebpf_parts.specs.Slots.{dst_of, registers, is_pseudo_call}
 use Rattle.ebpf_parts.specs.declared.insn.bpf_insn.{bpf_insn}
 
 -- ---- what a slot does to the flow of control (RFC 9669, sections 4.3 and 5.4)

@@ -1,19 +1,6 @@
 -- What a linked program is made of: the copies of functions, and the references between them.
-use Rattle.std.specs.Prelude.{
-  ◌≡◌,
-  ℕ,
-  ◌+◌,
-  ◌≤◌,
-  List,
-  [],
-  ◌∷◌,
-  length,
-  map,
-  Some,
-  slice_get,
-  pos,
-  ◌-ℤ◌,
-}
+use Rattle.std.specs.Prelude.{◌≡◌, ℕ, ◌+◌, ◌≤◌, List, [], ◌∷◌, length, map, Some, slice_get, pos}
+use Rattle.std.specs.Prelude.{◌-ℤ◌}
 use Rattle.ebpf_linker.specs.Functions.{Names, Functions, body, Among, BeginsAt}
 use Rattle.ebpf_linker.specs.Result.{IsLayout}
 use Rattle.ebpf_linker.specs.declared.link_map.NumberedCopy.{NumberedCopy}

@@ -1,50 +1,12 @@
 -- The flow of control of the separate functions and of the linked program.
-use Rattle.std.specs.Prelude.{
-  ◌≡◌,
-  ◌≢◌,
-  ℕ,
-  zero,
-  suc,
-  ◌-◌,
-  ℤ,
-  pos,
-  negsuc,
-  ◌+ℤ◌,
-  Bool,
-  true,
-  nat_lt,
-  if◌then◌else◌,
-  ◌⊎◌,
-  List,
-  [],
-  ◌∷◌,
-  map,
-  length,
-  Option,
-  Some,
-  None,
-  slice_get,
-}
+use Rattle.std.specs.Prelude.{◌≡◌, ◌≢◌, ℕ, zero, suc, ◌-◌, ℤ, pos, negsuc, ◌+ℤ◌, Bool, true, nat_lt}
+use Rattle.std.specs.Prelude.{if◌then◌else◌, ◌⊎◌, List, [], ◌∷◌, map, length, Option, Some, None}
+use Rattle.std.specs.Prelude.{slice_get}
 use Rattle.ebpf_parts.specs.declared.insn.bpf_insn.{bpf_insn}
 use Rattle.ebpf_parts.specs.Slots.{ld_imm64, is_pseudo_call}
-use Rattle.ebpf_linker.specs.Functions.{
-  Flow,
-  Return,
-  PseudoCall,
-  WideLoad,
-  Jump,
-  Branch,
-  Next,
-  flow,
-  slot_at_integer,
-  SlotReference,
-  Nothing,
-  Faulty,
-  Names,
-  Functions,
-  body,
-  Among,
-}
+use Rattle.ebpf_linker.specs.Functions.{Flow, Return, PseudoCall, WideLoad, Jump, Branch, Next}
+use Rattle.ebpf_linker.specs.Functions.{flow, slot_at_integer, SlotReference, Nothing, Faulty}
+use Rattle.ebpf_linker.specs.Functions.{Names, Functions, body, Among}
 
 -- code over places of some kind: the slot at a place, the place so many slots further, and where a
 -- call goes

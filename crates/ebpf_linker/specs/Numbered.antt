@@ -1,41 +1,17 @@
 -- Functions by their numbers.
-use Rattle.std.specs.Prelude.{
-  ℕ,
-  ◌+◌,
-  ◌<◌,
-  ◌≤◌,
-  ◌==◌,
-  if◌then◌else◌,
-  List,
-  [],
-  ◌∷◌,
-  Option,
-  Some,
-  None,
-  slice_get,
-  Vec,
-  All,
-}
+use Rattle.std.specs.Prelude.{ℕ, ◌+◌, ◌<◌, ◌≤◌, ◌==◌, if◌then◌else◌, List, [], ◌∷◌, Option, Some}
+use Rattle.std.specs.Prelude.{None, slice_get, Vec, All}
 use Rattle.std.specs.Coded.{×_prop, Unit-prop, le_prop}
 use Rattle.std.specs.declared.alloc.Global.{Global}
 use Rattle.ebpf_linker.specs.declared.body.Body.{Body}
 use Rattle.ebpf_linker.specs.declared.reference.Fault.{Fault}
-use Rattle.ebpf_linker.specs.declared.reference.Fault.TheVariants.{
-  FunctionInfoMismatch,
-  ProgramTooLong,
-  InvalidLineInfo,
-}
+use Rattle.ebpf_linker.specs.declared.reference.Fault.TheVariants.{FunctionInfoMismatch}
+use Rattle.ebpf_linker.specs.declared.reference.Fault.TheVariants.{ProgramTooLong, InvalidLineInfo}
 use Rattle.ebpf_linker.specs.declared.reference.Target.{Target}
 use Rattle.ebpf_linker.specs.declared.reference.Target.TheVariants.{Function, Nowhere}
 use Rattle.ebpf_linker.specs.declared.reference.Reference.{Reference}
-use Rattle.ebpf_linker.specs.Functions.{
-  SlotReference,
-  Nothing,
-  Faulty,
-  Names,
-  FunctionContent,
-  Functions,
-}
+use Rattle.ebpf_linker.specs.Functions.{SlotReference, Nothing, Faulty, Names, FunctionContent}
+use Rattle.ebpf_linker.specs.Functions.{Functions}
 
 abbrev pub of_target : Target → SlotReference ℕ Fault
 of_target (Function k) = Names k

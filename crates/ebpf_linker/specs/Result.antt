@@ -1,44 +1,11 @@
 -- What linking gives: the functions in their order, the records, and the program.
-use Rattle.std.specs.Prelude.{
-  ◌≡◌,
-  ◌≢◌,
-  ℕ,
-  List,
-  ◌∷◌,
-  Some,
-  ◌+◌,
-  ◌-◌,
-  ◌%◌,
-  ◌^◌,
-  Bool,
-  false,
-  ◌||◌,
-  if◌then◌else◌,
-  [],
-  ◌++◌,
-  map,
-  length,
-  Option,
-  None,
-  ◌≤◌,
-}
+use Rattle.std.specs.Prelude.{◌≡◌, ◌≢◌, ℕ, List, ◌∷◌, Some, ◌+◌, ◌-◌, ◌%◌, ◌^◌, Bool, false, ◌||◌}
+use Rattle.std.specs.Prelude.{if◌then◌else◌, [], ◌++◌, map, length, Option, None, ◌≤◌}
 use Rattle.ebpf_btf_ext.specs.declared.ext_infos.bpf_func_info.{bpf_func_info}
 use Rattle.ebpf_btf_ext.specs.declared.ext_infos.bpf_line_info.{bpf_line_info}
 use Rattle.ebpf_linker.specs.Faults.{checked_references, Faultless, has_some, first_line}
-use Rattle.ebpf_linker.specs.Functions.{
-  Nothing,
-  Names,
-  References,
-  FunctionContent,
-  Functions,
-  Among,
-  Distinct,
-  Reached,
-  content_at,
-  body,
-  Linked,
-  total,
-}
+use Rattle.ebpf_linker.specs.Functions.{Nothing, Names, References, FunctionContent, Functions}
+use Rattle.ebpf_linker.specs.Functions.{Among, Distinct, Reached, content_at, body, Linked, total}
 use Rattle.ebpf_linker.specs.Order.{InKeyPathOrder}
 use Rattle.ebpf_linker.specs.declared.body.LinkedProgram.{LinkedProgram}
 

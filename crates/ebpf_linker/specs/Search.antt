@@ -1,32 +1,7 @@
 -- The search for functions: one step, and what it answers.
-use Rattle.std.specs.Prelude.{
-  ◌≡◌,
-  ℕ,
-  ◌≤◌,
-  List,
-  ◌∷◌,
-  take,
-  Some,
-  None,
-  slice_get,
-  Vec,
-  Result,
-  Ok,
-  Err,
-  ◌+◌,
-  Bool,
-  true,
-  false,
-  if◌then◌else◌,
-  [],
-  ◌++◌,
-  length,
-  map,
-  Option,
-  slice_set,
-  slice_index_or,
-  MatchOption,
-}
+use Rattle.std.specs.Prelude.{◌≡◌, ℕ, ◌≤◌, List, ◌∷◌, take, Some, None, slice_get, Vec, Result, Ok}
+use Rattle.std.specs.Prelude.{Err, ◌+◌, Bool, true, false, if◌then◌else◌, [], ◌++◌, length, map}
+use Rattle.std.specs.Prelude.{Option, slice_set, slice_index_or, MatchOption}
 use Rattle.std.specs.declared.alloc.Global.{Global}
 use Rattle.std.specs.Bool.{MatchBool}
 use Rattle.ebpf_linker.specs.Faults.{append_fault, Faultless, LeastFault, same, has_some}

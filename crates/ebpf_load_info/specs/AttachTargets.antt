@@ -1,23 +1,8 @@
 -- What a program is attached to, as the id of a type, by the name of its section (libbpf 1.5,
 -- libbpf.c: libbpf_prepare_prog_load, find_kernel_btf_id, find_attach_btf_id,
 -- btf_get_kernel_prefix_kind).
-use Rattle.std.specs.Prelude.{
-  ℕ,
-  ◌==◌,
-  List,
-  [],
-  ◌∷◌,
-  ◌++◌,
-  codes,
-  Option,
-  Some,
-  None,
-  unwrap_or,
-  ◌≡◌,
-  Bool,
-  false,
-  is_some,
-}
+use Rattle.std.specs.Prelude.{ℕ, ◌==◌, List, [], ◌∷◌, ◌++◌, codes, Option, Some, None, unwrap_or}
+use Rattle.std.specs.Prelude.{◌≡◌, Bool, false, is_some}
 use Rattle.std.specs.List.{after_first}
 use Rattle.std.specs.Option.{option_map_or}
 use Rattle.ebpf_btf.specs.Strings.{id_of_name}
@@ -26,19 +11,11 @@ use Rattle.ebpf_btf.specs.declared.kind.BtfKind.{BtfKind}
 use Rattle.ebpf_btf.specs.declared.kind.BtfKind.TheVariants as kinds
 use Rattle.ebpf_load_info.specs.KernelNumbers.{without_prefix}
 use Rattle.ebpf_load_info.specs.declared.attach.AttachTarget.{AttachTarget}
-use Rattle.ebpf_load_info.specs.declared.attach.AttachTarget.TheVariants.{
-  NotWanted,
-  Unnamed,
-  Found,
-  NotFound,
-}
+use Rattle.ebpf_load_info.specs.declared.attach.AttachTarget.TheVariants.{NotWanted, Unnamed, Found}
+use Rattle.ebpf_load_info.specs.declared.attach.AttachTarget.TheVariants.{NotFound}
 use Rattle.ebpf_load_info.specs.declared.attach.TargetKind.{TargetKind}
-use Rattle.ebpf_load_info.specs.declared.attach.TargetKind.TheVariants.{
-  TracePoint,
-  SecurityHook,
-  Iterator,
-  Function,
-}
+use Rattle.ebpf_load_info.specs.declared.attach.TargetKind.TheVariants.{TracePoint, SecurityHook}
+use Rattle.ebpf_load_info.specs.declared.attach.TargetKind.TheVariants.{Iterator, Function}
 use Rattle.ebpf_parts.specs.ProgramTypes.{without_mark, first_piece, lookup_piece, program_kind}
 use Rattle.ebpf_parts.specs.declared.programs.kind.ProgramKind.{ProgramKind}
 

@@ -1,24 +1,7 @@
 -- The numbers that a kernel knows, by the enumerators of its types (the kernel's
 -- include/uapi/linux/bpf.h, enum bpf_func_id and enum bpf_map_type).
-use Rattle.std.specs.Prelude.{
-  ℕ,
-  List,
-  length,
-  drop,
-  nat_eq,
-  Option,
-  Some,
-  None,
-  if◌then◌else◌,
-  Bool,
-  not,
-  ◌&&◌,
-  ◌==◌,
-  [],
-  codes,
-  option_map,
-  find,
-}
+use Rattle.std.specs.Prelude.{ℕ, List, length, drop, nat_eq, Option, Some, None, if◌then◌else◌}
+use Rattle.std.specs.Prelude.{Bool, not, ◌&&◌, ◌==◌, [], codes, option_map, find}
 use Rattle.std.specs.List.{starts_with, list_any}
 use Rattle.std.specs.Str.{is_utf8}
 use Rattle.std.specs.Option.{option_and_then}

@@ -1,23 +1,8 @@
 -- The types of keys and values that maps are created with (BPF_MAP_CREATE: btf_key_type_id and
 -- btf_value_type_id; libbpf 1.5, libbpf.c: bpf_object__create_map, bpf_map_find_btf_info,
 -- bpf_map__set_value_size).
-use Rattle.std.specs.Prelude.{
-  ℕ,
-  Bool,
-  true,
-  false,
-  ◌==◌,
-  ◌&&◌,
-  ◌||◌,
-  nat_eq,
-  List,
-  [],
-  ◌∷◌,
-  length,
-  slice_get,
-  unwrap_or,
-  if◌then◌else◌,
-}
+use Rattle.std.specs.Prelude.{ℕ, Bool, true, false, ◌==◌, ◌&&◌, ◌||◌, nat_eq, List, [], ◌∷◌, length}
+use Rattle.std.specs.Prelude.{slice_get, unwrap_or, if◌then◌else◌}
 use Rattle.std.specs.List.{list_any}
 use Rattle.std.specs.Option.{option_and_then, option_map_or}
 use Rattle.ebpf_btf.specs.Strings.{id_of_name}

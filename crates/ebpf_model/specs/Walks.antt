@@ -1,24 +1,6 @@
 -- What a pass keeps of a function: all of it but the slots, and how many these are.
-use Rattle.std.specs.Prelude.{
-  ◌≡◌,
-  length,
-  Option,
-  Some,
-  None,
-  IsSomeAnd,
-  MatchOption,
-  ◌≤◌,
-  ◌==◌,
-  ◌^◌,
-  ℕ,
-  Bool,
-  false,
-  nat_lt,
-  if◌then◌else◌,
-  List,
-  [],
-  ◌∷◌,
-}
+use Rattle.std.specs.Prelude.{◌≡◌, length, Option, Some, None, IsSomeAnd, MatchOption, ◌≤◌, ◌==◌}
+use Rattle.std.specs.Prelude.{◌^◌, ℕ, Bool, false, nat_lt, if◌then◌else◌, List, [], ◌∷◌}
 use Rattle.std.specs.FinMap.{FinMap, get, entries}
 use Rattle.std.specs.Option.{option_copied}
 use Rattle.std.specs.Ordering.{nat_cmp}

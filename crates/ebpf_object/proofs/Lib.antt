@@ -10,3 +10,5 @@ pub mod OneResolution
 pub mod Headline
 pub mod MapNames
 pub mod Modes
+pub mod VariableValues
+pub mod VariableNames

@@ -11,39 +11,16 @@
 -- wide load, as long as the separate run hasn't left its function, and neither machine enters a
 -- function that a helper calls back. A value that doesn't exist is a poisoned slot. No public field
 -- is written by hand between the calls.
-use Rattle.std.specs.Prelude.{
-  ◌≡◌,
-  ◌⊎◌,
-  ℕ,
-  ◌+◌,
-  List,
-  ◌∷◌,
-  Option,
-  Some,
-  None,
-  option_map,
-  Ok,
-  if◌then◌else◌,
-  slice_get,
-  MatchBool,
-}
+use Rattle.std.specs.Prelude.{◌≡◌, ◌⊎◌, ℕ, ◌+◌, List, ◌∷◌, Option, Some, None, option_map, Ok}
+use Rattle.std.specs.Prelude.{if◌then◌else◌, slice_get, MatchBool}
 use Rattle.std.specs.FinMap.{get}
 use Rattle.ebpf_btf_ext.specs.ExtReading.{ExtInfo}
 use Rattle.ebpf_btf.specs.TypeInfo.{TypeInfo}
 use Rattle.ebpf_btf_ext.specs.declared.relocation.Relocation.{Relocation}
-use Rattle.ebpf_core_relo.specs.RecordOutcomes.{
-  records_with_sections,
-  Touches,
-  WritesAlone,
-  Carries,
-}
-use Rattle.ebpf_core_relo.specs.Records.{
-  RelocationInputs,
-  Written,
-  own_slots,
-  relocation_inputs_between,
-  slots_written,
-}
+use Rattle.ebpf_core_relo.specs.RecordOutcomes.{records_with_sections, Touches, WritesAlone}
+use Rattle.ebpf_core_relo.specs.RecordOutcomes.{Carries}
+use Rattle.ebpf_core_relo.specs.Records.{RelocationInputs, Written, own_slots}
+use Rattle.ebpf_core_relo.specs.Records.{relocation_inputs_between, slots_written}
 use Rattle.ebpf_ksyms.specs.Sources.{Source}
 use Rattle.ebpf_linker.specs.Functions.{Functions, Nothing, BeginsAt}
 use Rattle.ebpf_object.specs.Chain.{Passes, Chain}

@@ -2,6 +2,7 @@ pub mod Objects
 pub mod LinkedPrograms
 pub mod OlderHelpers
 pub mod Patches
+pub mod Variables
 pub mod TypedExterns
 pub mod Names
 pub mod WrittenSlots

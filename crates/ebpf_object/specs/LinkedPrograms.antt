@@ -1,21 +1,6 @@
 -- Linking the programs of an object with the functions that they reach.
-use Rattle.std.specs.Prelude.{
-  ◌≡◌,
-  ℕ,
-  Bool,
-  List,
-  map,
-  Some,
-  MatchBool,
-  slice_get,
-  Option,
-  None,
-  Result,
-  Ok,
-  Err,
-  ⊤,
-  option_and_then,
-}
+use Rattle.std.specs.Prelude.{◌≡◌, ℕ, Bool, List, map, Some, MatchBool, slice_get, Option, None}
+use Rattle.std.specs.Prelude.{Result, Ok, Err, ⊤, option_and_then}
 use Rattle.std.specs.FinMap.{FinMap, get, entries}
 use Rattle.std.specs.List.{list_any}
 use Rattle.std.specs.Ordering.{eq_by_cmp}

@@ -1,15 +1,6 @@
 -- The names of sections, by their indices.
-use Rattle.std.specs.Prelude.{
-  ℕ,
-  ◌==◌,
-  List,
-  Option,
-  option_and_then,
-  Some,
-  None,
-  fold,
-  if◌then◌else◌,
-}
+use Rattle.std.specs.Prelude.{ℕ, ◌==◌, List, Option, option_and_then, Some, None, fold}
+use Rattle.std.specs.Prelude.{if◌then◌else◌}
 use Rattle.std.specs.List.{find, list_any}
 use Rattle.std.specs.FinMap.{FinMap, entries, get, insert, contains_key}
 use Rattle.std.specs.Ordering.{nat_cmp}

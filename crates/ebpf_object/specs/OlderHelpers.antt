@@ -1,19 +1,7 @@
 -- Calls of helper functions that older kernels lack, and of the older functions in their place
 -- (helper functions by their numbers in the kernel's `bpf_func_id`).
-use Rattle.std.specs.Prelude.{
-  ◌≡◌,
-  ℤ,
-  pos,
-  Bool,
-  true,
-  false,
-  ◌&&◌,
-  ◌||◌,
-  map,
-  MatchBool,
-  option_map,
-  if◌then◌else◌,
-}
+use Rattle.std.specs.Prelude.{◌≡◌, ℤ, pos, Bool, true, false, ◌&&◌, ◌||◌, map, MatchBool}
+use Rattle.std.specs.Prelude.{option_map, if◌then◌else◌}
 use Rattle.std.specs.FinMap.{FinMap, get, entries}
 use Rattle.std.specs.List.{list_any}
 use Rattle.std.specs.Ordering.{int_eq}

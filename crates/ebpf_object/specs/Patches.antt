@@ -1,34 +1,7 @@
 -- Values of global variables, written into the data of the maps that hold them.
-use Rattle.std.specs.Prelude.{
-  ℕ,
-  ◌+◌,
-  ◌==◌,
-  nat_le,
-  Bool,
-  List,
-  [],
-  ◌∷◌,
-  ◌++◌,
-  length,
-  take,
-  drop,
-  fold,
-  Option,
-  Some,
-  None,
-  option_map,
-  unwrap_or,
-  Result,
-  Ok,
-  Err,
-  if◌then◌else◌,
-  map,
-  ◌≡◌,
-  ◌-◌,
-  ◌<◌,
-  ◌≤◌,
-  slice_get,
-}
+use Rattle.std.specs.Prelude.{ℕ, ◌+◌, ◌==◌, nat_le, Bool, List, [], ◌∷◌, ◌++◌, length, take, drop}
+use Rattle.std.specs.Prelude.{fold, Option, Some, None, option_map, unwrap_or, Result, Ok, Err}
+use Rattle.std.specs.Prelude.{if◌then◌else◌, map, ◌≡◌, ◌-◌, ◌<◌, ◌≤◌, slice_get}
 use Rattle.std.specs.FinMap.{FinMap, get, insert, entries, empty, from_entries}
 use Rattle.std.specs.List.{find, flat_map}
 use Rattle.std.specs.Map.{keys_of}
@@ -41,11 +14,8 @@ use Rattle.ebpf_base.specs.Maps.{put_all, text_cmp}
 use Rattle.ebpf_model.specs.declared.symbol.Symbol.{Symbol}
 use Rattle.ebpf_parts.specs.Maps.{bytes_of, with_bytes, section_index_of}
 use Rattle.ebpf_parts.specs.declared.error.ParseError.{ParseError}
-use Rattle.ebpf_parts.specs.declared.error.ParseError.TheVariants.{
-  SymbolNotFound,
-  InvalidGlobalData,
-  MapNotFound,
-}
+use Rattle.ebpf_parts.specs.declared.error.ParseError.TheVariants.{SymbolNotFound}
+use Rattle.ebpf_parts.specs.declared.error.ParseError.TheVariants.{InvalidGlobalData, MapNotFound}
 use Rattle.ebpf_parts.specs.declared.maps.either.Map.{Map}
 
 -- bytes for the data of a map from an offset on

@@ -1,22 +1,7 @@
 -- A file, prepared: its object after the chosen stages, one after the other, or the fault of the
 -- first that has one.
-use Rattle.std.specs.Prelude.{
-  ◌≡◌,
-  ⊤,
-  ℕ,
-  Bool,
-  true,
-  false,
-  List,
-  [],
-  Some,
-  None,
-  MatchBool,
-  ◌||◌,
-  Result,
-  Ok,
-  Err,
-}
+use Rattle.std.specs.Prelude.{◌≡◌, ⊤, ℕ, Bool, true, false, List, [], Some, None, MatchBool, ◌||◌}
+use Rattle.std.specs.Prelude.{Result, Ok, Err}
 use Rattle.ebpf_core_relo.specs.Records.{without_texts_at}
 use Rattle.ebpf_core_relo.specs.Records as types_relocation
 use Rattle.ebpf_ksyms.specs.Addresses as resolving
@@ -25,30 +10,15 @@ use Rattle.ebpf_ksyms.specs.declared.error.KsymsError.{KsymsError}
 use Rattle.ebpf_ksyms.specs.declared.error.KsymsError.TheVariants.{KallsymsAccessError}
 use Rattle.ebpf_model.specs.Memory as relocating
 use Rattle.ebpf_object.specs.Objects.{object_as, parse_fault_as}
-use Rattle.ebpf_object.specs.Stages.{
-  RelocatesTypes,
-  TypesFault,
-  fds_fault,
-  Resolves,
-  ResolvingFault,
-  with_externs_if,
-  externs_fault_if,
-  LinksPrograms,
-  LinkingFault,
-  Chosen,
-}
+use Rattle.ebpf_object.specs.Stages.{RelocatesTypes, TypesFault, fds_fault, Resolves}
+use Rattle.ebpf_object.specs.Stages.{ResolvingFault, with_externs_if, externs_fault_if}
+use Rattle.ebpf_object.specs.Stages.{LinksPrograms, LinkingFault, Chosen}
 use Rattle.ebpf_object.specs.Stages as stage
 use Rattle.ebpf_object.specs.declared.object.Object.{Object}
 use Rattle.ebpf_object.specs.declared.prepare_error.PrepareError.{PrepareError}
-use Rattle.ebpf_object.specs.declared.prepare_error.PrepareError.TheVariants.{
-  Parse,
-  Types,
-  Maps,
-  Ksyms,
-  Externs,
-  Calls,
-  OutOfMemory,
-}
+use Rattle.ebpf_object.specs.declared.prepare_error.PrepareError.TheVariants.{Parse, Types, Maps}
+use Rattle.ebpf_object.specs.declared.prepare_error.PrepareError.TheVariants.{Ksyms, Externs, Calls}
+use Rattle.ebpf_object.specs.declared.prepare_error.PrepareError.TheVariants.{OutOfMemory}
 use Rattle.ebpf_parts.specs.Memory as parsing
 use Rattle.ebpf_parts.specs.declared.parse_mode.ParseMode.{ParseMode}
 

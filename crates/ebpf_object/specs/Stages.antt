@@ -1,24 +1,6 @@
 -- What is chosen of the passes over an object.
-use Rattle.std.specs.Prelude.{
-  ℕ,
-  ℤ,
-  pos,
-  ◌+ℤ◌,
-  Bool,
-  List,
-  [],
-  ◌∷◌,
-  map,
-  Option,
-  option_map,
-  is_some,
-  ◌≡◌,
-  true,
-  false,
-  Some,
-  None,
-  Err,
-}
+use Rattle.std.specs.Prelude.{ℕ, ℤ, pos, ◌+ℤ◌, Bool, List, [], ◌∷◌, map, Option, option_map}
+use Rattle.std.specs.Prelude.{is_some, ◌≡◌, true, false, Some, None, Err}
 use Rattle.std.specs.Option.{option_copied}
 use Rattle.std.specs.FinMap.{FinMap, get}
 use Rattle.std.specs.Int.{w32, saturate_signed}
@@ -32,14 +14,8 @@ use Rattle.ebpf_ksyms.specs.Sources.{IsRefusedFrom, IsResolvedFrom, Source}
 use Rattle.ebpf_ksyms.specs.declared.error.KsymsError.{KsymsError}
 use Rattle.ebpf_model.specs.declared.error.EbpfRelocationError.{EbpfRelocationError}
 use Rattle.ebpf_object.specs.LinkedPrograms.{linkable_of, programs_in_order, ProgramsAreLinked}
-use Rattle.ebpf_object.specs.WrittenSlots.{
-  relocated_slots,
-  AreRelocatedToTypes,
-  with_maps,
-  maps_fault,
-  with_externs,
-  externs_fault,
-}
+use Rattle.ebpf_object.specs.WrittenSlots.{relocated_slots, AreRelocatedToTypes, with_maps}
+use Rattle.ebpf_object.specs.WrittenSlots.{maps_fault, with_externs, externs_fault}
 use Rattle.ebpf_object.specs.Names.{has_function_in}
 use Rattle.ebpf_object.specs.declared.object.Object.{Object}
 use Rattle.ebpf_object.specs.declared.prepare.Steps.{Steps}

@@ -1,32 +1,14 @@
 -- An object with descriptors of maps, and with ids and addresses of externs, in the slots of its
 -- functions.
-use Rattle.std.specs.Prelude.{
-  List,
-  Option,
-  None,
-  is_some,
-  if◌then◌else◌,
-  ◌≡◌,
-  Some,
-  Result,
-  Ok,
-  [],
-  map,
-}
+use Rattle.std.specs.Prelude.{List, Option, None, is_some, if◌then◌else◌, ◌≡◌, Some, Result, Ok, []}
+use Rattle.std.specs.Prelude.{map}
 use Rattle.std.specs.FinMap.{FinMap, empty, get}
 use Rattle.ebpf_base.specs.Maps.{key_cmp, map_values}
 use Rattle.ebpf_btf.specs.TypeInfo.{TypeInfo}
-use Rattle.ebpf_core_relo.specs.RecordOutcomes.{
-  record_outcomes,
-  record_slots,
-  outcome_without_texts,
-}
-use Rattle.ebpf_core_relo.specs.Records.{
-  Written,
-  relocation_inputs_between,
-  slots_written,
-  with_slots,
-}
+use Rattle.ebpf_core_relo.specs.RecordOutcomes.{record_outcomes, record_slots}
+use Rattle.ebpf_core_relo.specs.RecordOutcomes.{outcome_without_texts}
+use Rattle.ebpf_core_relo.specs.Records.{Written, relocation_inputs_between, slots_written}
+use Rattle.ebpf_core_relo.specs.Records.{with_slots}
 use Rattle.ebpf_core_relo.specs.declared.error.BtfRelocationError.{BtfRelocationError}
 use Rattle.ebpf_core_relo.specs.declared.outcomes.RecordOutcome.{RecordOutcome}
 use Rattle.ebpf_core_relo.specs.declared.outcomes.RecordOutcomes.{RecordOutcomes}

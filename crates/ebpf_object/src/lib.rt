@@ -26,6 +26,7 @@ pub mod sanitize;
 mod set_globals;
 mod stages;
 mod steps;
+pub mod variables;
 
 pub use ebpf_model::Program;
 pub use ebpf_parts::{insn, maps, programs};

@@ -2,6 +2,7 @@
 
 pub use crate::explained_parse::ExplainedParse;
 pub use crate::object::Object;
+pub use crate::variables::{Variable, VariableError};
 pub use ebpf_base::{ByIndex, ByKey, ByName, ByNumber, ByOffset, BySection, Items, Text};
 pub use ebpf_btf::{Btf, BtfError, Endianness};
 pub use ebpf_btf_ext::{

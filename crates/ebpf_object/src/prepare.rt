@@ -19,6 +19,9 @@ use ebpf_btf::Btf;
 pub use ebpf_ksyms::{SymbolSource, SymbolText};
 use std::alloc::Global;
 
+/// No symbols, for `prepare` where no extern without a type is resolved.
+pub const NO_SYMBOLS: SymbolText<'static> = SymbolText(&[]);
+
 /// The passes over an object that are chosen.
 #[derive(Clone, Copy)]
 pub struct Steps<'a> {

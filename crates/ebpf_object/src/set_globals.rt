@@ -14,6 +14,7 @@ ghost use Rattle.ebpf_object.specs.PrivateContracts.{value_of};
 ghost use Rattle.ebpf_parts.specs.Memory.{is_parse_memory};
 
 use crate::object::Object;
+pub use by_name::one_value;
 use by_name::{names_of, value_at};
 use ebpf_parts::ParseError;
 pub use lookup::symbol_indices;

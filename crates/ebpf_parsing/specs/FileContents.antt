@@ -22,42 +22,18 @@ use Rattle.ebpf_parts.specs.declared.error.ParseError.TheVariants.{ElfError}
 use Rattle.ebpf_parts.specs.declared.maps.either.Map.{Map}
 use Rattle.ebpf_parts.specs.declared.parse_mode.ParseMode.{ParseMode}
 use Rattle.ebpf_parts.specs.declared.parse_mode.ParseMode.TheVariants.{Strict}
-use Rattle.ebpf_parsing.specs.FileTypes.{
-  types_of_file,
-  externs_of,
-  file_externs_fault,
-  ext_of,
-  type_info_names,
-  file_types_fault,
-}
-use Rattle.ebpf_parsing.specs.OfSection.{
-  maps_in,
-  programs_in,
-  functions_in,
-  relocations_in,
-  fault_in,
-}
+use Rattle.ebpf_parsing.specs.FileTypes.{types_of_file, externs_of, file_externs_fault, ext_of}
+use Rattle.ebpf_parsing.specs.FileTypes.{type_info_names, file_types_fault}
+use Rattle.ebpf_parsing.specs.OfSection.{maps_in, programs_in, functions_in, relocations_in}
+use Rattle.ebpf_parsing.specs.OfSection.{fault_in}
 use Rattle.ebpf_parsing.specs.declared.file_contents.FileContents.{FileContents}
 use Rattle.ebpf_parsing.specs.declared.object_tables.ObjectTables.{ObjectTables}
-use Rattle.ebpf_sections.specs.LicenseAndVersion.{
-  license_as,
-  license_fault_as,
-  kernel_version_of,
-  version_fault,
-}
-use Rattle.ebpf_sections.specs.Sections.{
-  section_info_entry,
-  order_fault_as,
-  other_sections,
-  object_sections,
-}
-use Rattle.ebpf_sections.specs.Symbols.{
-  file_symbols,
-  symbol_table,
-  symbols_fault,
-  SymbolValue,
-  section_symbols,
-}
+use Rattle.ebpf_sections.specs.LicenseAndVersion.{license_as, license_fault_as, kernel_version_of}
+use Rattle.ebpf_sections.specs.LicenseAndVersion.{version_fault}
+use Rattle.ebpf_sections.specs.Sections.{section_info_entry, order_fault_as, other_sections}
+use Rattle.ebpf_sections.specs.Sections.{object_sections}
+use Rattle.ebpf_sections.specs.Symbols.{file_symbols, symbol_table, symbols_fault, SymbolValue}
+use Rattle.ebpf_sections.specs.Symbols.{section_symbols}
 use Rattle.ebpf_sections.specs.declared.metadata.FileMetadata.{FileMetadata}
 
 -- ---- the sections of an object: all but those of type information

@@ -1,22 +1,8 @@
 -- The type information of a file, its records on instructions, and its externs: its sections `.BTF`
 -- and `.BTF.ext` (libbpf's names).
 use Rattle.std.specs.FinMap.{FinMap, empty}
-use Rattle.std.specs.Prelude.{
-  ℕ,
-  Bool,
-  false,
-  not,
-  ◌==◌,
-  length,
-  List,
-  [],
-  Option,
-  Some,
-  None,
-  Result,
-  codes,
-  option_map,
-}
+use Rattle.std.specs.Prelude.{ℕ, Bool, false, not, ◌==◌, length, List, [], Option, Some, None}
+use Rattle.std.specs.Prelude.{Result, codes, option_map}
 use Rattle.std.specs.Result.{result_ok}
 use Rattle.ebpf_base.specs.Faults.{or_else, fault_of}
 use Rattle.ebpf_base.specs.Maps.{put_all, text_cmp}

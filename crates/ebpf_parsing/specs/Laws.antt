@@ -2,21 +2,8 @@
 use Rattle.std.specs.FinMap.{FinMap, get}
 use Rattle.std.specs.List.{flat_map, find}
 use Rattle.std.specs.Ordering.{nat_cmp}
-use Rattle.std.specs.Prelude.{
-  ◌≡◌,
-  ◌≢◌,
-  ◌⊎◌,
-  ℕ,
-  false,
-  List,
-  Some,
-  None,
-  slice_get,
-  ◌<◌,
-  ◌^◌,
-  length,
-  ◌==◌,
-}
+use Rattle.std.specs.Prelude.{◌≡◌, ◌≢◌, ◌⊎◌, ℕ, false, List, Some, None, slice_get, ◌<◌, ◌^◌}
+use Rattle.std.specs.Prelude.{length, ◌==◌}
 use Rattle.ebpf_base.specs.Maps.{key_cmp}
 use Rattle.ebpf_base.specs.declared.endianness.Endianness.TheVariants.{Little}
 use Rattle.ebpf_elf.specs.Headers.{ei_data}
@@ -29,45 +16,25 @@ use Rattle.ebpf_model.specs.declared.symbol.Symbol.{Symbol}
 use Rattle.ebpf_parts.specs.Maps.{section_index_of, symbol_index_of}
 use Rattle.ebpf_parts.specs.Sections.{SectionValue}
 use Rattle.ebpf_parts.specs.Slots.{slots_of}
-use Rattle.ebpf_parts.specs.declared.error.ParseError.TheVariants.{
-  InvalidProgramSection,
-  BigEndianCode,
-}
+use Rattle.ebpf_parts.specs.declared.error.ParseError.TheVariants.{InvalidProgramSection}
+use Rattle.ebpf_parts.specs.declared.error.ParseError.TheVariants.{BigEndianCode}
 use Rattle.ebpf_parts.specs.declared.maps.either.Map.{Map}
 use Rattle.ebpf_parts.specs.declared.program_section.ProgramSection.TheVariants.{Other}
 use Rattle.ebpf_parts.specs.declared.parse_mode.ParseMode.{ParseMode}
 use Rattle.ebpf_parts.specs.declared.parse_mode.ParseMode.TheVariants.{Lenient}
-use Rattle.ebpf_parts.specs.declared.section.EbpfSectionKind.TheVariants.{
-  Data,
-  Rodata,
-  Bss,
-  Text,
-  Program as Programs,
-}
-use Rattle.ebpf_parsing.specs.FileContents.{
-  maps_as,
-  programs_as,
-  functions,
-  relocation_tables,
-  parse_fault_as,
-  own_symbols,
-  maps,
-  programs,
-  parse_fault,
-}
+use Rattle.ebpf_parts.specs.declared.section.EbpfSectionKind.TheVariants.{Data, Rodata, Bss, Text}
+use Rattle.ebpf_parts.specs.declared.section.EbpfSectionKind.TheVariants.{Program as Programs}
+use Rattle.ebpf_parsing.specs.FileContents.{maps_as, programs_as, functions, relocation_tables}
+use Rattle.ebpf_parsing.specs.FileContents.{parse_fault_as, own_symbols, maps, programs}
+use Rattle.ebpf_parsing.specs.FileContents.{parse_fault}
 use Rattle.ebpf_parsing.specs.FileTypes.{externs_of, ext_of}
 use Rattle.ebpf_parsing.specs.Maps.{data_map}
 use Rattle.ebpf_sections.specs.LicenseAndVersion.{license_of, license_as}
 use Rattle.ebpf_sections.specs.Records.{FuncAndLineInfo, func_and_line_info_of}
 use Rattle.ebpf_sections.specs.Relocations.{relocations_by_offset}
 use Rattle.ebpf_sections.specs.Sections.{object_sections}
-use Rattle.ebpf_sections.specs.Symbols.{
-  file_symbols,
-  symbol_table,
-  symbol_of,
-  symbol_entry,
-  SymbolValue,
-}
+use Rattle.ebpf_sections.specs.Symbols.{file_symbols, symbol_table, symbol_of, symbol_entry}
+use Rattle.ebpf_sections.specs.Symbols.{SymbolValue}
 use Rattle.ebpf_sections.specs.Texts.{text_functions, text_fault}
 
 -- ---- what stands in the tables of each file

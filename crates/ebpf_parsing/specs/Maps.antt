@@ -1,36 +1,16 @@
 -- The maps of data sections, of sections of fixed structs, and of sections of declarations.
 use Rattle.std.specs.FinMap.{get}
-use Rattle.std.specs.Prelude.{
-  ℕ,
-  ◌^◌,
-  not,
-  List,
-  [],
-  ◌∷◌,
-  Option,
-  None,
-  nat_lt,
-  replicate,
-  ◌+◌,
-  length,
-  map,
-  Some,
-  ◌==◌,
-  if◌then◌else◌,
-  slice_range,
-}
+use Rattle.std.specs.Prelude.{ℕ, ◌^◌, not, List, [], ◌∷◌, Option, None, nat_lt, replicate, ◌+◌}
+use Rattle.std.specs.Prelude.{length, map, Some, ◌==◌, if◌then◌else◌, slice_range}
 use Rattle.ebpf_base.specs.Faults.{first_of, or_else, first_some}
 use Rattle.ebpf_base.specs.Numbers.{number_at}
 use Rattle.ebpf_base.specs.declared.endianness.Endianness.TheVariants.{Little}
 use Rattle.ebpf_btf_decls.specs.Maps.{btf_maps, btf_maps_fault, TypesInMode}
 use Rattle.ebpf_parts.specs.Sections.{SectionValue}
 use Rattle.ebpf_parts.specs.declared.error.ParseError.{ParseError}
-use Rattle.ebpf_parts.specs.declared.error.ParseError.TheVariants.{
-  InvalidMapDefinition,
-  InvalidSymbol,
-  NoSymbolsForSection,
-  NoBTF,
-}
+use Rattle.ebpf_parts.specs.declared.error.ParseError.TheVariants.{InvalidMapDefinition}
+use Rattle.ebpf_parts.specs.declared.error.ParseError.TheVariants.{InvalidSymbol}
+use Rattle.ebpf_parts.specs.declared.error.ParseError.TheVariants.{NoSymbolsForSection, NoBTF}
 use Rattle.ebpf_parts.specs.declared.maps.definition.bpf_map_def.{bpf_map_def}
 use Rattle.ebpf_parts.specs.declared.maps.either.Map.{Map}
 use Rattle.ebpf_parts.specs.declared.maps.either.Map.TheVariants.{Legacy}

@@ -10,29 +10,13 @@ use Rattle.ebpf_parts.specs.Sections.{SectionValue}
 use Rattle.ebpf_parts.specs.declared.maps.either.Map.{Map}
 use Rattle.ebpf_parts.specs.declared.parse_mode.ParseMode.{ParseMode}
 use Rattle.ebpf_parts.specs.declared.section.EbpfSectionKind.{EbpfSectionKind}
-use Rattle.ebpf_parts.specs.declared.section.EbpfSectionKind.TheVariants.{
-  Maps,
-  BtfMaps,
-  Data,
-  Rodata,
-  Bss,
-}
-use Rattle.ebpf_parsing.specs.FileContents.{
-  symbols_at,
-  map_entries,
-  program_entries,
-  function_entries,
-  relocation_entries,
-  name_entries,
-}
+use Rattle.ebpf_parts.specs.declared.section.EbpfSectionKind.TheVariants.{Maps, BtfMaps, Data}
+use Rattle.ebpf_parts.specs.declared.section.EbpfSectionKind.TheVariants.{Rodata, Bss}
+use Rattle.ebpf_parsing.specs.FileContents.{symbols_at, map_entries, program_entries}
+use Rattle.ebpf_parsing.specs.FileContents.{function_entries, relocation_entries, name_entries}
 use Rattle.ebpf_parsing.specs.Maps.{data_maps}
-use Rattle.ebpf_parsing.specs.OfSection.{
-  maps_in,
-  programs_in,
-  functions_in,
-  relocations_in,
-  maps_by,
-}
+use Rattle.ebpf_parsing.specs.OfSection.{maps_in, programs_in, functions_in, relocations_in}
+use Rattle.ebpf_parsing.specs.OfSection.{maps_by}
 use Rattle.ebpf_parsing.specs.declared.object_tables.ObjectTables.{ObjectTables}
 use Rattle.ebpf_sections.specs.Sections.{section_info_entry, is_index}
 use Rattle.ebpf_sections.specs.Symbols.{SymbolValue}

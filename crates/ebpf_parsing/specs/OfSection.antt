@@ -17,23 +17,11 @@ use Rattle.ebpf_parts.specs.declared.error.ParseError.TheVariants.{NoSymbolsForS
 use Rattle.ebpf_parts.specs.declared.maps.either.Map.{Map}
 use Rattle.ebpf_parts.specs.declared.parse_mode.ParseMode.{ParseMode}
 use Rattle.ebpf_parts.specs.declared.section.EbpfSectionKind.{EbpfSectionKind}
-use Rattle.ebpf_parts.specs.declared.section.EbpfSectionKind.TheVariants.{
-  Maps,
-  BtfMaps,
-  Data,
-  Rodata,
-  Bss,
-  Text,
-  Program as Programs,
-}
-use Rattle.ebpf_parsing.specs.Maps.{
-  btf_defined_maps,
-  btf_defined_maps_fault,
-  data_maps,
-  data_map_fault,
-  legacy_maps,
-  legacy_maps_fault,
-}
+use Rattle.ebpf_parts.specs.declared.section.EbpfSectionKind.TheVariants.{Maps, BtfMaps, Data}
+use Rattle.ebpf_parts.specs.declared.section.EbpfSectionKind.TheVariants.{Rodata, Bss, Text}
+use Rattle.ebpf_parts.specs.declared.section.EbpfSectionKind.TheVariants.{Program as Programs}
+use Rattle.ebpf_parsing.specs.Maps.{btf_defined_maps, btf_defined_maps_fault, data_maps}
+use Rattle.ebpf_parsing.specs.Maps.{data_map_fault, legacy_maps, legacy_maps_fault}
 use Rattle.ebpf_sections.specs.Programs.{with_key, programs_of, program_functions, programs_fault}
 use Rattle.ebpf_sections.specs.Records.{FuncAndLineInfo, func_and_line_info_of}
 use Rattle.ebpf_sections.specs.Relocations.{relocation_table_at}

@@ -1,19 +1,7 @@
 -- Maps, and what may be read and set of them.
-use Rattle.std.specs.Prelude.{
-  ℕ,
-  List,
-  [],
-  Option,
-  Some,
-  None,
-  ◌==◌,
-  option_map,
-  if◌then◌else◌,
-  ◌∷◌,
-  Result,
-  Ok,
-  Err,
-}
+use Rattle.std.specs.Prelude.{ℕ, List, [], Option, Some, None, ◌==◌, option_map, if◌then◌else◌, ◌∷◌}
+use Rattle.std.specs.Prelude.{Result, Ok, Err}
+use Rattle.std.specs.Prelude.{codes}
 use Rattle.ebpf_parts.specs.declared.maps.either.BtfMap.{BtfMap}
 use Rattle.ebpf_parts.specs.declared.maps.definition.BtfMapDef.{BtfMapDef}
 use Rattle.ebpf_parts.specs.declared.maps.definition.bpf_map_def.{bpf_map_def}
@@ -204,3 +192,41 @@ pinning_type number =
     if number == 0 then Ok pinned.None else
     if number == 1 then Ok pinned.ByName else
     Err (Unsupported number)
+
+-- the name of a type of maps, as bpftool prints it
+unfoldable pub map_type_name : bpf_map_type → List ℕ
+map_type_name types.BPF_MAP_TYPE_UNSPEC = codes "unspec"
+map_type_name types.BPF_MAP_TYPE_HASH = codes "hash"
+map_type_name types.BPF_MAP_TYPE_ARRAY = codes "array"
+map_type_name types.BPF_MAP_TYPE_PROG_ARRAY = codes "prog_array"
+map_type_name types.BPF_MAP_TYPE_PERF_EVENT_ARRAY = codes "perf_event_array"
+map_type_name types.BPF_MAP_TYPE_PERCPU_HASH = codes "percpu_hash"
+map_type_name types.BPF_MAP_TYPE_PERCPU_ARRAY = codes "percpu_array"
+map_type_name types.BPF_MAP_TYPE_STACK_TRACE = codes "stack_trace"
+map_type_name types.BPF_MAP_TYPE_CGROUP_ARRAY = codes "cgroup_array"
+map_type_name types.BPF_MAP_TYPE_LRU_HASH = codes "lru_hash"
+map_type_name types.BPF_MAP_TYPE_LRU_PERCPU_HASH = codes "lru_percpu_hash"
+map_type_name types.BPF_MAP_TYPE_LPM_TRIE = codes "lpm_trie"
+map_type_name types.BPF_MAP_TYPE_ARRAY_OF_MAPS = codes "array_of_maps"
+map_type_name types.BPF_MAP_TYPE_HASH_OF_MAPS = codes "hash_of_maps"
+map_type_name types.BPF_MAP_TYPE_DEVMAP = codes "devmap"
+map_type_name types.BPF_MAP_TYPE_SOCKMAP = codes "sockmap"
+map_type_name types.BPF_MAP_TYPE_CPUMAP = codes "cpumap"
+map_type_name types.BPF_MAP_TYPE_XSKMAP = codes "xskmap"
+map_type_name types.BPF_MAP_TYPE_SOCKHASH = codes "sockhash"
+map_type_name types.BPF_MAP_TYPE_CGROUP_STORAGE_DEPRECATED = codes "cgroup_storage"
+map_type_name types.BPF_MAP_TYPE_REUSEPORT_SOCKARRAY = codes "reuseport_sockarray"
+map_type_name types.BPF_MAP_TYPE_PERCPU_CGROUP_STORAGE_DEPRECATED = codes "percpu_cgroup_storage"
+map_type_name types.BPF_MAP_TYPE_QUEUE = codes "queue"
+map_type_name types.BPF_MAP_TYPE_STACK = codes "stack"
+map_type_name types.BPF_MAP_TYPE_SK_STORAGE = codes "sk_storage"
+map_type_name types.BPF_MAP_TYPE_DEVMAP_HASH = codes "devmap_hash"
+map_type_name types.BPF_MAP_TYPE_STRUCT_OPS = codes "struct_ops"
+map_type_name types.BPF_MAP_TYPE_RINGBUF = codes "ringbuf"
+map_type_name types.BPF_MAP_TYPE_INODE_STORAGE = codes "inode_storage"
+map_type_name types.BPF_MAP_TYPE_TASK_STORAGE = codes "task_storage"
+map_type_name types.BPF_MAP_TYPE_BLOOM_FILTER = codes "bloom_filter"
+map_type_name types.BPF_MAP_TYPE_USER_RINGBUF = codes "user_ringbuf"
+map_type_name types.BPF_MAP_TYPE_CGRP_STORAGE = codes "cgrp_storage"
+map_type_name types.BPF_MAP_TYPE_ARENA = codes "arena"
+map_type_name types.BPF_MAP_TYPE_INSN_ARRAY = codes "insn_array"

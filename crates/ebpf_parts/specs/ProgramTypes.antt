@@ -1,34 +1,9 @@
 -- What the names of program sections say (libbpf's section names, as the public crate takes them).
 -- A name is split at each slash. Its first piece says the kind, in some rows with its second;
 -- further pieces say nothing.
-use Rattle.std.specs.Prelude.{
-  ℕ,
-  Bool,
-  true,
-  false,
-  List,
-  [],
-  ◌∷◌,
-  Option,
-  Some,
-  None,
-  ◌==◌,
-  option_map,
-  codes,
-  ◌≡◌,
-  ◌&&◌,
-  ◌||◌,
-  nat_eq,
-  nat_le,
-  length,
-  take,
-  drop,
-  filter,
-  slice_index,
-  if◌then◌else◌,
-  ◌≢◌,
-  unwrap_or,
-}
+use Rattle.std.specs.Prelude.{ℕ, Bool, true, false, List, [], ◌∷◌, Option, Some, None, ◌==◌}
+use Rattle.std.specs.Prelude.{option_map, codes, ◌≡◌, ◌&&◌, ◌||◌, nat_eq, nat_le, length, take}
+use Rattle.std.specs.Prelude.{drop, filter, slice_index, if◌then◌else◌, ◌≢◌, unwrap_or}
 use Rattle.std.specs.List.{before_first, after_first, position, fold, starts_with}
 use Rattle.std.specs.Map.{lookup}
 use Rattle.std.specs.Option.{option_flatten}
@@ -37,158 +12,124 @@ use Rattle.ebpf_base.specs.Faults.{or_else}
 use Rattle.ebpf_parts.specs.declared.error.ParseError.{ParseError}
 use Rattle.ebpf_parts.specs.declared.error.ParseError.TheVariants.{InvalidProgramSection}
 use Rattle.ebpf_parts.specs.declared.program_section.ProgramSection.{ProgramSection}
-use Rattle.ebpf_parts.specs.declared.program_section.ProgramSection.TheVariants.{
-  KRetProbe,
-  KProbe,
-  UProbe,
-  URetProbe,
-  TracePoint,
-  SocketFilter,
-  Xdp,
-  SkMsg,
-  SkSkbStream,
-  SockOps,
-  SchedClassifier,
-  CgroupSkb,
-  CgroupSockAddr,
-  CgroupSysctl,
-  CgroupSockopt,
-  LircMode2,
-  PerfEvent,
-  RawTracePoint,
-  Lsm,
-  LsmCgroup,
-  BtfTracePoint,
-  FEntry,
-  FExit,
-  FlowDissector,
-  Extension,
-  SkLookup,
-  SkReuseport,
-  CgroupSock,
-  CgroupDevice,
-  Iter,
-  Other,
-}
+use Rattle.ebpf_parts.specs.declared.program_section.ProgramSection.TheVariants.{KRetProbe, KProbe}
+use Rattle.ebpf_parts.specs.declared.program_section.ProgramSection.TheVariants.{UProbe, URetProbe}
+use Rattle.ebpf_parts.specs.declared.program_section.ProgramSection.TheVariants.{TracePoint}
+use Rattle.ebpf_parts.specs.declared.program_section.ProgramSection.TheVariants.{SocketFilter, Xdp}
+use Rattle.ebpf_parts.specs.declared.program_section.ProgramSection.TheVariants.{SkMsg, SkSkbStream}
+use Rattle.ebpf_parts.specs.declared.program_section.ProgramSection.TheVariants.{SockOps}
+use Rattle.ebpf_parts.specs.declared.program_section.ProgramSection.TheVariants.{SchedClassifier}
+use Rattle.ebpf_parts.specs.declared.program_section.ProgramSection.TheVariants.{CgroupSkb}
+use Rattle.ebpf_parts.specs.declared.program_section.ProgramSection.TheVariants.{CgroupSockAddr}
+use Rattle.ebpf_parts.specs.declared.program_section.ProgramSection.TheVariants.{CgroupSysctl}
+use Rattle.ebpf_parts.specs.declared.program_section.ProgramSection.TheVariants.{CgroupSockopt}
+use Rattle.ebpf_parts.specs.declared.program_section.ProgramSection.TheVariants.{LircMode2}
+use Rattle.ebpf_parts.specs.declared.program_section.ProgramSection.TheVariants.{PerfEvent}
+use Rattle.ebpf_parts.specs.declared.program_section.ProgramSection.TheVariants.{RawTracePoint, Lsm}
+use Rattle.ebpf_parts.specs.declared.program_section.ProgramSection.TheVariants.{LsmCgroup}
+use Rattle.ebpf_parts.specs.declared.program_section.ProgramSection.TheVariants.{BtfTracePoint}
+use Rattle.ebpf_parts.specs.declared.program_section.ProgramSection.TheVariants.{FEntry, FExit}
+use Rattle.ebpf_parts.specs.declared.program_section.ProgramSection.TheVariants.{FlowDissector}
+use Rattle.ebpf_parts.specs.declared.program_section.ProgramSection.TheVariants.{Extension}
+use Rattle.ebpf_parts.specs.declared.program_section.ProgramSection.TheVariants.{SkLookup}
+use Rattle.ebpf_parts.specs.declared.program_section.ProgramSection.TheVariants.{SkReuseport}
+use Rattle.ebpf_parts.specs.declared.program_section.ProgramSection.TheVariants.{CgroupSock}
+use Rattle.ebpf_parts.specs.declared.program_section.ProgramSection.TheVariants.{CgroupDevice, Iter}
+use Rattle.ebpf_parts.specs.declared.program_section.ProgramSection.TheVariants.{Other}
 use Rattle.ebpf_parts.specs.declared.programs.attach_type.bpf_attach_type.{bpf_attach_type}
-use Rattle.ebpf_parts.specs.declared.programs.attach_type.bpf_attach_type.TheVariants.{
-  BPF_CGROUP_INET_INGRESS,
-  BPF_CGROUP_INET_EGRESS,
-  BPF_CGROUP_INET_SOCK_CREATE,
-  BPF_CGROUP_SOCK_OPS,
-  BPF_SK_SKB_STREAM_PARSER,
-  BPF_SK_SKB_STREAM_VERDICT,
-  BPF_CGROUP_DEVICE,
-  BPF_SK_MSG_VERDICT,
-  BPF_CGROUP_INET4_BIND,
-  BPF_CGROUP_INET6_BIND,
-  BPF_CGROUP_INET4_CONNECT,
-  BPF_CGROUP_INET6_CONNECT,
-  BPF_CGROUP_INET4_POST_BIND,
-  BPF_CGROUP_INET6_POST_BIND,
-  BPF_CGROUP_UDP4_SENDMSG,
-  BPF_CGROUP_UDP6_SENDMSG,
-  BPF_LIRC_MODE2,
-  BPF_FLOW_DISSECTOR,
-  BPF_CGROUP_SYSCTL,
-  BPF_CGROUP_UDP4_RECVMSG,
-  BPF_CGROUP_UDP6_RECVMSG,
-  BPF_CGROUP_GETSOCKOPT,
-  BPF_CGROUP_SETSOCKOPT,
-  BPF_TRACE_RAW_TP,
-  BPF_TRACE_FENTRY,
-  BPF_TRACE_FEXIT,
-  BPF_MODIFY_RETURN,
-  BPF_LSM_MAC,
-  BPF_TRACE_ITER,
-  BPF_CGROUP_INET4_GETPEERNAME,
-  BPF_CGROUP_INET6_GETPEERNAME,
-  BPF_CGROUP_INET4_GETSOCKNAME,
-  BPF_CGROUP_INET6_GETSOCKNAME,
-  BPF_XDP_DEVMAP,
-  BPF_CGROUP_INET_SOCK_RELEASE,
-  BPF_XDP_CPUMAP,
-  BPF_SK_LOOKUP,
-  BPF_XDP,
-  BPF_SK_SKB_VERDICT,
-  BPF_SK_REUSEPORT_SELECT,
-  BPF_SK_REUSEPORT_SELECT_OR_MIGRATE,
-  BPF_TRACE_KPROBE_MULTI,
-  BPF_LSM_CGROUP,
-  BPF_NETFILTER,
-  BPF_TCX_INGRESS,
-  BPF_TCX_EGRESS,
-  BPF_TRACE_UPROBE_MULTI,
-  BPF_CGROUP_UNIX_CONNECT,
-  BPF_CGROUP_UNIX_SENDMSG,
-  BPF_CGROUP_UNIX_RECVMSG,
-  BPF_CGROUP_UNIX_GETPEERNAME,
-  BPF_CGROUP_UNIX_GETSOCKNAME,
-  BPF_NETKIT_PRIMARY,
-  BPF_NETKIT_PEER,
-  BPF_TRACE_KPROBE_SESSION,
-}
+use Rattle.ebpf_parts.specs.declared.programs.attach_type.bpf_attach_type.TheVariants.{BPF_CGROUP_INET_INGRESS}
+use Rattle.ebpf_parts.specs.declared.programs.attach_type.bpf_attach_type.TheVariants.{BPF_CGROUP_INET_EGRESS}
+use Rattle.ebpf_parts.specs.declared.programs.attach_type.bpf_attach_type.TheVariants.{BPF_CGROUP_INET_SOCK_CREATE}
+use Rattle.ebpf_parts.specs.declared.programs.attach_type.bpf_attach_type.TheVariants.{BPF_CGROUP_SOCK_OPS}
+use Rattle.ebpf_parts.specs.declared.programs.attach_type.bpf_attach_type.TheVariants.{BPF_SK_SKB_STREAM_PARSER}
+use Rattle.ebpf_parts.specs.declared.programs.attach_type.bpf_attach_type.TheVariants.{BPF_SK_SKB_STREAM_VERDICT}
+use Rattle.ebpf_parts.specs.declared.programs.attach_type.bpf_attach_type.TheVariants.{BPF_CGROUP_DEVICE}
+use Rattle.ebpf_parts.specs.declared.programs.attach_type.bpf_attach_type.TheVariants.{BPF_SK_MSG_VERDICT}
+use Rattle.ebpf_parts.specs.declared.programs.attach_type.bpf_attach_type.TheVariants.{BPF_CGROUP_INET4_BIND}
+use Rattle.ebpf_parts.specs.declared.programs.attach_type.bpf_attach_type.TheVariants.{BPF_CGROUP_INET6_BIND}
+use Rattle.ebpf_parts.specs.declared.programs.attach_type.bpf_attach_type.TheVariants.{BPF_CGROUP_INET4_CONNECT}
+use Rattle.ebpf_parts.specs.declared.programs.attach_type.bpf_attach_type.TheVariants.{BPF_CGROUP_INET6_CONNECT}
+use Rattle.ebpf_parts.specs.declared.programs.attach_type.bpf_attach_type.TheVariants.{BPF_CGROUP_INET4_POST_BIND}
+use Rattle.ebpf_parts.specs.declared.programs.attach_type.bpf_attach_type.TheVariants.{BPF_CGROUP_INET6_POST_BIND}
+use Rattle.ebpf_parts.specs.declared.programs.attach_type.bpf_attach_type.TheVariants.{BPF_CGROUP_UDP4_SENDMSG}
+use Rattle.ebpf_parts.specs.declared.programs.attach_type.bpf_attach_type.TheVariants.{BPF_CGROUP_UDP6_SENDMSG}
+use Rattle.ebpf_parts.specs.declared.programs.attach_type.bpf_attach_type.TheVariants.{BPF_LIRC_MODE2}
+use Rattle.ebpf_parts.specs.declared.programs.attach_type.bpf_attach_type.TheVariants.{BPF_FLOW_DISSECTOR}
+use Rattle.ebpf_parts.specs.declared.programs.attach_type.bpf_attach_type.TheVariants.{BPF_CGROUP_SYSCTL}
+use Rattle.ebpf_parts.specs.declared.programs.attach_type.bpf_attach_type.TheVariants.{BPF_CGROUP_UDP4_RECVMSG}
+use Rattle.ebpf_parts.specs.declared.programs.attach_type.bpf_attach_type.TheVariants.{BPF_CGROUP_UDP6_RECVMSG}
+use Rattle.ebpf_parts.specs.declared.programs.attach_type.bpf_attach_type.TheVariants.{BPF_CGROUP_GETSOCKOPT}
+use Rattle.ebpf_parts.specs.declared.programs.attach_type.bpf_attach_type.TheVariants.{BPF_CGROUP_SETSOCKOPT}
+use Rattle.ebpf_parts.specs.declared.programs.attach_type.bpf_attach_type.TheVariants.{BPF_TRACE_RAW_TP}
+use Rattle.ebpf_parts.specs.declared.programs.attach_type.bpf_attach_type.TheVariants.{BPF_TRACE_FENTRY}
+use Rattle.ebpf_parts.specs.declared.programs.attach_type.bpf_attach_type.TheVariants.{BPF_TRACE_FEXIT}
+use Rattle.ebpf_parts.specs.declared.programs.attach_type.bpf_attach_type.TheVariants.{BPF_MODIFY_RETURN}
+use Rattle.ebpf_parts.specs.declared.programs.attach_type.bpf_attach_type.TheVariants.{BPF_LSM_MAC}
+use Rattle.ebpf_parts.specs.declared.programs.attach_type.bpf_attach_type.TheVariants.{BPF_TRACE_ITER}
+use Rattle.ebpf_parts.specs.declared.programs.attach_type.bpf_attach_type.TheVariants.{BPF_CGROUP_INET4_GETPEERNAME}
+use Rattle.ebpf_parts.specs.declared.programs.attach_type.bpf_attach_type.TheVariants.{BPF_CGROUP_INET6_GETPEERNAME}
+use Rattle.ebpf_parts.specs.declared.programs.attach_type.bpf_attach_type.TheVariants.{BPF_CGROUP_INET4_GETSOCKNAME}
+use Rattle.ebpf_parts.specs.declared.programs.attach_type.bpf_attach_type.TheVariants.{BPF_CGROUP_INET6_GETSOCKNAME}
+use Rattle.ebpf_parts.specs.declared.programs.attach_type.bpf_attach_type.TheVariants.{BPF_XDP_DEVMAP}
+use Rattle.ebpf_parts.specs.declared.programs.attach_type.bpf_attach_type.TheVariants.{BPF_CGROUP_INET_SOCK_RELEASE}
+use Rattle.ebpf_parts.specs.declared.programs.attach_type.bpf_attach_type.TheVariants.{BPF_XDP_CPUMAP}
+use Rattle.ebpf_parts.specs.declared.programs.attach_type.bpf_attach_type.TheVariants.{BPF_SK_LOOKUP}
+use Rattle.ebpf_parts.specs.declared.programs.attach_type.bpf_attach_type.TheVariants.{BPF_XDP}
+use Rattle.ebpf_parts.specs.declared.programs.attach_type.bpf_attach_type.TheVariants.{BPF_SK_SKB_VERDICT}
+use Rattle.ebpf_parts.specs.declared.programs.attach_type.bpf_attach_type.TheVariants.{BPF_SK_REUSEPORT_SELECT}
+use Rattle.ebpf_parts.specs.declared.programs.attach_type.bpf_attach_type.TheVariants.{BPF_SK_REUSEPORT_SELECT_OR_MIGRATE}
+use Rattle.ebpf_parts.specs.declared.programs.attach_type.bpf_attach_type.TheVariants.{BPF_TRACE_KPROBE_MULTI}
+use Rattle.ebpf_parts.specs.declared.programs.attach_type.bpf_attach_type.TheVariants.{BPF_LSM_CGROUP}
+use Rattle.ebpf_parts.specs.declared.programs.attach_type.bpf_attach_type.TheVariants.{BPF_NETFILTER}
+use Rattle.ebpf_parts.specs.declared.programs.attach_type.bpf_attach_type.TheVariants.{BPF_TCX_INGRESS}
+use Rattle.ebpf_parts.specs.declared.programs.attach_type.bpf_attach_type.TheVariants.{BPF_TCX_EGRESS}
+use Rattle.ebpf_parts.specs.declared.programs.attach_type.bpf_attach_type.TheVariants.{BPF_TRACE_UPROBE_MULTI}
+use Rattle.ebpf_parts.specs.declared.programs.attach_type.bpf_attach_type.TheVariants.{BPF_CGROUP_UNIX_CONNECT}
+use Rattle.ebpf_parts.specs.declared.programs.attach_type.bpf_attach_type.TheVariants.{BPF_CGROUP_UNIX_SENDMSG}
+use Rattle.ebpf_parts.specs.declared.programs.attach_type.bpf_attach_type.TheVariants.{BPF_CGROUP_UNIX_RECVMSG}
+use Rattle.ebpf_parts.specs.declared.programs.attach_type.bpf_attach_type.TheVariants.{BPF_CGROUP_UNIX_GETPEERNAME}
+use Rattle.ebpf_parts.specs.declared.programs.attach_type.bpf_attach_type.TheVariants.{BPF_CGROUP_UNIX_GETSOCKNAME}
+use Rattle.ebpf_parts.specs.declared.programs.attach_type.bpf_attach_type.TheVariants.{BPF_NETKIT_PRIMARY}
+use Rattle.ebpf_parts.specs.declared.programs.attach_type.bpf_attach_type.TheVariants.{BPF_NETKIT_PEER}
+use Rattle.ebpf_parts.specs.declared.programs.attach_type.bpf_attach_type.TheVariants.{BPF_TRACE_KPROBE_SESSION}
 use Rattle.ebpf_parts.specs.declared.programs.attach_type.CgroupSkbAttachType.{CgroupSkbAttachType}
-use Rattle.ebpf_parts.specs.declared.programs.attach_type.CgroupSkbAttachType.TheVariants.{
-  Ingress,
-  Egress,
-}
-use Rattle.ebpf_parts.specs.declared.programs.attach_type.CgroupSockAttachType.{
-  CgroupSockAttachType,
-}
-use Rattle.ebpf_parts.specs.declared.programs.attach_type.CgroupSockAttachType.TheVariants.{
-  PostBind4,
-  PostBind6,
-  SockCreate,
-  SockRelease,
-}
-use Rattle.ebpf_parts.specs.declared.programs.attach_type.CgroupSockAddrAttachType.{
-  CgroupSockAddrAttachType,
-}
-use Rattle.ebpf_parts.specs.declared.programs.attach_type.CgroupSockAddrAttachType.TheVariants.{
-  Bind4,
-  Bind6,
-  Connect4,
-  Connect6,
-  GetPeerName4,
-  GetPeerName6,
-  GetSockName4,
-  GetSockName6,
-  UDPSendMsg4,
-  UDPSendMsg6,
-  UDPRecvMsg4,
-  UDPRecvMsg6,
-}
-use Rattle.ebpf_parts.specs.declared.programs.attach_type.CgroupSockoptAttachType.{
-  CgroupSockoptAttachType,
-}
-use Rattle.ebpf_parts.specs.declared.programs.attach_type.CgroupSockoptAttachType.TheVariants.{
-  Get,
-  Set,
-}
+use Rattle.ebpf_parts.specs.declared.programs.attach_type.CgroupSkbAttachType.TheVariants.{Ingress}
+use Rattle.ebpf_parts.specs.declared.programs.attach_type.CgroupSkbAttachType.TheVariants.{Egress}
+use Rattle.ebpf_parts.specs.declared.programs.attach_type.CgroupSockAttachType.{CgroupSockAttachType}
+use Rattle.ebpf_parts.specs.declared.programs.attach_type.CgroupSockAttachType.TheVariants.{PostBind4}
+use Rattle.ebpf_parts.specs.declared.programs.attach_type.CgroupSockAttachType.TheVariants.{PostBind6}
+use Rattle.ebpf_parts.specs.declared.programs.attach_type.CgroupSockAttachType.TheVariants.{SockCreate}
+use Rattle.ebpf_parts.specs.declared.programs.attach_type.CgroupSockAttachType.TheVariants.{SockRelease}
+use Rattle.ebpf_parts.specs.declared.programs.attach_type.CgroupSockAddrAttachType.{CgroupSockAddrAttachType}
+use Rattle.ebpf_parts.specs.declared.programs.attach_type.CgroupSockAddrAttachType.TheVariants.{Bind4}
+use Rattle.ebpf_parts.specs.declared.programs.attach_type.CgroupSockAddrAttachType.TheVariants.{Bind6}
+use Rattle.ebpf_parts.specs.declared.programs.attach_type.CgroupSockAddrAttachType.TheVariants.{Connect4}
+use Rattle.ebpf_parts.specs.declared.programs.attach_type.CgroupSockAddrAttachType.TheVariants.{Connect6}
+use Rattle.ebpf_parts.specs.declared.programs.attach_type.CgroupSockAddrAttachType.TheVariants.{GetPeerName4}
+use Rattle.ebpf_parts.specs.declared.programs.attach_type.CgroupSockAddrAttachType.TheVariants.{GetPeerName6}
+use Rattle.ebpf_parts.specs.declared.programs.attach_type.CgroupSockAddrAttachType.TheVariants.{GetSockName4}
+use Rattle.ebpf_parts.specs.declared.programs.attach_type.CgroupSockAddrAttachType.TheVariants.{GetSockName6}
+use Rattle.ebpf_parts.specs.declared.programs.attach_type.CgroupSockAddrAttachType.TheVariants.{UDPSendMsg4}
+use Rattle.ebpf_parts.specs.declared.programs.attach_type.CgroupSockAddrAttachType.TheVariants.{UDPSendMsg6}
+use Rattle.ebpf_parts.specs.declared.programs.attach_type.CgroupSockAddrAttachType.TheVariants.{UDPRecvMsg4}
+use Rattle.ebpf_parts.specs.declared.programs.attach_type.CgroupSockAddrAttachType.TheVariants.{UDPRecvMsg6}
+use Rattle.ebpf_parts.specs.declared.programs.attach_type.CgroupSockoptAttachType.{CgroupSockoptAttachType}
+use Rattle.ebpf_parts.specs.declared.programs.attach_type.CgroupSockoptAttachType.TheVariants.{Get}
+use Rattle.ebpf_parts.specs.declared.programs.attach_type.CgroupSockoptAttachType.TheVariants.{Set}
 use Rattle.ebpf_parts.specs.declared.programs.kind.NamedKind.{NamedKind}
 use Rattle.ebpf_parts.specs.declared.programs.kind.ProgramKind.{ProgramKind}
 use Rattle.ebpf_parts.specs.declared.programs.kind.TheConstants.{NAMED_KINDS}
 use Rattle.ebpf_parts.specs.declared.programs.program_type.bpf_prog_type.{bpf_prog_type}
 use Rattle.ebpf_parts.specs.declared.programs.program_type.bpf_prog_type.TheVariants as types
-use Rattle.ebpf_parts.specs.declared.programs.attach_type.SkReuseportAttachType.{
-  SkReuseportAttachType,
-}
-use Rattle.ebpf_parts.specs.declared.programs.attach_type.SkReuseportAttachType.TheVariants.{
-  Select,
-  SelectOrMigrate,
-}
+use Rattle.ebpf_parts.specs.declared.programs.attach_type.SkReuseportAttachType.{SkReuseportAttachType}
+use Rattle.ebpf_parts.specs.declared.programs.attach_type.SkReuseportAttachType.TheVariants.{Select}
+use Rattle.ebpf_parts.specs.declared.programs.attach_type.SkReuseportAttachType.TheVariants.{SelectOrMigrate}
 use Rattle.ebpf_parts.specs.declared.programs.attach_type.SkSkbKind.{SkSkbKind}
-use Rattle.ebpf_parts.specs.declared.programs.attach_type.SkSkbKind.TheVariants.{
-  StreamParser,
-  StreamVerdict,
-}
+use Rattle.ebpf_parts.specs.declared.programs.attach_type.SkSkbKind.TheVariants.{StreamParser}
+use Rattle.ebpf_parts.specs.declared.programs.attach_type.SkSkbKind.TheVariants.{StreamVerdict}
 use Rattle.ebpf_parts.specs.declared.programs.attach_type.XdpAttachType.{XdpAttachType}
-use Rattle.ebpf_parts.specs.declared.programs.attach_type.XdpAttachType.TheVariants.{
-  Interface,
-  CpuMap,
-  DevMap,
-}
+use Rattle.ebpf_parts.specs.declared.programs.attach_type.XdpAttachType.TheVariants.{Interface}
+use Rattle.ebpf_parts.specs.declared.programs.attach_type.XdpAttachType.TheVariants.{CpuMap, DevMap}
 use Rattle.ebpf_parts.specs.declared.parse_mode.ParseMode.{ParseMode}
 use Rattle.ebpf_parts.specs.declared.parse_mode.ParseMode.TheVariants.{Strict, Lenient}
 
@@ -655,3 +596,39 @@ LenientKeepsKinds =
 -- in lenient parsing no name is refused
 abbrev pub LenientTakesNames : Type 0
 LenientTakesNames = (name : List ℕ) → section_fault_as Lenient name ≡ None
+
+-- the name of a type of programs, as bpftool prints it
+unfoldable pub program_type_name : bpf_prog_type → List ℕ
+program_type_name types.BPF_PROG_TYPE_UNSPEC = codes "unspec"
+program_type_name types.BPF_PROG_TYPE_SOCKET_FILTER = codes "socket_filter"
+program_type_name types.BPF_PROG_TYPE_KPROBE = codes "kprobe"
+program_type_name types.BPF_PROG_TYPE_SCHED_CLS = codes "sched_cls"
+program_type_name types.BPF_PROG_TYPE_SCHED_ACT = codes "sched_act"
+program_type_name types.BPF_PROG_TYPE_TRACEPOINT = codes "tracepoint"
+program_type_name types.BPF_PROG_TYPE_XDP = codes "xdp"
+program_type_name types.BPF_PROG_TYPE_PERF_EVENT = codes "perf_event"
+program_type_name types.BPF_PROG_TYPE_CGROUP_SKB = codes "cgroup_skb"
+program_type_name types.BPF_PROG_TYPE_CGROUP_SOCK = codes "cgroup_sock"
+program_type_name types.BPF_PROG_TYPE_LWT_IN = codes "lwt_in"
+program_type_name types.BPF_PROG_TYPE_LWT_OUT = codes "lwt_out"
+program_type_name types.BPF_PROG_TYPE_LWT_XMIT = codes "lwt_xmit"
+program_type_name types.BPF_PROG_TYPE_SOCK_OPS = codes "sock_ops"
+program_type_name types.BPF_PROG_TYPE_SK_SKB = codes "sk_skb"
+program_type_name types.BPF_PROG_TYPE_CGROUP_DEVICE = codes "cgroup_device"
+program_type_name types.BPF_PROG_TYPE_SK_MSG = codes "sk_msg"
+program_type_name types.BPF_PROG_TYPE_RAW_TRACEPOINT = codes "raw_tracepoint"
+program_type_name types.BPF_PROG_TYPE_CGROUP_SOCK_ADDR = codes "cgroup_sock_addr"
+program_type_name types.BPF_PROG_TYPE_LWT_SEG6LOCAL = codes "lwt_seg6local"
+program_type_name types.BPF_PROG_TYPE_LIRC_MODE2 = codes "lirc_mode2"
+program_type_name types.BPF_PROG_TYPE_SK_REUSEPORT = codes "sk_reuseport"
+program_type_name types.BPF_PROG_TYPE_FLOW_DISSECTOR = codes "flow_dissector"
+program_type_name types.BPF_PROG_TYPE_CGROUP_SYSCTL = codes "cgroup_sysctl"
+program_type_name types.BPF_PROG_TYPE_RAW_TRACEPOINT_WRITABLE = codes "raw_tracepoint_writable"
+program_type_name types.BPF_PROG_TYPE_CGROUP_SOCKOPT = codes "cgroup_sockopt"
+program_type_name types.BPF_PROG_TYPE_TRACING = codes "tracing"
+program_type_name types.BPF_PROG_TYPE_STRUCT_OPS = codes "struct_ops"
+program_type_name types.BPF_PROG_TYPE_EXT = codes "ext"
+program_type_name types.BPF_PROG_TYPE_LSM = codes "lsm"
+program_type_name types.BPF_PROG_TYPE_SK_LOOKUP = codes "sk_lookup"
+program_type_name types.BPF_PROG_TYPE_SYSCALL = codes "syscall"
+program_type_name types.BPF_PROG_TYPE_NETFILTER = codes "netfilter"

@@ -1,25 +1,7 @@
 -- What a section is for, by its name and its header (libbpf's section names, and ELF-64 gABI,
 -- 'Sections').
-use Rattle.std.specs.Prelude.{
-  ℕ,
-  Bool,
-  not,
-  ◌&&◌,
-  List,
-  [],
-  ◌∷◌,
-  Option,
-  Some,
-  None,
-  ◌==◌,
-  nat_eq,
-  bit_and,
-  if◌then◌else◌,
-  codes,
-  unwrap_or,
-  is_some,
-  option_map,
-}
+use Rattle.std.specs.Prelude.{ℕ, Bool, not, ◌&&◌, List, [], ◌∷◌, Option, Some, None, ◌==◌, nat_eq}
+use Rattle.std.specs.Prelude.{bit_and, if◌then◌else◌, codes, unwrap_or, is_some, option_map}
 use Rattle.std.specs.List.{starts_with, list_any}
 use Rattle.std.specs.Str.{bytes_eq}
 use Rattle.ebpf_base.specs.Faults.{first_of, or_else}
@@ -31,25 +13,13 @@ use Rattle.ebpf_elf.specs.declared.header.SectionHeader.{SectionHeader}
 use Rattle.ebpf_elf.specs.declared.relocation.ElfRelocation.{ElfRelocation}
 use Rattle.ebpf_elf.specs.declared.section.SectionIndex.{SectionIndex}
 use Rattle.ebpf_parts.specs.declared.error.ParseError.{ParseError}
-use Rattle.ebpf_parts.specs.declared.error.ParseError.TheVariants.{
-  SectionError,
-  UnsupportedRelocationTarget,
-}
+use Rattle.ebpf_parts.specs.declared.error.ParseError.TheVariants.{SectionError}
+use Rattle.ebpf_parts.specs.declared.error.ParseError.TheVariants.{UnsupportedRelocationTarget}
 use Rattle.ebpf_parts.specs.declared.section.EbpfSectionKind.{EbpfSectionKind}
-use Rattle.ebpf_parts.specs.declared.section.EbpfSectionKind.TheVariants.{
-  Undefined,
-  Maps,
-  BtfMaps,
-  Program,
-  Data,
-  Rodata,
-  Bss,
-  Text,
-  Btf,
-  BtfExt,
-  License,
-  Version,
-}
+use Rattle.ebpf_parts.specs.declared.section.EbpfSectionKind.TheVariants.{Undefined, Maps, BtfMaps}
+use Rattle.ebpf_parts.specs.declared.section.EbpfSectionKind.TheVariants.{Program, Data, Rodata}
+use Rattle.ebpf_parts.specs.declared.section.EbpfSectionKind.TheVariants.{Bss, Text, Btf, BtfExt}
+use Rattle.ebpf_parts.specs.declared.section.EbpfSectionKind.TheVariants.{License, Version}
 
 -- a name that begins with a prefix
 abbrev pub begins_with : List ℕ → List ℕ → Bool

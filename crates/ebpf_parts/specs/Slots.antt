@@ -1,31 +1,7 @@
 -- The codes of instructions that definitions tell apart (RFC 9669).
-use Rattle.std.specs.Prelude.{
-  ℕ,
-  ℤ,
-  pos,
-  negsuc,
-  Bool,
-  false,
-  ◌&&◌,
-  ◌+◌,
-  ◌*◌,
-  ◌/◌,
-  ◌%◌,
-  not,
-  ◌==◌,
-  List,
-  [],
-  ◌∷◌,
-  ◌++◌,
-  length,
-  map,
-  slice_index,
-  ◌≡◌,
-  ◌≤◌,
-  ◌<◌,
-  take,
-  slice_range,
-}
+use Rattle.std.specs.Prelude.{ℕ, ℤ, pos, negsuc, Bool, false, ◌&&◌, ◌+◌, ◌*◌, ◌/◌, ◌%◌, not, ◌==◌}
+use Rattle.std.specs.Prelude.{List, [], ◌∷◌, ◌++◌, length, map, slice_index, ◌≡◌, ◌≤◌, ◌<◌, take}
+use Rattle.std.specs.Prelude.{slice_range}
 use Rattle.std.specs.List.{range_with_len, All, flat_map}
 use Rattle.std.specs.Int.{w16, w32, cast_signed, cast_unsigned}
 use Rattle.byteorder.specs.Endian.{little_bytes}
@@ -116,6 +92,15 @@ pseudo_kfunc_call = 2
 -- kernel has (libbpf's relo_core.c)
 abbrev pub poison_call : ℕ
 poison_call = 0x0bad2310
+
+-- whether a signed number is a natural one
+abbrev pub is_number : ℤ → ℕ → Bool
+is_number (pos m) n = m == n
+is_number (negsuc _) n = false
+
+-- a call of that number, as a CO-RE relocation writes it
+abbrev pub is_poisoned : bpf_insn → Bool
+is_poisoned slot = slot.code == call && slot.regs == 0 && is_number slot.imm poison_call
 
 -- the immediate of a call of a weak extern that the kernel lacks, less the index of the extern's
 -- symbol (libbpf's

@@ -3,14 +3,14 @@
 ghost use Rattle.std.specs.Prelude.{◌≡◌, ◌+◌, ◌*◌, ◌/◌, ◌%◌, ◌<◌, ◌≤◌, length, IfOk};
 ghost use Rattle.ebpf_base.specs.Faults.{Refuses, first_of};
 ghost use Rattle.ebpf_parts.specs.Memory.{is_parse_memory};
-ghost use Rattle.ebpf_parts.specs.Slots.{slot_at, slots_of, slot_bytes, code_faults, dst_of, src_of, is_pseudo_call, is_helper_call, registers};
+ghost use Rattle.ebpf_parts.specs.Slots.{slot_at, slots_of, slot_bytes, code_faults, dst_of, src_of, is_pseudo_call, is_helper_call, is_poisoned, registers};
 
 pub mod opcodes;
 
 use crate::error::ParseError;
 use ebpf_base::Endianness;
 use ebpf_base::numbers::{read_u16, read_u32};
-use opcodes::{BPF_PSEUDO_CALL, CALL};
+use opcodes::{BPF_PSEUDO_CALL, CALL, POISON_CALL};
 use std::alloc::Global;
 
 /// A slot of eight bytes: an instruction, or the second half of a 16-byte load (RFC 9669, section 3). It lies in memory
@@ -61,6 +61,13 @@ impl bpf_insn {
         ensures { result ≡ is_helper_call self.now }
     {
         self.code == CALL && self.regs == 0
+    }
+
+    /// Whether a CO-RE relocation poisoned the instruction: the kernel that it was relocated to has no such value.
+    pub fn is_poisoned(&self) -> bool
+        ensures { result ≡ is_poisoned self.now }
+    {
+        self.code == CALL && self.regs == 0 && self.imm == POISON_CALL
     }
 
     /// The eight bytes of the slot.

@@ -1,68 +1,14 @@
 -- What a conditional jump tests (RFC 9669, section 4.3), of operands that fit the width.
-use Rattle.std.specs.Prelude.{
-  ℕ,
-  ℤ,
-  Bool,
-  not,
-  Option,
-  Some,
-  None,
-  bit_and,
-  int_lt,
-  int_le,
-  nat_lt,
-  nat_le,
-  if◌then◌else◌,
-  ◌==◌,
-  ◌+◌,
-  ◌-◌,
-  ◌*◌,
-  ◌/◌,
-  ◌%◌,
-  ◌^◌,
-  pos,
-  bit_or,
-  bit_xor,
-  int_rem,
-}
-use Rattle.std.specs.Int.{
-  Width,
-  cast_signed,
-  w8,
-  w16,
-  w32,
-  w64,
-  cast_unsigned,
-  int_shr,
-  int_wrapping_div,
-  swap_bytes,
-}
+use Rattle.std.specs.Prelude.{ℕ, ℤ, Bool, not, Option, Some, None, bit_and, int_lt, int_le, nat_lt}
+use Rattle.std.specs.Prelude.{nat_le, if◌then◌else◌, ◌==◌, ◌+◌, ◌-◌, ◌*◌, ◌/◌, ◌%◌, ◌^◌, pos}
+use Rattle.std.specs.Prelude.{bit_or, bit_xor, int_rem}
+use Rattle.std.specs.Int.{Width, cast_signed, w8, w16, w32, w64, cast_unsigned, int_shr}
+use Rattle.std.specs.Int.{int_wrapping_div, swap_bytes}
 use Rattle.std.specs.Ordering.{int_eq}
 use mir.Val.{bits}
-use Rattle.ebpf_reachability.specs.Operations.{
-  jeq,
-  jgt,
-  jge,
-  jset,
-  jne,
-  jsgt,
-  jsge,
-  jlt,
-  jle,
-  jslt,
-  jsle,
-  op_add,
-  op_sub,
-  op_mul,
-  op_div,
-  op_or,
-  op_and,
-  op_lsh,
-  op_rsh,
-  op_mod,
-  op_xor,
-  op_arsh,
-}
+use Rattle.ebpf_reachability.specs.Operations.{jeq, jgt, jge, jset, jne, jsgt, jsge, jlt, jle, jslt}
+use Rattle.ebpf_reachability.specs.Operations.{jsle, op_add, op_sub, op_mul, op_div, op_or, op_and}
+use Rattle.ebpf_reachability.specs.Operations.{op_lsh, op_rsh, op_mod, op_xor, op_arsh}
 
 -- the operands as unsigned numbers, and as signed ones
 abbrev pub tested : ℕ → ℕ → ℕ → ℤ → ℤ → Option Bool

@@ -1,55 +1,17 @@
 -- What is known of the registers where a slot is reached (RFC 9669, section 2.1: a program has r0
 -- to r10).
-use Rattle.std.specs.Prelude.{
-  ◌≡◌,
-  ℕ,
-  Option,
-  Some,
-  None,
-  length,
-  replicate,
-  slice_index_or,
-  slice_set,
-  ◌+◌,
-  ◌*◌,
-  ◌/◌,
-  ◌%◌,
-  ◌^◌,
-  pos,
-  Bool,
-  ◌&&◌,
-  List,
-  slice_get,
-  if◌then◌else◌,
-  ◌==◌,
-}
+use Rattle.std.specs.Prelude.{◌≡◌, ℕ, Option, Some, None, length, replicate, slice_index_or}
+use Rattle.std.specs.Prelude.{slice_set, ◌+◌, ◌*◌, ◌/◌, ◌%◌, ◌^◌, pos, Bool, ◌&&◌, List, slice_get}
+use Rattle.std.specs.Prelude.{if◌then◌else◌, ◌==◌}
 use Rattle.std.specs.Option.{option_and_then, option_map}
 use Rattle.std.specs.Int.{w32, w64, cast_unsigned}
 use Rattle.std.specs.Ordering.{int_eq}
-use Rattle.ebpf_parts.specs.Slots.{
-  call,
-  class_alu,
-  class_alu64,
-  class_jmp32,
-  class_ld,
-  class_ldx,
-  class_st,
-  class_stx,
-  dst_of,
-  poison_call,
-  src_of,
-}
+use Rattle.ebpf_parts.specs.Slots.{call, class_alu, class_alu64, class_jmp32, class_ld, class_ldx}
+use Rattle.ebpf_parts.specs.Slots.{class_st, class_stx, dst_of, poison_call, src_of}
 use Rattle.ebpf_parts.specs.declared.insn.bpf_insn.{bpf_insn}
 use Rattle.ebpf_reachability.specs.Operations.{op_end, op_mov, op_neg}
-use Rattle.ebpf_reachability.specs.Arithmetic.{
-  computed,
-  negated,
-  extended_32,
-  extended_64,
-  truncated,
-  swapped,
-  compared,
-}
+use Rattle.ebpf_reachability.specs.Arithmetic.{computed, negated, extended_32, extended_64}
+use Rattle.ebpf_reachability.specs.Arithmetic.{truncated, swapped, compared}
 use Rattle.ebpf_reachability.specs.declared.registers.Registers.{Registers}
 
 -- the number that a register is known to hold; none is known of a register that there isn't

@@ -1,19 +1,6 @@
 -- What contracts of private functions name and no public one.
-use Rattle.std.specs.Prelude.{
-  ℕ,
-  Option,
-  Some,
-  None,
-  List,
-  [],
-  ◌∷◌,
-  if◌then◌else◌,
-  ◌==◌,
-  ◌<◌,
-  IfSome,
-  ◌++◌,
-  length,
-}
+use Rattle.std.specs.Prelude.{ℕ, Option, Some, None, List, [], ◌∷◌, if◌then◌else◌, ◌==◌, ◌<◌}
+use Rattle.std.specs.Prelude.{IfSome, ◌++◌, length}
 use Rattle.ebpf_reachability.specs.declared.registers.Registers.{Registers}
 use Rattle.std.specs.Option.{option_to_list}
 use Rattle.ebpf_parts.specs.declared.insn.bpf_insn.{bpf_insn}

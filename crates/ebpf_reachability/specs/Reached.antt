@@ -1,25 +1,6 @@
 -- How much more may be forgotten: what bounds the search.
-use Rattle.std.specs.Prelude.{
-  ℕ,
-  ◌+◌,
-  Option,
-  Some,
-  None,
-  List,
-  [],
-  ◌∷◌,
-  ◌≡◌,
-  pos,
-  Bool,
-  is_some,
-  length,
-  map,
-  slice_index_or,
-  ⊤,
-  ◌*◌,
-  ◌≤◌,
-  ◌⊎◌,
-}
+use Rattle.std.specs.Prelude.{ℕ, ◌+◌, Option, Some, None, List, [], ◌∷◌, ◌≡◌, pos, Bool, is_some}
+use Rattle.std.specs.Prelude.{length, map, slice_index_or, ⊤, ◌*◌, ◌≤◌, ◌⊎◌}
 use Rattle.std.specs.List.{sum_by}
 use Rattle.ebpf_linker.specs.Functions.{Among}
 use Rattle.ebpf_parts.specs.declared.insn.bpf_insn.{bpf_insn}

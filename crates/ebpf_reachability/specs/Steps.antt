@@ -1,49 +1,15 @@
 -- The steps of a program: from a slot and what is known of the registers there, to which slots, and
 -- what is known there.
-use Rattle.std.specs.Prelude.{
-  ℕ,
-  ℤ,
-  pos,
-  negsuc,
-  ◌+ℤ◌,
-  Bool,
-  true,
-  false,
-  Option,
-  Some,
-  None,
-  List,
-  [],
-  ◌∷◌,
-  ◌++◌,
-  length,
-  nat_lt,
-  slice_get,
-  if◌then◌else◌,
-  ◌==◌,
-}
+use Rattle.std.specs.Prelude.{ℕ, ℤ, pos, negsuc, ◌+ℤ◌, Bool, true, false, Option, Some, None, List}
+use Rattle.std.specs.Prelude.{[], ◌∷◌, ◌++◌, length, nat_lt, slice_get, if◌then◌else◌, ◌==◌}
 use Rattle.ebpf_parts.specs.declared.insn.bpf_insn.{bpf_insn}
 use Rattle.ebpf_parts.specs.Slots.{pseudo_func, dst_of, src_of}
-use Rattle.ebpf_linker.specs.Functions.{
-  Flow,
-  Return,
-  PseudoCall,
-  WideLoad,
-  Jump,
-  Branch,
-  Next,
-  flow,
-}
+use Rattle.ebpf_linker.specs.Functions.{Flow, Return, PseudoCall, WideLoad, Jump, Branch, Next}
+use Rattle.ebpf_linker.specs.Functions.{flow}
 use Rattle.ebpf_reachability.specs.declared.registers.Registers.{Registers}
 use Rattle.ebpf_reachability.specs.declared.steps.SlotState.{SlotState}
-use Rattle.ebpf_reachability.specs.Effects.{
-  unknown,
-  learned,
-  called,
-  after,
-  decided,
-  wide_load_result,
-}
+use Rattle.ebpf_reachability.specs.Effects.{unknown, learned, called, after, decided}
+use Rattle.ebpf_reachability.specs.Effects.{wide_load_result}
 
 -- a step to a place, which leads nowhere where it leaves the program
 abbrev pub steps_to : List bpf_insn → ℤ → Registers → List SlotState

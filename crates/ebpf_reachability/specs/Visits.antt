@@ -1,42 +1,11 @@
 -- What each closed assignment reaches: all that a program can come to.
-use Rattle.std.specs.Prelude.{
-  ◌≡◌,
-  ℕ,
-  zero,
-  suc,
-  ◌<◌,
-  ℤ,
-  pos,
-  negsuc,
-  Bool,
-  IsSome,
-  Option,
-  Some,
-  None,
-  List,
-  [],
-  ◌∷◌,
-  length,
-  ⊤,
-  ◌⊎◌,
-  true,
-  slice_get,
-}
+use Rattle.std.specs.Prelude.{◌≡◌, ℕ, zero, suc, ◌<◌, ℤ, pos, negsuc, Bool, IsSome, Option, Some}
+use Rattle.std.specs.Prelude.{None, List, [], ◌∷◌, length, ⊤, ◌⊎◌, true, slice_get}
 use Rattle.std.specs.Option.{option_and_then}
 use Rattle.ebpf_parts.specs.declared.insn.bpf_insn.{bpf_insn}
 use Rattle.ebpf_linker.specs.Functions.{Flow, Branch, flow, slot_at_integer}
-use Rattle.ebpf_linker.specs.Machine.{
-  State,
-  StepResult,
-  Goes,
-  Ends,
-  Waits,
-  Leaves,
-  run_steps,
-  begin,
-  flat_code,
-  step_at,
-}
+use Rattle.ebpf_linker.specs.Machine.{State, StepResult, Goes, Ends, Waits, Leaves, run_steps}
+use Rattle.ebpf_linker.specs.Machine.{begin, flat_code, step_at}
 use Rattle.ebpf_reachability.specs.declared.registers.Registers.{Registers}
 use Rattle.ebpf_reachability.specs.declared.steps.SlotState.{SlotState}
 use Rattle.ebpf_reachability.specs.Effects.{IsBelow, known, decided}

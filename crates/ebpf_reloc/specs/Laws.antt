@@ -1,20 +1,6 @@
 -- What follows of linked programs from what linking promises.
-use Rattle.std.specs.Prelude.{
-  ◌≡◌,
-  ◌+◌,
-  ℕ,
-  List,
-  ◌∷◌,
-  Some,
-  Result,
-  Ok,
-  Err,
-  slice_get,
-  ◌<◌,
-  [],
-  map,
-  length,
-}
+use Rattle.std.specs.Prelude.{◌≡◌, ◌+◌, ℕ, List, ◌∷◌, Some, Result, Ok, Err, slice_get, ◌<◌, []}
+use Rattle.std.specs.Prelude.{map, length}
 use Rattle.std.specs.FinMap.{FinMap}
 use Rattle.ebpf_base.specs.Maps.{key_cmp}
 use Rattle.ebpf_linker.specs.Functions.{Nothing, BeginsAt, body, Among}
@@ -24,15 +10,8 @@ use Rattle.ebpf_model.specs.Symbols.{FunctionKey}
 use Rattle.ebpf_model.specs.declared.error.EbpfRelocationError.{EbpfRelocationError}
 use Rattle.ebpf_model.specs.declared.function.Function.{Function}
 use Rattle.ebpf_parts.specs.declared.insn.bpf_insn.{bpf_insn}
-use Rattle.ebpf_reloc.specs.Linking.{
-  IsLinkMapAt,
-  ProgramValue,
-  IsLinked,
-  AreLinked,
-  IsFirstRefusal,
-  key_of,
-  IsProgramRefusal,
-}
+use Rattle.ebpf_reloc.specs.Linking.{IsLinkMapAt, ProgramValue, IsLinked, AreLinked, IsFirstRefusal}
+use Rattle.ebpf_reloc.specs.Linking.{key_of, IsProgramRefusal}
 use Rattle.ebpf_reloc.specs.References.{functions_of}
 use Rattle.ebpf_reloc.specs.SlotTargets.{LinkableValue}
 use Rattle.ebpf_reloc.specs.declared.link_map.CodeCopy.{CodeCopy}

@@ -1,37 +1,7 @@
 -- File descriptors of maps in slots, and the offsets in maps' data that slots in a row add up.
-use Rattle.std.specs.Prelude.{
-  ℕ,
-  ℤ,
-  pos,
-  negsuc,
-  ◌^◌,
-  ◌+ℤ◌,
-  Bool,
-  true,
-  false,
-  ◌||◌,
-  if◌then◌else◌,
-  nat_lt,
-  List,
-  [],
-  ◌∷◌,
-  map,
-  Option,
-  Some,
-  None,
-  Result,
-  Ok,
-  Err,
-  ◌≡◌,
-  ◌<◌,
-  ◌+◌,
-  ◌*◌,
-  length,
-  sum,
-  unwrap_or,
-  suc,
-  option_map,
-}
+use Rattle.std.specs.Prelude.{ℕ, ℤ, pos, negsuc, ◌^◌, ◌+ℤ◌, Bool, true, false, ◌||◌, if◌then◌else◌}
+use Rattle.std.specs.Prelude.{nat_lt, List, [], ◌∷◌, map, Option, Some, None, Result, Ok, Err, ◌≡◌}
+use Rattle.std.specs.Prelude.{◌<◌, ◌+◌, ◌*◌, length, sum, unwrap_or, suc, option_map}
 use Rattle.std.specs.FinMap.{FinMap, get, empty, insert}
 use Rattle.std.specs.List.{flat_map}
 use Rattle.std.specs.Ordering.{nat_cmp}
@@ -43,33 +13,20 @@ use Rattle.ebpf_model.specs.Symbols.{TextSections}
 use Rattle.ebpf_model.specs.declared.function.Function.{Function}
 use Rattle.ebpf_model.specs.declared.symbol.Symbol.{Symbol}
 use Rattle.ebpf_parts.specs.Maps.{bytes_of, section_index_of, symbol_index_of}
-use Rattle.ebpf_parts.specs.Slots.{
-  pseudo_map_fd,
-  pseudo_map_value,
-  is_pseudo_call,
-  dst_of,
-  registers,
-}
+use Rattle.ebpf_parts.specs.Slots.{pseudo_map_fd, pseudo_map_value, is_pseudo_call, dst_of}
+use Rattle.ebpf_parts.specs.Slots.{registers}
 use Rattle.ebpf_parts.specs.declared.insn.bpf_insn.{bpf_insn}
 use Rattle.ebpf_parts.specs.declared.maps.either.Map.{Map}
-use Rattle.ebpf_reloc.specs.Relocated.{
-  slot_or_zeros,
-  found_slot,
-  SectionRelocations,
-  edit_at,
-  first_refusal,
-}
+use Rattle.ebpf_reloc.specs.Relocated.{slot_or_zeros, found_slot, SectionRelocations, edit_at}
+use Rattle.ebpf_reloc.specs.Relocated.{first_refusal}
 use Rattle.ebpf_reloc.specs.declared.edit.Edit.{Edit}
 use Rattle.ebpf_reloc.specs.declared.edit.Edit.TheVariants.{Stay, Slot, Pair}
 use Rattle.ebpf_reloc.specs.declared.maps.MapTables.{MapTables}
 use Rattle.ebpf_reloc.specs.declared.maps.MapTarget.{MapTarget}
 use Rattle.ebpf_reloc.specs.declared.edit.SlotFault.{SlotFault}
-use Rattle.ebpf_reloc.specs.declared.edit.SlotFault.TheVariants.{
-  UnknownSymbol,
-  InvalidOffset,
-  SectionNotFound,
-  MapAddressOverflow,
-}
+use Rattle.ebpf_reloc.specs.declared.edit.SlotFault.TheVariants.{UnknownSymbol, InvalidOffset}
+use Rattle.ebpf_reloc.specs.declared.edit.SlotFault.TheVariants.{SectionNotFound}
+use Rattle.ebpf_reloc.specs.declared.edit.SlotFault.TheVariants.{MapAddressOverflow}
 
 -- a map that is handed in: its descriptor, and the map
 abbrev pub GivenMap : Type 0

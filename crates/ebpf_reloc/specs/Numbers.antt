@@ -4,22 +4,17 @@ use Rattle.std.specs.FinMap.{FinMap, entries}
 use Rattle.std.specs.Map.{keys_of}
 use Rattle.ebpf_base.specs.Maps.{key_cmp}
 use Rattle.ebpf_linker.specs.declared.reference.Fault.{Fault}
-use Rattle.ebpf_linker.specs.declared.reference.Fault.TheVariants.{
-  UnsupportedTextSymbol,
-  UnknownFunction,
-  FunctionInfoMismatch,
-  ProgramTooLong,
-  InvalidLineInfo,
-}
+use Rattle.ebpf_linker.specs.declared.reference.Fault.TheVariants.{UnsupportedTextSymbol}
+use Rattle.ebpf_linker.specs.declared.reference.Fault.TheVariants.{UnknownFunction}
+use Rattle.ebpf_linker.specs.declared.reference.Fault.TheVariants.{FunctionInfoMismatch}
+use Rattle.ebpf_linker.specs.declared.reference.Fault.TheVariants.{ProgramTooLong, InvalidLineInfo}
 use Rattle.ebpf_model.specs.Symbols.{FunctionKey}
 use Rattle.ebpf_model.specs.declared.error.RelocationError.{RelocationError}
-use Rattle.ebpf_model.specs.declared.error.RelocationError.TheVariants.{
-  UnsupportedTextSymbol as NoTextSymbol,
-  UnknownFunction as NoFunction,
-  FunctionInfoMismatch as Mismatch,
-  ProgramTooLong as TooLong,
-  InvalidLineInfo as StrayLine,
-}
+use Rattle.ebpf_model.specs.declared.error.RelocationError.TheVariants.{UnsupportedTextSymbol as NoTextSymbol}
+use Rattle.ebpf_model.specs.declared.error.RelocationError.TheVariants.{UnknownFunction as NoFunction}
+use Rattle.ebpf_model.specs.declared.error.RelocationError.TheVariants.{FunctionInfoMismatch as Mismatch}
+use Rattle.ebpf_model.specs.declared.error.RelocationError.TheVariants.{ProgramTooLong as TooLong}
+use Rattle.ebpf_model.specs.declared.error.RelocationError.TheVariants.{InvalidLineInfo as StrayLine}
 use Rattle.ebpf_model.specs.declared.function.Function.{Function}
 use Rattle.ebpf_reloc.specs.References.{function_name_or_empty}
 use Rattle.ebpf_reloc.specs.SlotTargets.{LinkableValue}

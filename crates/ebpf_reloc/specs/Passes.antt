@@ -3,27 +3,8 @@ use Rattle.std.specs.FinMap.{FinMap, get}
 use Rattle.std.specs.Int.{w32, cast_signed}
 use Rattle.std.specs.Iterator.{Drains}
 use Rattle.std.specs.Ordering.{nat_cmp}
-use Rattle.std.specs.Prelude.{
-  ℕ,
-  pos,
-  ◌+◌,
-  ◌/◌,
-  ◌%◌,
-  ◌^◌,
-  ◌==◌,
-  Bool,
-  if◌then◌else◌,
-  [],
-  Option,
-  Some,
-  None,
-  unwrap_or,
-  Result,
-  Ok,
-  Err,
-  List,
-  map,
-}
+use Rattle.std.specs.Prelude.{ℕ, pos, ◌+◌, ◌/◌, ◌%◌, ◌^◌, ◌==◌, Bool, if◌then◌else◌, [], Option}
+use Rattle.std.specs.Prelude.{Some, None, unwrap_or, Result, Ok, Err, List, map}
 use Rattle.ebpf_base.specs.Maps.{text_cmp, key_cmp}
 use Rattle.ebpf_elf.specs.declared.relocation.ElfRelocation.{ElfRelocation}
 use Rattle.ebpf_model.specs.Symbols.{is_extern, TextSections, text_sections_in}
@@ -31,37 +12,19 @@ use Rattle.ebpf_model.specs.declared.error.EbpfRelocationError.{EbpfRelocationEr
 use Rattle.ebpf_model.specs.declared.symbol.ExternDesc.{ExternDesc}
 use Rattle.ebpf_model.specs.declared.function.Function.{Function}
 use Rattle.ebpf_model.specs.declared.symbol.Symbol.{Symbol}
-use Rattle.ebpf_parts.specs.Slots.{
-  absent_kfunc,
-  call,
-  ld_imm64,
-  pseudo_btf_id,
-  pseudo_kfunc_call,
-  dst_of,
-  registers,
-}
+use Rattle.ebpf_parts.specs.Slots.{absent_kfunc, call, ld_imm64, pseudo_btf_id, pseudo_kfunc_call}
+use Rattle.ebpf_parts.specs.Slots.{dst_of, registers}
 use Rattle.ebpf_parts.specs.declared.insn.bpf_insn.{bpf_insn}
-use Rattle.ebpf_reloc.specs.Maps.{
-  with_source,
-  GivenMap,
-  LentMap,
-  given_map,
-  MapInputs,
-  tables_of,
-  map_edit,
-}
+use Rattle.ebpf_reloc.specs.Maps.{with_source, GivenMap, LentMap, given_map, MapInputs, tables_of}
+use Rattle.ebpf_reloc.specs.Maps.{map_edit}
 use Rattle.ebpf_reloc.specs.Relocated.{Relocations, relocated, first_fault, EditRule}
 use Rattle.ebpf_reloc.specs.declared.edit.Edit.{Edit}
 use Rattle.ebpf_reloc.specs.declared.edit.Edit.TheVariants.{Stay, Slot, Pair}
 use Rattle.ebpf_reloc.specs.declared.edit.Rule.{Rule}
 use Rattle.ebpf_reloc.specs.declared.edit.Rule.TheVariants.{Maps, Externs}
 use Rattle.ebpf_reloc.specs.declared.edit.SlotFault.{SlotFault}
-use Rattle.ebpf_reloc.specs.declared.edit.SlotFault.TheVariants.{
-  UnknownSymbol,
-  InvalidOffset,
-  ExternNotFound,
-  UnresolvableSymbol,
-}
+use Rattle.ebpf_reloc.specs.declared.edit.SlotFault.TheVariants.{UnknownSymbol, InvalidOffset}
+use Rattle.ebpf_reloc.specs.declared.edit.SlotFault.TheVariants.{ExternNotFound, UnresolvableSymbol}
 use Rattle.ebpf_reloc.specs.declared.externs.ExternRule.{ExternRule}
 use Rattle.ebpf_reloc.specs.declared.externs.ExternLoad.{ExternLoad}
 use Rattle.ebpf_reloc.specs.declared.externs.ExternLoad.TheVariants.{Id, Address}

@@ -14,10 +14,8 @@ use Rattle.std.specs.List.{position_from}
 use Rattle.std.specs.Ordering.{eq_by_cmp}
 use Rattle.ebpf_base.specs.Maps.{key_cmp}
 use Rattle.ebpf_linker.specs.declared.reference.Reference.{Reference}
-use Rattle.ebpf_linker.specs.declared.reference.Fault.TheVariants.{
-  UnsupportedTextSymbol,
-  UnknownFunction,
-}
+use Rattle.ebpf_linker.specs.declared.reference.Fault.TheVariants.{UnsupportedTextSymbol}
+use Rattle.ebpf_linker.specs.declared.reference.Fault.TheVariants.{UnknownFunction}
 use Rattle.ebpf_linker.specs.declared.reference.Target.{Target}
 use Rattle.ebpf_linker.specs.declared.reference.Target.TheVariants.{Function as ToFunction, Nowhere}
 use Rattle.ebpf_parts.specs.declared.insn.bpf_insn.{bpf_insn}

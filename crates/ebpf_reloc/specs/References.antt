@@ -2,24 +2,16 @@
 use Rattle.std.specs.Prelude.{ℕ, List, [], Option, Some, None, if◌then◌else◌, slice_get, option_map}
 use Rattle.std.specs.FinMap.{FinMap, get, contains_key}
 use Rattle.ebpf_base.specs.Maps.{key_cmp}
-use Rattle.ebpf_linker.specs.Functions.{
-  SlotReference,
-  Nothing,
-  Faulty,
-  Names,
-  FunctionContent,
-  Functions,
-}
+use Rattle.ebpf_linker.specs.Functions.{SlotReference, Nothing, Faulty, Names, FunctionContent}
+use Rattle.ebpf_linker.specs.Functions.{Functions}
 use Rattle.ebpf_parts.specs.declared.insn.bpf_insn.{bpf_insn}
 use Rattle.ebpf_model.specs.Symbols.{FunctionKey}
 use Rattle.ebpf_model.specs.declared.error.RelocationError.{RelocationError}
-use Rattle.ebpf_model.specs.declared.error.RelocationError.TheVariants.{
-  UnsupportedTextSymbol,
-  UnknownFunction,
-  FunctionInfoMismatch,
-  ProgramTooLong,
-  InvalidLineInfo,
-}
+use Rattle.ebpf_model.specs.declared.error.RelocationError.TheVariants.{UnsupportedTextSymbol}
+use Rattle.ebpf_model.specs.declared.error.RelocationError.TheVariants.{UnknownFunction}
+use Rattle.ebpf_model.specs.declared.error.RelocationError.TheVariants.{FunctionInfoMismatch}
+use Rattle.ebpf_model.specs.declared.error.RelocationError.TheVariants.{ProgramTooLong}
+use Rattle.ebpf_model.specs.declared.error.RelocationError.TheVariants.{InvalidLineInfo}
 use Rattle.ebpf_model.specs.declared.function.Function.{Function}
 use Rattle.ebpf_reloc.specs.declared.slot_target.SlotTarget.{SlotTarget}
 use Rattle.ebpf_reloc.specs.declared.slot_target.SlotTarget.TheVariants.{Absent, Unsupported, At}

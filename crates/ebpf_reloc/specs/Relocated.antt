@@ -1,39 +1,9 @@
 -- What edits make of slots, functions after a pass, and the first relocation that a pass cannot
 -- apply.
-use Rattle.std.specs.Prelude.{
-  ℕ,
-  zero,
-  suc,
-  pos,
-  List,
-  length,
-  map,
-  slice_index_or,
-  ◌+◌,
-  ◌-◌,
-  ◌*◌,
-  ◌/◌,
-  ◌%◌,
-  ◌==◌,
-  Bool,
-  ◌&&◌,
-  if◌then◌else◌,
-  nat_le,
-  nat_lt,
-  [],
-  count_by,
-  Option,
-  Some,
-  None,
-  unwrap_or,
-  option_map,
-  Result,
-  Ok,
-  Err,
-  ℤ,
-  ◌∷◌,
-  slice_set,
-}
+use Rattle.std.specs.Prelude.{ℕ, zero, suc, pos, List, length, map, slice_index_or, ◌+◌, ◌-◌, ◌*◌}
+use Rattle.std.specs.Prelude.{◌/◌, ◌%◌, ◌==◌, Bool, ◌&&◌, if◌then◌else◌, nat_le, nat_lt, []}
+use Rattle.std.specs.Prelude.{count_by, Option, Some, None, unwrap_or, option_map, Result, Ok, Err}
+use Rattle.std.specs.Prelude.{ℤ, ◌∷◌, slice_set}
 use Rattle.std.specs.List.{range_with_len}
 use Rattle.std.specs.FinMap.{FinMap, get, empty, entries}
 use Rattle.std.specs.Ordering.{nat_cmp}
@@ -49,14 +19,10 @@ use Rattle.ebpf_parts.specs.declared.insn.bpf_insn.{bpf_insn}
 use Rattle.ebpf_reloc.specs.declared.edit.Edit.{Edit}
 use Rattle.ebpf_reloc.specs.declared.edit.Edit.TheVariants.{Stay, Slot, Pair}
 use Rattle.ebpf_reloc.specs.declared.edit.SlotFault.{SlotFault}
-use Rattle.ebpf_reloc.specs.declared.edit.SlotFault.TheVariants.{
-  UnknownSymbol,
-  InvalidOffset,
-  SectionNotFound,
-  MapAddressOverflow,
-  ExternNotFound,
-  UnresolvableSymbol,
-}
+use Rattle.ebpf_reloc.specs.declared.edit.SlotFault.TheVariants.{UnknownSymbol, InvalidOffset}
+use Rattle.ebpf_reloc.specs.declared.edit.SlotFault.TheVariants.{SectionNotFound}
+use Rattle.ebpf_reloc.specs.declared.edit.SlotFault.TheVariants.{MapAddressOverflow, ExternNotFound}
+use Rattle.ebpf_reloc.specs.declared.edit.SlotFault.TheVariants.{UnresolvableSymbol}
 use Rattle.ebpf_reloc.specs.declared.edit.SlotRefusal.{SlotRefusal}
 use Rattle.ebpf_model.specs.declared.error.RelocationError.TheVariants as error
 

@@ -1,25 +1,8 @@
 -- The license and the kernel version that a file states, in its sections `license` and `version`
 -- (libbpf's names).
 use Rattle.std.specs.List.{before_first, list_any}
-use Rattle.std.specs.Prelude.{
-  ℕ,
-  ◌-◌,
-  Bool,
-  not,
-  ◌||◌,
-  List,
-  [],
-  ◌∷◌,
-  length,
-  take,
-  Option,
-  Some,
-  None,
-  ◌==◌,
-  nat_lt,
-  if◌then◌else◌,
-  codes,
-}
+use Rattle.std.specs.Prelude.{ℕ, ◌-◌, Bool, not, ◌||◌, List, [], ◌∷◌, length, take, Option, Some}
+use Rattle.std.specs.Prelude.{None, ◌==◌, nat_lt, if◌then◌else◌, codes}
 use Rattle.ebpf_base.specs.Faults.{or_else, first_of}
 use Rattle.ebpf_base.specs.Numbers.{number_at}
 use Rattle.ebpf_base.specs.declared.endianness.Endianness.{Endianness}
@@ -27,11 +10,9 @@ use Rattle.ebpf_elf.specs.Headers.{ei_data}
 use Rattle.ebpf_elf.specs.Sections.{SectionOf}
 use Rattle.ebpf_parts.specs.Sections.{section_of, section_fault}
 use Rattle.ebpf_parts.specs.declared.error.ParseError.{ParseError}
-use Rattle.ebpf_parts.specs.declared.error.ParseError.TheVariants.{
-  InvalidLicense,
-  MissingLicenseNullTerminator,
-  InvalidKernelVersion,
-}
+use Rattle.ebpf_parts.specs.declared.error.ParseError.TheVariants.{InvalidLicense}
+use Rattle.ebpf_parts.specs.declared.error.ParseError.TheVariants.{MissingLicenseNullTerminator}
+use Rattle.ebpf_parts.specs.declared.error.ParseError.TheVariants.{InvalidKernelVersion}
 use Rattle.ebpf_parts.specs.declared.parse_mode.ParseMode.{ParseMode}
 use Rattle.ebpf_parts.specs.declared.parse_mode.ParseMode.TheVariants.{Strict, Lenient}
 use Rattle.ebpf_sections.specs.Sections.{first_section_named}

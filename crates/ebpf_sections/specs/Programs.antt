@@ -2,28 +2,8 @@
 use Rattle.std.specs.FinMap.{FinMap, empty}
 use Rattle.std.specs.List.{flat_map}
 use Rattle.std.specs.Ordering.{nat_cmp}
-use Rattle.std.specs.Prelude.{
-  ℕ,
-  ◌+◌,
-  ◌-◌,
-  Bool,
-  not,
-  ◌&&◌,
-  ◌||◌,
-  List,
-  [],
-  ◌∷◌,
-  length,
-  map,
-  filter,
-  Option,
-  Some,
-  None,
-  ◌==◌,
-  nat_lt,
-  slice_range,
-  if◌then◌else◌,
-}
+use Rattle.std.specs.Prelude.{ℕ, ◌+◌, ◌-◌, Bool, not, ◌&&◌, ◌||◌, List, [], ◌∷◌, length, map}
+use Rattle.std.specs.Prelude.{filter, Option, Some, None, ◌==◌, nat_lt, slice_range, if◌then◌else◌}
 use Rattle.ebpf_base.specs.Faults.{Row, first_in, first_some}
 use Rattle.ebpf_base.specs.Maps.{put_all}
 use Rattle.ebpf_elf.specs.Symbols.{symbols}

@@ -3,31 +3,9 @@
 use Rattle.std.specs.FinMap.{FinMap, empty, get}
 use Rattle.std.specs.List.{range_with_len}
 use Rattle.std.specs.List.Sorted.{IsPartitionPoint}
-use Rattle.std.specs.Prelude.{
-  ℕ,
-  ◌+◌,
-  ◌-◌,
-  ◌/◌,
-  ◌&&◌,
-  Bool,
-  List,
-  map,
-  filter,
-  Option,
-  Some,
-  None,
-  ◌==◌,
-  nat_le,
-  nat_lt,
-  ◌<◌,
-  ◌≤◌,
-  true,
-  [],
-  ◌∷◌,
-  ◌≡◌,
-  slice_index_or,
-  unwrap_or,
-}
+use Rattle.std.specs.Prelude.{ℕ, ◌+◌, ◌-◌, ◌/◌, ◌&&◌, Bool, List, map, filter, Option, Some, None}
+use Rattle.std.specs.Prelude.{◌==◌, nat_le, nat_lt, ◌<◌, ◌≤◌, true, [], ◌∷◌, ◌≡◌, slice_index_or}
+use Rattle.std.specs.Prelude.{unwrap_or}
 use Rattle.ebpf_base.specs.Maps.{text_cmp}
 use Rattle.ebpf_btf_ext.specs.ExtReading.{func_info_at, line_info_at, ExtInfo}
 use Rattle.ebpf_btf_ext.specs.declared.ext_infos.FuncSecInfo.{FuncSecInfo}

@@ -5,27 +5,8 @@ use Rattle.std.specs.FinMap.{FinMap, empty}
 use Rattle.std.specs.Global.{Vec}
 use Rattle.std.specs.List.{find, list_any, flat_map}
 use Rattle.std.specs.Ordering.{nat_cmp}
-use Rattle.std.specs.Prelude.{
-  ℕ,
-  Bool,
-  not,
-  ◌||◌,
-  List,
-  [],
-  ◌∷◌,
-  Option,
-  Some,
-  None,
-  ◌==◌,
-  if◌then◌else◌,
-  codes,
-  map,
-  filter,
-  true,
-  false,
-  ◌&&◌,
-  ◌≡◌,
-}
+use Rattle.std.specs.Prelude.{ℕ, Bool, not, ◌||◌, List, [], ◌∷◌, Option, Some, None, ◌==◌}
+use Rattle.std.specs.Prelude.{if◌then◌else◌, codes, map, filter, true, false, ◌&&◌, ◌≡◌}
 use Rattle.ebpf_base.specs.Maps.{put_all, text_cmp}
 use Rattle.ebpf_base.specs.declared.endianness.Endianness.{Endianness}
 use Rattle.ebpf_base.specs.declared.endianness.Endianness.TheVariants.{Little, Big}
@@ -42,13 +23,8 @@ use Rattle.ebpf_parts.specs.declared.error.ParseError.TheVariants.{BigEndianCode
 use Rattle.ebpf_parts.specs.declared.parse_mode.ParseMode.{ParseMode}
 use Rattle.ebpf_parts.specs.declared.parse_mode.ParseMode.TheVariants.{Strict, Lenient}
 use Rattle.ebpf_parts.specs.declared.section.EbpfSectionKind.{EbpfSectionKind}
-use Rattle.ebpf_parts.specs.declared.section.EbpfSectionKind.TheVariants.{
-  Text,
-  Program as Programs,
-  Data,
-  Rodata,
-  Bss,
-}
+use Rattle.ebpf_parts.specs.declared.section.EbpfSectionKind.TheVariants.{Text, Program as Programs}
+use Rattle.ebpf_parts.specs.declared.section.EbpfSectionKind.TheVariants.{Data, Rodata, Bss}
 
 -- the first section with a name; names that can't be read are passed over
 abbrev pub first_section_named : List ℕ → List ℕ → Option SectionOf

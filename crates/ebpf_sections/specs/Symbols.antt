@@ -2,37 +2,13 @@
 use Rattle.std.specs.FinMap.{FinMap, empty}
 use Rattle.std.specs.List.{find}
 use Rattle.std.specs.Ordering.{nat_cmp, eq_by_cmp}
-use Rattle.std.specs.Prelude.{
-  ℕ,
-  Bool,
-  true,
-  false,
-  List,
-  Option,
-  Some,
-  None,
-  ◌==◌,
-  filter,
-  [],
-  map,
-  unwrap_or,
-  is_some,
-  if◌then◌else◌,
-  option_map,
-}
+use Rattle.std.specs.Prelude.{ℕ, Bool, true, false, List, Option, Some, None, ◌==◌, filter, [], map}
+use Rattle.std.specs.Prelude.{unwrap_or, is_some, if◌then◌else◌, option_map}
 use Rattle.ebpf_base.specs.Faults.{first_some}
 use Rattle.ebpf_base.specs.Maps.{put_all, text_cmp}
 use Rattle.ebpf_btf.specs.declared.error.BtfError.TheVariants.{InvalidSymbolName}
-use Rattle.ebpf_elf.specs.Symbols.{
-  SymbolOf,
-  entry,
-  symbol_name,
-  symbol_kind,
-  symbol_section_index,
-  is_definition,
-  is_weak,
-  symbols,
-}
+use Rattle.ebpf_elf.specs.Symbols.{SymbolOf, entry, symbol_name, symbol_kind, symbol_section_index}
+use Rattle.ebpf_elf.specs.Symbols.{is_definition, is_weak, symbols}
 use Rattle.ebpf_elf.specs.declared.symbol.SymbolKind.{SymbolKind}
 use Rattle.ebpf_elf.specs.declared.symbol.SymbolKind.TheVariants.{Text}
 use Rattle.ebpf_model.specs.declared.symbol.Symbol.{Symbol}

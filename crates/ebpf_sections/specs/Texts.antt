@@ -1,41 +1,16 @@
 -- The functions of a Text section, by its symbols.
 use Rattle.std.specs.List.{find, flat_map, range_with_len}
-use Rattle.std.specs.Prelude.{
-  ℕ,
-  suc,
-  zero,
-  ◌+◌,
-  ◌%◌,
-  ◌^◌,
-  Bool,
-  ◌&&◌,
-  ◌||◌,
-  List,
-  [],
-  ◌∷◌,
-  length,
-  take,
-  slice_get,
-  Option,
-  Some,
-  None,
-  ◌==◌,
-  nat_lt,
-  if◌then◌else◌,
-  slice_range,
-  is_some,
-}
+use Rattle.std.specs.Prelude.{ℕ, suc, zero, ◌+◌, ◌%◌, ◌^◌, Bool, ◌&&◌, ◌||◌, List, [], ◌∷◌, length}
+use Rattle.std.specs.Prelude.{take, slice_get, Option, Some, None, ◌==◌, nat_lt, if◌then◌else◌}
+use Rattle.std.specs.Prelude.{slice_range, is_some}
 use Rattle.ebpf_base.specs.Faults.{or_else, first_in, first_some}
 use Rattle.ebpf_elf.specs.Symbols.{symbols}
 use Rattle.ebpf_model.specs.declared.function.Function.{Function}
 use Rattle.ebpf_parts.specs.Sections.{SectionValue}
 use Rattle.ebpf_parts.specs.Slots.{slots_of, code_faults}
 use Rattle.ebpf_parts.specs.declared.error.ParseError.{ParseError}
-use Rattle.ebpf_parts.specs.declared.error.ParseError.TheVariants.{
-  SymbolTableConflict,
-  UnknownSymbol,
-  InvalidSymbol,
-}
+use Rattle.ebpf_parts.specs.declared.error.ParseError.TheVariants.{SymbolTableConflict}
+use Rattle.ebpf_parts.specs.declared.error.ParseError.TheVariants.{UnknownSymbol, InvalidSymbol}
 use Rattle.ebpf_sections.specs.Records.{FuncAndLineInfo, slot_of, funcs_at, lines_in}
 use Rattle.ebpf_sections.specs.Symbols.{SymbolValue, is_text_symbol}
 

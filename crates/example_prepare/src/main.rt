@@ -2,14 +2,13 @@
 #![tactic(auto)]
 
 use ebpf_object::Object;
-use ebpf_object::prepare::{PrepareError, Steps, prepare};
+use ebpf_object::prepare::{NO_SYMBOLS, PrepareError, Steps, prepare};
 use std::alloc::Global;
 use std::{env, fs, io};
 
 /// Returns the object of a file, with each program linked with the functions that it calls.
 fn linked(alloc: Global, file: &[u8]) -> Result<Object, PrepareError> {
-    let no_symbols: &[u8] = &[];
-    prepare(alloc, file, &Steps::none().with_calls(), no_symbols)
+    prepare(alloc, file, &Steps::none().with_calls(), NO_SYMBOLS)
 }
 
 /// Returns the number of slots of the program with this name.

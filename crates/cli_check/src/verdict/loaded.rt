@@ -1,9 +1,9 @@
 //! An object, read once for all kernels.
 
 use crate::verdict::own_values::own_value;
+use cli_common::kconfig_externs::object_settings;
 use cli_common::map_uses::{MapUse, map_uses};
 use cli_common::programs::ObjectProgram;
-use cli_common::settings::object_settings;
 use ebpf_base::{ByKey, ByName, Items, Text};
 use ebpf_btf::Btf;
 use ebpf_btf_ext::Relocation;

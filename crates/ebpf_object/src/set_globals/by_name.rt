@@ -1,13 +1,14 @@
 //! The given values of variables, by name.
 
 ghost use denote.Ref.{Bor};
-ghost use Rattle.std.specs.Prelude.{◌≡◌, ℕ, List, IfOk, option_map};
+ghost use Rattle.std.specs.Prelude.{◌≡◌, ℕ, List, IfOk, OnOk, option_map};
 ghost use Rattle.std.specs.FinMap as finite;
 ghost use Rattle.std.specs.List.{IsDistinct};
 ghost use Rattle.std.specs.Map.{keys_of};
 ghost use Rattle.std.specs.Str.{bytes_eq};
 ghost use Rattle.ebpf_base.specs.Maps.{lent_bytes};
 ghost use Rattle.ebpf_object.specs.Patches.{global_of, globals_of};
+ghost use Rattle.ebpf_object.specs.Variables.{one_value};
 
 use std::alloc::{AllocError, Global};
 use std::collections::HashMap;
@@ -54,4 +55,31 @@ pub fn names_of<'a>(
     let mut names = given_names(alloc, globals)?;
     names.sort_unstable();
     Ok(names)
+}
+
+/// Puts the value of a variable in the place of an earlier one.
+fn put_over<'a>(
+    globals: &mut HashMap<&'a str, (&'a [u8], bool)>,
+    name: &'a str,
+    value: (&'a [u8], bool),
+) -> Result<(), AllocError>
+    ensures { OnOk result
+        (globals_of globals.new.entries
+        ≡ finite.insert (globals_of globals.old.entries) name.now (global_of value.entry)) }
+{
+    globals.insert(name, value)?;
+    Ok(())
+}
+
+/// The value of one variable, as `patch_map_data` takes them.
+pub fn one_value<'a>(
+    alloc: Global,
+    name: &'a str,
+    value: &'a [u8],
+) -> Result<HashMap<&'a str, (&'a [u8], bool)>, AllocError>
+    ensures { IfOk result (λ globals. globals_of globals.entries ≡ one_value name.now value.now) }
+{
+    let mut globals = HashMap::new(alloc);
+    put_over(&mut globals, name, (value, true))?;
+    Ok(globals)
 }

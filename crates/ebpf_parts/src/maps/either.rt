@@ -295,27 +295,29 @@ impl Map {
         Map::Legacy(LegacyMap::without_section(alloc, def))
     }
 
-    /// The map that a map of maps holds: in no section, without data. None for other maps. It has no data to be
-    /// copied, so memory is never wanted.
-    pub fn inner(&self) -> Result<Option<Map>, AllocError>
-        ensures { result ≡ Ok (maps.inner_of self.now) }
+    /// The map that a map of maps holds: in no section, without data. None for other maps. No memory is taken.
+    pub fn inner_map(&self) -> Option<Map>
+        ensures { result ≡ maps.inner_of self.now }
     {
         match self {
             Map::Legacy(map) => {
                 let alloc = *map.bytes.as_vec().allocator();
-                Ok(
-                    map.inner_def
-                        .map(|def| Map::Legacy(LegacyMap::without_section(alloc, def))),
-                )
+                map.inner_def
+                    .map(|def| Map::Legacy(LegacyMap::without_section(alloc, def)))
             }
             Map::Btf(map) => {
                 let alloc = *map.bytes.as_vec().allocator();
-                Ok(
-                    map.inner_def
-                        .map(|def| Map::Btf(BtfMap::without_section(alloc, def))),
-                )
+                map.inner_def
+                    .map(|def| Map::Btf(BtfMap::without_section(alloc, def)))
             }
         }
+    }
+
+    /// `inner_map`, in the form of aya-obj, which is never `Err`.
+    pub fn inner(&self) -> Result<Option<Map>, AllocError>
+        ensures { result ≡ Ok (maps.inner_of self.now) }
+    {
+        Ok(self.inner_map())
     }
 }
 

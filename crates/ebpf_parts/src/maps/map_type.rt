@@ -2,7 +2,7 @@
 
 ghost use Rattle.std.specs.Prelude.{◌≡◌, Some, slice_get};
 ghost use Rattle.ebpf_parts.specs.Numbers.{at_number};
-ghost use Rattle.ebpf_parts.specs.Maps.{map_types};
+ghost use Rattle.ebpf_parts.specs.Maps.{map_type_name, map_types};
 
 use crate::binding::{InvalidTypeBinding, at_number};
 
@@ -92,6 +92,50 @@ impl bpf_map_type {
         ensures { slice_get map_types result ≡ Some self }
     {
         self as u32
+    }
+
+    /// The name of the type, as bpftool prints it.
+    #[tactic(auto, unfolding(crate::specs::Maps::map_type_name))]
+    pub fn name(self) -> &'static str
+        ensures { result.now ≡ map_type_name self }
+    {
+        match self {
+            bpf_map_type::BPF_MAP_TYPE_UNSPEC => "unspec",
+            bpf_map_type::BPF_MAP_TYPE_HASH => "hash",
+            bpf_map_type::BPF_MAP_TYPE_ARRAY => "array",
+            bpf_map_type::BPF_MAP_TYPE_PROG_ARRAY => "prog_array",
+            bpf_map_type::BPF_MAP_TYPE_PERF_EVENT_ARRAY => "perf_event_array",
+            bpf_map_type::BPF_MAP_TYPE_PERCPU_HASH => "percpu_hash",
+            bpf_map_type::BPF_MAP_TYPE_PERCPU_ARRAY => "percpu_array",
+            bpf_map_type::BPF_MAP_TYPE_STACK_TRACE => "stack_trace",
+            bpf_map_type::BPF_MAP_TYPE_CGROUP_ARRAY => "cgroup_array",
+            bpf_map_type::BPF_MAP_TYPE_LRU_HASH => "lru_hash",
+            bpf_map_type::BPF_MAP_TYPE_LRU_PERCPU_HASH => "lru_percpu_hash",
+            bpf_map_type::BPF_MAP_TYPE_LPM_TRIE => "lpm_trie",
+            bpf_map_type::BPF_MAP_TYPE_ARRAY_OF_MAPS => "array_of_maps",
+            bpf_map_type::BPF_MAP_TYPE_HASH_OF_MAPS => "hash_of_maps",
+            bpf_map_type::BPF_MAP_TYPE_DEVMAP => "devmap",
+            bpf_map_type::BPF_MAP_TYPE_SOCKMAP => "sockmap",
+            bpf_map_type::BPF_MAP_TYPE_CPUMAP => "cpumap",
+            bpf_map_type::BPF_MAP_TYPE_XSKMAP => "xskmap",
+            bpf_map_type::BPF_MAP_TYPE_SOCKHASH => "sockhash",
+            bpf_map_type::BPF_MAP_TYPE_CGROUP_STORAGE_DEPRECATED => "cgroup_storage",
+            bpf_map_type::BPF_MAP_TYPE_REUSEPORT_SOCKARRAY => "reuseport_sockarray",
+            bpf_map_type::BPF_MAP_TYPE_PERCPU_CGROUP_STORAGE_DEPRECATED => "percpu_cgroup_storage",
+            bpf_map_type::BPF_MAP_TYPE_QUEUE => "queue",
+            bpf_map_type::BPF_MAP_TYPE_STACK => "stack",
+            bpf_map_type::BPF_MAP_TYPE_SK_STORAGE => "sk_storage",
+            bpf_map_type::BPF_MAP_TYPE_DEVMAP_HASH => "devmap_hash",
+            bpf_map_type::BPF_MAP_TYPE_STRUCT_OPS => "struct_ops",
+            bpf_map_type::BPF_MAP_TYPE_RINGBUF => "ringbuf",
+            bpf_map_type::BPF_MAP_TYPE_INODE_STORAGE => "inode_storage",
+            bpf_map_type::BPF_MAP_TYPE_TASK_STORAGE => "task_storage",
+            bpf_map_type::BPF_MAP_TYPE_BLOOM_FILTER => "bloom_filter",
+            bpf_map_type::BPF_MAP_TYPE_USER_RINGBUF => "user_ringbuf",
+            bpf_map_type::BPF_MAP_TYPE_CGRP_STORAGE => "cgrp_storage",
+            bpf_map_type::BPF_MAP_TYPE_ARENA => "arena",
+            bpf_map_type::BPF_MAP_TYPE_INSN_ARRAY => "insn_array",
+        }
     }
 }
 

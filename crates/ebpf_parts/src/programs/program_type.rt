@@ -2,7 +2,7 @@
 
 ghost use Rattle.std.specs.Prelude.{◌≡◌, Some, slice_get};
 ghost use Rattle.ebpf_parts.specs.Numbers.{at_number};
-ghost use Rattle.ebpf_parts.specs.ProgramTypes.{program_type_number, program_types};
+ghost use Rattle.ebpf_parts.specs.ProgramTypes.{program_type_name, program_type_number, program_types};
 
 use crate::binding::{InvalidTypeBinding, at_number};
 
@@ -89,6 +89,48 @@ impl bpf_prog_type {
         ensures index { slice_get program_types result ≡ Some self }
     {
         self as u32
+    }
+
+    /// The name of the type, as bpftool prints it.
+    #[tactic(auto, unfolding(crate::specs::ProgramTypes::program_type_name))]
+    pub fn name(self) -> &'static str
+        ensures { result.now ≡ program_type_name self }
+    {
+        match self {
+            bpf_prog_type::BPF_PROG_TYPE_UNSPEC => "unspec",
+            bpf_prog_type::BPF_PROG_TYPE_SOCKET_FILTER => "socket_filter",
+            bpf_prog_type::BPF_PROG_TYPE_KPROBE => "kprobe",
+            bpf_prog_type::BPF_PROG_TYPE_SCHED_CLS => "sched_cls",
+            bpf_prog_type::BPF_PROG_TYPE_SCHED_ACT => "sched_act",
+            bpf_prog_type::BPF_PROG_TYPE_TRACEPOINT => "tracepoint",
+            bpf_prog_type::BPF_PROG_TYPE_XDP => "xdp",
+            bpf_prog_type::BPF_PROG_TYPE_PERF_EVENT => "perf_event",
+            bpf_prog_type::BPF_PROG_TYPE_CGROUP_SKB => "cgroup_skb",
+            bpf_prog_type::BPF_PROG_TYPE_CGROUP_SOCK => "cgroup_sock",
+            bpf_prog_type::BPF_PROG_TYPE_LWT_IN => "lwt_in",
+            bpf_prog_type::BPF_PROG_TYPE_LWT_OUT => "lwt_out",
+            bpf_prog_type::BPF_PROG_TYPE_LWT_XMIT => "lwt_xmit",
+            bpf_prog_type::BPF_PROG_TYPE_SOCK_OPS => "sock_ops",
+            bpf_prog_type::BPF_PROG_TYPE_SK_SKB => "sk_skb",
+            bpf_prog_type::BPF_PROG_TYPE_CGROUP_DEVICE => "cgroup_device",
+            bpf_prog_type::BPF_PROG_TYPE_SK_MSG => "sk_msg",
+            bpf_prog_type::BPF_PROG_TYPE_RAW_TRACEPOINT => "raw_tracepoint",
+            bpf_prog_type::BPF_PROG_TYPE_CGROUP_SOCK_ADDR => "cgroup_sock_addr",
+            bpf_prog_type::BPF_PROG_TYPE_LWT_SEG6LOCAL => "lwt_seg6local",
+            bpf_prog_type::BPF_PROG_TYPE_LIRC_MODE2 => "lirc_mode2",
+            bpf_prog_type::BPF_PROG_TYPE_SK_REUSEPORT => "sk_reuseport",
+            bpf_prog_type::BPF_PROG_TYPE_FLOW_DISSECTOR => "flow_dissector",
+            bpf_prog_type::BPF_PROG_TYPE_CGROUP_SYSCTL => "cgroup_sysctl",
+            bpf_prog_type::BPF_PROG_TYPE_RAW_TRACEPOINT_WRITABLE => "raw_tracepoint_writable",
+            bpf_prog_type::BPF_PROG_TYPE_CGROUP_SOCKOPT => "cgroup_sockopt",
+            bpf_prog_type::BPF_PROG_TYPE_TRACING => "tracing",
+            bpf_prog_type::BPF_PROG_TYPE_STRUCT_OPS => "struct_ops",
+            bpf_prog_type::BPF_PROG_TYPE_EXT => "ext",
+            bpf_prog_type::BPF_PROG_TYPE_LSM => "lsm",
+            bpf_prog_type::BPF_PROG_TYPE_SK_LOOKUP => "sk_lookup",
+            bpf_prog_type::BPF_PROG_TYPE_SYSCALL => "syscall",
+            bpf_prog_type::BPF_PROG_TYPE_NETFILTER => "netfilter",
+        }
     }
 }
 

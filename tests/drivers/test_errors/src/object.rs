@@ -3,8 +3,10 @@
 use crate::lines::{Lines, Sample};
 use ebpf_btf::BtfError;
 use ebpf_elf::ElfReadError;
+use ebpf_object::obj::VariableError;
 use ebpf_parts::ParseError;
 use ebpf_parts::maps::PinningError;
+use cli_common::variant_name;
 use cli_common::variants::variant_of_parsing;
 
 impl Sample for ParseError {
@@ -12,6 +14,14 @@ impl Sample for ParseError {
 
     fn variant(&self) -> &'static str {
         variant_of_parsing(self)
+    }
+}
+
+impl Sample for VariableError {
+    const TYPE: &'static str = "obj::VariableError";
+
+    fn variant(&self) -> &'static str {
+        variant_name!(self, VariableError: NotAVariable WrongSize OutOfMemory)
     }
 }
 
@@ -88,5 +98,8 @@ pub fn show_all(lines: &mut Lines) {
     show_license_and_version(lines);
     show_code(lines);
     show_maps(lines);
+    lines.show(VariableError::NotAVariable);
+    lines.show(VariableError::WrongSize { size: 4, given: 8 });
+    lines.show(VariableError::OutOfMemory);
     lines.show(PinningError::Unsupported { pinning_type: 2 });
 }

@@ -32,12 +32,12 @@ fn is_found<S: Drop>(
 
 /// Whether the section has func info, which is found before.
 fn has_funcs(alloc: Global, ext: &BtfExt, section: &str) -> Result<bool, AllocError> {
-    is_found(ext.func_info.found(alloc, &[section]), section)
+    is_found(ext.func_info.with_found(alloc, &[section]), section)
 }
 
 /// Whether the section has line info, which is found before.
 fn has_lines(alloc: Global, ext: &BtfExt, section: &str) -> Result<bool, AllocError> {
-    is_found(ext.line_info.found(alloc, &[section]), section)
+    is_found(ext.line_info.with_found(alloc, &[section]), section)
 }
 
 /// A call on the records of `.BTF.ext`, of the section that the word names.

@@ -1,4 +1,4 @@
-//! Tests of calls over whole files: limits, the initial values of maps, and what the programs say; each by what the call gives.
+//! Tests of calls over whole files: limits, the initial values of maps, variables, and what the programs say; each by what the call gives.
 //! Nothing is promised here.
 #![tactic(auto)]
 
@@ -10,3 +10,5 @@ mod hex;
 mod initial_slots;
 #[cfg(test)]
 mod limits;
+#[cfg(test)]
+mod variables;

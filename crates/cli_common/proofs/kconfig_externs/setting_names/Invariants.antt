@@ -1,6 +1,6 @@
 use Rattle.std.proofs.Common.{◌≡◌, ◌++◌}
 use Rattle.cli_common.specs.ObjectPrograms.{setting_names}
-use Rattle.cli_common.proofs.settings.setting_names.Given as goal
+use Rattle.cli_common.proofs.kconfig_externs.setting_names.Given as goal
 
 -- with the names of the entries that are left, all are there
 abbrev pub invariant-loop-entry : goal.invariant-loop-entry

@@ -1,7 +1,7 @@
 //! Refusals of kconfig externs, in words.
 
+use crate::kconfig_values::number_by_version;
 use crate::prepared::PrepareWords;
-use crate::settings::number_by_version;
 use cli_common::refusal::{FileRefusal, help_of};
 use cli_common::refuse::{Stop, refused};
 use ebpf_kconfig::KconfigError;
