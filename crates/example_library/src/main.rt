@@ -2,6 +2,7 @@
 //! types, the lines of its symbols, and the lines with the descriptors of the maps.
 #![tactic(auto)]
 
+mod contracts;
 mod listing;
 mod making;
 mod passes;
@@ -27,11 +28,17 @@ struct Given<'a> {
 /// What is printed of an object.
 trait Shown: Drop {
     fn show(&self, rt: &HostRuntime) -> io::Result<()>;
+
+    fn show_counts(&self, rt: &HostRuntime) -> io::Result<()>;
 }
 
 impl Shown for Object {
     fn show(&self, rt: &HostRuntime) -> io::Result<()> {
         slots::print_programs(rt, self)
+    }
+
+    fn show_counts(&self, rt: &HostRuntime) -> io::Result<()> {
+        slots::print_counts(rt, self)
     }
 }
 
@@ -180,9 +187,36 @@ fn go_one_by_one(
     show_in_place(rt, object, answer)
 }
 
+/// Prints the number of slots of each program of an object, or why there is none.
+fn show_outcome_counts<T: Shown, E: Display + Drop>(
+    rt: &HostRuntime,
+    outcome: Result<T, E>,
+) -> io::Result<()> {
+    match &outcome {
+        Ok(object) => object.show_counts(rt),
+        Err(error) => println!(rt; "refused: {error}"),
+    }
+}
+
+/// Parses the file within a limit.
+fn go_small(rt: &HostRuntime, file: &[u8]) -> io::Result<()> {
+    println!(rt; "an object of at most 64 MiB")?;
+    show_outcome_counts(rt, contracts::small_object(rt.alloc(), file))
+}
+
+/// Prepares the file for a kernel.
+fn go_linked(rt: &HostRuntime, file: &[u8], kernel: &Btf, symbols: &[u8]) -> io::Result<()> {
+    println!(rt; "an object with whole programs")?;
+    let descriptors = [("counts", 3), (".bss", 4), (".rodata", 5)];
+    let steps = Steps::all(kernel, &descriptors);
+    let outcome = contracts::linked_object(rt.alloc(), file, &steps, symbols);
+    show_outcome_counts(rt, outcome)
+}
+
 /// Prepares the object in each way for a kernel whose types are known.
 fn go_for_kernel(
     rt: &HostRuntime,
+    file: &[u8],
     object: &mut Object,
     kernel: &Btf,
     symbols: &[u8],
@@ -191,13 +225,20 @@ fn go_for_kernel(
     go_copied(rt, object, kernel, symbols, lines)?;
     go_taken(rt, object, kernel, symbols)?;
     go_refused(rt, object, symbols)?;
-    go_one_by_one(rt, object, kernel, symbols)
+    go_one_by_one(rt, object, kernel, symbols)?;
+    go_small(rt, file)?;
+    go_linked(rt, file, kernel, symbols)
 }
 
 /// Reads a kernel's types, and prepares the object for it.
-fn go_with_types(rt: &HostRuntime, object: &mut Object, given: &Given<'_>) -> io::Result<()> {
+fn go_with_types(
+    rt: &HostRuntime,
+    file: &[u8],
+    object: &mut Object,
+    given: &Given<'_>,
+) -> io::Result<()> {
     match preparing::kernel_types(fs::read(rt, given.types)?) {
-        Ok(kernel) => go_for_kernel(rt, object, &kernel, given.symbols, given.lines),
+        Ok(kernel) => go_for_kernel(rt, file, object, &kernel, given.symbols, given.lines),
         Err(error) => println!(rt; "refused: {error}"),
     }
 }
@@ -212,7 +253,7 @@ fn go_with_file(
     listing::print_parts(rt, object)?;
     listing::print_sections(rt, file, object)?;
     listing::print_license(rt, object)?;
-    go_with_types(rt, object, given)
+    go_with_types(rt, file, object, given)
 }
 
 /// What a file is parsed to.

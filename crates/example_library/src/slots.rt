@@ -1,5 +1,6 @@
 //! What comes out: slots and records.
 
+use crate::contracts::program_slots;
 use ebpf_object::Object;
 use ebpf_object::insn::bpf_insn;
 use ebpf_object::obj::{Function, bpf_func_info, bpf_line_info};
@@ -56,6 +57,17 @@ pub fn print_programs(rt: &HostRuntime, object: &Object) -> io::Result<()> {
     for (name, _) in object.programs.iter() {
         if let Some(function) = object.program_function(name.as_str()) {
             print_function(rt, name.as_str(), function)?;
+        }
+    }
+    Ok(())
+}
+
+/// Prints the number of slots of each program.
+pub fn print_counts(rt: &HostRuntime, object: &Object) -> io::Result<()> {
+    for (name, _) in object.programs.iter() {
+        if let Some(slots) = program_slots(object, name.as_str()) {
+            let count = slots.len();
+            println!(rt; "{name}: slots {count}")?;
         }
     }
     Ok(())
