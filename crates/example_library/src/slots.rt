@@ -6,15 +6,10 @@ use ebpf_object::insn::bpf_insn;
 use ebpf_object::obj::{Function, bpf_func_info, bpf_line_info};
 use std::io;
 
-/// Whether a slot was poisoned: it calls the helper function 0x0bad2310, which no kernel has.
-fn is_poisoned(slot: &bpf_insn) -> bool {
-    slot.is_helper_call() && slot.imm == 0x0bad_2310
-}
-
 /// Prints the places of the slots that are poisoned.
 fn print_poisoned(rt: &HostRuntime, slots: &[bpf_insn]) -> io::Result<()> {
     for (place, slot) in slots.iter().enumerate() {
-        if is_poisoned(slot) {
+        if slot.is_poisoned() {
             println!(rt; "  poisoned: slot {place}")?;
         }
     }
