@@ -1,6 +1,6 @@
 #!/usr/bin/env python3
-"""Whether each piece of code of docs/LIBRARY.md stands in the sources of crates/example_library, line by line, and each
-piece of output in what it has to print; and whether each paragraph of README.md's code of crates/example_prepare stands
+"""Whether each piece of code of docs/LIBRARY.md stands in the sources of crates/example_library, line by line, each answer
+in its proofs, and each piece of output in what it has to print; and whether each paragraph of README.md's code of crates/example_prepare stands
 there. Ends with 'N passed, M failed', and with status 1 where one failed.
 usage: library_page.py
 """
@@ -35,6 +35,7 @@ def misfits():
     sources = [file.read_text() for file in sorted(CRATE.glob("src/*.rt"))]
     page, readme = "docs/LIBRARY.md: not in crates/example_library", "README.md: not in crates/example_prepare"
     held = [(page, block, sources) for block in blocks("rust")]
+    held += [(page, block, [file.read_text() for file in sorted(CRATE.glob("proofs/**/*.antt"))]) for block in blocks("antt")]
     held += [(page, block, [(CRATE / "stdout").read_text()]) for block in blocks("text")]
     held += [(readme, block, [PROGRAM.read_text()]) for block in paragraphs()]
     failures = [f"{where}: {block[0].strip()}" for where, block, texts in held if not any(stands(block, text) for text in texts)]

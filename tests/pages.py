@@ -37,6 +37,7 @@ OTHERS = [
 LANGUAGES = {
     ("README.md", "c"): "tests/c_interface.sh: C on the library",
     ("docs/LIBRARY.md", "rust"): "tests/library_page.py: code of crates/example_library",
+    ("docs/LIBRARY.md", "antt"): "tests/library_page.py: an answer of crates/example_library",
     ("docs/LIBRARY.md", "text"): "tests/library_page.py: what crates/example_library prints",
     ("docs/C.md", "c"): "tests/c_interface.sh: C on the library",
     ("docs/C.md", "python"): "tests/c_interface.sh: Python on the library",

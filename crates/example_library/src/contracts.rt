@@ -22,10 +22,8 @@ pub fn program_slots<'a>(object: &'a Object, name: &str) -> Option<&'a [bpf_insn
     ensures { option_copied result
         ≡ option_map (λ f. f.instructions) (function_of_named_program object.now name.now) }
 {
-    match object.program_function(name) {
-        Some(function) => Some(function.instructions.as_slice()),
-        None => None,
-    }
+    let function = object.program_function(name)?;
+    Some(function.instructions.as_slice())
 }
 
 /// Returns the object of a file, which owns at most 64 MiB.
@@ -37,7 +35,7 @@ pub fn small_object(alloc: Global, file: &[u8]) -> Result<Object, ParseError>
     parse_within(alloc, file, ParseMode::Lenient, Limits { most_bytes })
 }
 
-/// Returns the object of a file after the passes: each program with the functions that it reaches.
+/// Returns the object of a file, prepared and with whole programs.
 pub fn linked_object<K: SymbolSource>(
     alloc: Global,
     file: &[u8],
@@ -50,5 +48,6 @@ pub fn linked_object<K: SymbolSource>(
         × ProgramsAreWhole (linkable_of h.finished.chain.unlinked
         (has_function_in h.prepared.stages.unlinked.functions)) o) }
 {
-    prepare(alloc, file, steps, symbols)
+    let object = prepare(alloc, file, steps, symbols)?;
+    Ok(object)
 }

@@ -200,13 +200,13 @@ fn show_outcome_counts<T: Shown, E: Display + Drop>(
 
 /// Parses the file within a limit.
 fn go_small(rt: &HostRuntime, file: &[u8]) -> io::Result<()> {
-    println!(rt; "an object of at most 64 MiB")?;
+    println!(rt; "at most 64 MiB")?;
     show_outcome_counts(rt, contracts::small_object(rt.alloc(), file))
 }
 
 /// Prepares the file for a kernel.
 fn go_linked(rt: &HostRuntime, file: &[u8], kernel: &Btf, symbols: &[u8]) -> io::Result<()> {
-    println!(rt; "an object with whole programs")?;
+    println!(rt; "whole programs")?;
     let descriptors = [("counts", 3), (".bss", 4), (".rodata", 5)];
     let steps = Steps::all(kernel, &descriptors);
     let outcome = contracts::linked_object(rt.alloc(), file, &steps, symbols);
