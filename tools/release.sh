@@ -23,6 +23,9 @@ readonly FILES=(README.md CHANGELOG.md LICENSE VERSION HANDLES docs/{LIBRARY,API
 readonly BUILT=(crates/ebpf/out/ebpf crates/ebpf_link/out/ebpf_link crates/cli_inspect_program/out/cli_inspect_program
     examples/out/libebpf.a)
 
+# Where a Debian package has the library for C.
+readonly LIBRARIES=lib/x86_64-linux-gnu
+
 stop() {
     echo "release.sh: $*" >&2
     exit 1
@@ -105,17 +108,22 @@ debian_package() {
     mkdir -p "$tree/DEBIAN" "$tree/usr"
     cp -r "$room/ebpf-$version-x86_64-linux"/{bin,lib,include,share} "$tree/usr"
     rm -f "$tree"/usr/lib/libebpf.so*
+    mkdir "$tree/usr/$LIBRARIES"
+    mv "$tree"/usr/lib/{libebpf.a,pkgconfig} "$tree/usr/$LIBRARIES"
+    sed -i 's|^\(prefix=.*\)|\1/..|; s|^\(libdir=.*\)/lib|\1/'"$LIBRARIES"'|' "$tree/usr/$LIBRARIES/pkgconfig/ebpf.pc"
     mkdir "$tree/usr/share/zsh/vendor-completions"
     mv "$tree/usr/share/zsh/site-functions/_ebpf" "$tree/usr/share/zsh/vendor-completions"
     rmdir "$tree/usr/share/zsh/site-functions"
     strip --strip-unneeded --remove-section=.comment "$tree"/usr/bin/*
-    strip --strip-debug --enable-deterministic-archives "$tree/usr/lib/libebpf.a"
+    strip --strip-debug --enable-deterministic-archives "$tree/usr/$LIBRARIES/libebpf.a"
     printf '%s\n' 'Format: https://www.debian.org/doc/packaging-manuals/copyright-format/1.0/' 'Files: *' \
-        'Copyright: the authors of ebpf-object and of aya-obj' 'License: Apache-2.0' \
+        'Copyright: 2021-2026 the authors of aya-obj' ' 2025-2026 the authors of ebpf-object' 'License: Apache-2.0' \
         ' On Debian systems the text is in /usr/share/common-licenses/Apache-2.0.' >"$doc/copyright"
     rm "$doc/LICENSE"
-    mv "$doc/CHANGELOG.md" "$doc/changelog"
-    gzip -9n "$doc/changelog" "$tree"/usr/share/man/man1/*.1
+    printf '%s\n' "ebpf ($version) unstable; urgency=medium" '' '  * See CHANGELOG.md.' '' \
+        " -- $(sed -n 's/^Maintainer: //p' "$top/share/debian-control.in")  $(date -uRd "@$time")" >"$doc/changelog"
+    gzip -9n "$doc/changelog" "$doc/CHANGELOG.md" "$tree"/usr/share/man/man*/*.[13]
+    install -D -m 644 "$top/share/lintian-overrides" "$tree/usr/share/lintian/overrides/ebpf"
     size=$(du -sk --apparent-size "$tree/usr" | cut -f1)
     sed "s/@VERSION@/$version/; s/@SIZE@/$size/; s/@LIBC@/$(libc_of "$tree"/usr/bin/*)/" "$top/share/debian-control.in" \
         >"$tree/DEBIAN/control"
