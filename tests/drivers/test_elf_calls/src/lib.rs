@@ -8,4 +8,6 @@ mod faults;
 #[cfg(test)]
 mod file;
 #[cfg(test)]
+mod machine;
+#[cfg(test)]
 mod tables;

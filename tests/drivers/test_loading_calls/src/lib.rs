@@ -9,4 +9,6 @@ mod kernel_numbers;
 #[cfg(test)]
 mod map_type_ids;
 #[cfg(test)]
+mod names;
+#[cfg(test)]
 mod reach;
