@@ -1,4 +1,5 @@
--- The faults of a file, in the order in which they are looked for.
+-- The faults of a file, in the order in which `ElfFile::parse` looks for them; the first one is the
+-- error (ELF-64 gABI).
 use Rattle.std.specs.Prelude.{ℕ, ◌+◌, ◌*◌, ◌%◌, not, ◌&&◌, ◌||◌, List, [], ◌∷◌, length, Option}
 use Rattle.std.specs.Prelude.{Some, None, nat_lt, nat_eq, ◌==◌, if◌then◌else◌, slice_index}
 use Rattle.std.specs.List.{list_any, starts_with}
@@ -54,7 +55,7 @@ symbol_faults bytes i = (
     ∷ (not (is_string_table bytes (section bytes i).sh_link), BadStringTable)
     ∷ []
 
--- a symbol whose section index stands elsewhere (SHN_XINDEX)
+-- a symbol whose section index is stored elsewhere (SHN_XINDEX)
 unfoldable pub xindex_faults : List ℕ → ℕ → List (Row ElfReadError)
 xindex_faults bytes i = (
   list_any (λ k. st_shndx_at bytes i k == SHN_XINDEX) (symbol_table_indices bytes i),
@@ -71,7 +72,7 @@ relocation_faults bytes i = (
 )
     ∷ []
 
--- what is looked for where there is a symbol table
+-- the faults of the symbol table; none without one
 abbrev pub symbol_table_faults : List ℕ → Option ℕ → List (List (Row ElfReadError))
 symbol_table_faults bytes None = []
 symbol_table_faults bytes (Some i) =

@@ -1,5 +1,5 @@
--- The header of a file and those of its sections, by index (ELF-64 gABI, 'ELF Header' and
--- 'Sections').
+-- The fields of the file header, and the header of each section by its index (ELF-64 gABI, 'ELF
+-- Header' and 'Sections').
 use Rattle.std.specs.Prelude.{ℕ, ◌+◌, ◌-◌, ◌*◌, Bool, ◌||◌, List, length, nat_le, ◌==◌}
 use Rattle.std.specs.Prelude.{if◌then◌else◌, slice_index, slice_range}
 use Rattle.std.specs.List.{range_with_len}
@@ -13,11 +13,11 @@ use Rattle.ebpf_elf.specs.declared.header.SectionHeader.{SectionHeader}
 unfoldable pub ei_data : List ℕ → Endianness
 ei_data bytes = if slice_index bytes 5 == ELFDATA2MSB then Big else Little
 
--- e_machine, the machine that the file is for
+-- e_machine, the machine of the file
 unfoldable pub e_machine : List ℕ → ℕ
 e_machine bytes = number_at (ei_data bytes) 2 bytes 18
 
--- e_shoff, where the section headers stand; 0 where there are none
+-- e_shoff, the offset of the section headers; 0 where there are none
 unfoldable pub e_shoff : List ℕ → ℕ
 e_shoff bytes = number_at (ei_data bytes) 8 bytes 40
 

@@ -1,4 +1,5 @@
 pub mod Headers
+pub mod Numbers
 pub mod Names
 pub mod Symbols
 pub mod Sections

@@ -1,4 +1,5 @@
--- Names, and the tables that hold them (ELF-64 gABI, 'String Table').
+-- The names in string tables: the bytes from an offset up to the next zero byte (ELF-64 gABI,
+-- 'String Table').
 use Rattle.std.specs.Prelude.{ℕ, Bool, false, ◌&&◌, ◌||◌, List, [], take, drop, Option, Some, None}
 use Rattle.std.specs.Prelude.{nat_lt, ◌==◌, if◌then◌else◌, option_map}
 use Rattle.std.specs.List.{position}
@@ -33,11 +34,11 @@ abbrev pub utf8_text : Option (List ℕ) → Option (List ℕ)
 utf8_text None = None
 utf8_text (Some text) = if is_utf8 text then Some text else None
 
--- the name with an index, where it can be read
+-- the name with an index; none where the name cannot be read
 unfoldable pub string_table_name : List ℕ → ℕ → Option (List ℕ)
 string_table_name table index = utf8_text (name_bytes table index)
 
--- whether it can be read and is this text
+-- whether the name can be read and is this text
 abbrev pub is_name : List ℕ → Option (List ℕ) → Bool
 is_name text None = false
 is_name text (Some name) = bytes_eq name text

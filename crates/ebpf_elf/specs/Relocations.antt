@@ -1,4 +1,5 @@
--- The sections with relocations, and the relocations of a section (ELF-64 gABI, 'Relocation').
+-- The relocations of a section: the entries, in order, of the sections of relocations whose target
+-- it is (ELF-64 gABI, 'Relocation').
 use Rattle.std.specs.Prelude.{ℕ, ◌+◌, ◌-◌, ◌*◌, ◌/◌, ◌%◌, ◌^◌, Bool, not, ◌&&◌, ◌||◌, List, [], map}
 use Rattle.std.specs.Prelude.{filter, Option, Some, None, nat_lt, ◌==◌, if◌then◌else◌}
 use Rattle.std.specs.List.{flat_map, range_with_len}
@@ -12,11 +13,11 @@ use Rattle.ebpf_elf.specs.Headers.{ei_data, section, section_count, is_inside}
 use Rattle.ebpf_elf.specs.Symbols.{symbol_table_section}
 use Rattle.ebpf_elf.specs.Sections.{SectionOf, header, sections, sections_from}
 
--- the size of an entry, by the kind of its section: Elf64_Rel has 16 bytes, Elf64_Rela 24
+-- the size of an entry, by the type of its section: Elf64_Rel has 16 bytes, Elf64_Rela 24
 abbrev pub relocation_size : ℕ → ℕ
 relocation_size kind = if kind == SHT_REL then 16 else 24
 
--- The section j holds relocations against the symbol table in the section i: its kind is REL or
+-- The section j holds relocations against the symbol table in the section i: its type is REL or
 -- RELA, its link is i, and its info is the section that is patched (0, at dynamic relocations, is
 -- none).
 unfoldable pub holds_relocations : List ℕ → ℕ → ℕ → Bool
@@ -30,7 +31,7 @@ is_bad_relocation_table bytes j =
     || not ((section bytes j).sh_size % relocation_size (section bytes j).sh_type == 0)
     || not (is_inside bytes (section bytes j).sh_offset (section bytes j).sh_size)
 
--- the size in bits that a type of the BPF relocations stands for
+-- the size in bits of the field that a BPF relocation type patches
 abbrev pub size_of_type : ℕ → ℕ
 size_of_type kind = if kind == R_BPF_64_64 then 64 else (if kind == R_BPF_64_32 then 32 else 0)
 
@@ -48,7 +49,7 @@ relocation_sections_in bytes None = []
 relocation_sections_in bytes (Some t) =
     filter (λ s. holds_relocations s.file t s.index) (sections bytes)
 
--- those of the sections from index a up to n
+-- the sections of relocations from index a up to n
 abbrev pub relocation_sections_from : List ℕ → ℕ → ℕ → ℕ → List SectionOf
 relocation_sections_from bytes t a n =
     filter (λ s. holds_relocations s.file t s.index) (sections_from bytes a n)
@@ -64,7 +65,7 @@ relocated_section s = (header s).sh_info
 abbrev pub entry_count : SectionOf → ℕ
 entry_count s = (header s).sh_size / relocation_size (header s).sh_type
 
--- where they stand
+-- the position of the entries in the file
 abbrev pub extent_of : SectionOf → EntryExtent
 extent_of s =
     record {
@@ -81,7 +82,7 @@ table_entry s k =
 abbrev pub table_entries : SectionOf → List ElfRelocation
 table_entries s = map (λ k. table_entry s k) (range_with_len 0 (entry_count s))
 
--- those from index a up to n
+-- the entries from index a up to n
 abbrev pub table_entries_from : SectionOf → ℕ → ℕ → List ElfRelocation
 table_entries_from s a n = map (λ k. table_entry s k) (range_with_len a (n - a))
 

@@ -1,4 +1,4 @@
--- The sections of a file (ELF-64 gABI, 'Sections').
+-- The sections of a file by index, with their names and data (ELF-64 gABI, 'Sections').
 use Rattle.std.specs.Prelude.{ℕ, ◌-◌, not, ◌&&◌, List, [], ◌∷◌, map, Option, ◌==◌, if◌then◌else◌}
 use Rattle.std.specs.List.{range_with_len}
 use Rattle.ebpf_base.specs.Faults.{Row}
@@ -14,7 +14,7 @@ pub record SectionOf : Type 0 where
   pub file : List ℕ
   pub index : ℕ
 
--- its header
+-- the header of a section
 abbrev pub header : SectionOf → SectionHeader
 header s = section s.file s.index
 
@@ -22,15 +22,15 @@ header s = section s.file s.index
 abbrev pub sections : List ℕ → List SectionOf
 sections bytes = map (λ i. record { file = bytes; index = i }) (section_indices bytes)
 
--- those from index a up to n
+-- the sections from index a up to n
 abbrev pub sections_from : List ℕ → ℕ → ℕ → List SectionOf
 sections_from bytes a n = map (λ i. record { file = bytes; index = i }) (range_with_len a (n - a))
 
--- its name, where it can be read
+-- the name of a section; none where it cannot be read
 unfoldable pub section_name : SectionOf → Option (List ℕ)
 section_name s = string_table_name (section_names s.file) (header s).sh_name
 
--- a section of kind NOBITS occupies no space in the file, whatever its size
+-- a section of type NOBITS occupies no space in the file, whatever its size
 unfoldable pub data_faults : SectionOf → List (Row ElfReadError)
 data_faults s = (
   not ((header s).sh_type == SHT_NOBITS)

@@ -1,4 +1,5 @@
--- The symbol table of a file and its symbols (ELF-64 gABI, 'Symbol Table').
+-- The symbols of a file: the entries of its first symbol table from index 1 on (ELF-64 gABI,
+-- 'Symbol Table').
 use Rattle.std.specs.Prelude.{ℕ, ◌+◌, ◌-◌, ◌*◌, ◌/◌, ◌%◌, Bool, not, ◌&&◌, ◌||◌, List, [], map}
 use Rattle.std.specs.Prelude.{Option, Some, None, nat_le, ◌==◌, if◌then◌else◌}
 use Rattle.std.specs.List.{find, range_with_len}
@@ -15,12 +16,12 @@ use Rattle.ebpf_elf.specs.declared.symbol.SymbolEntry.{SymbolEntry}
 use Rattle.ebpf_elf.specs.Headers.{ei_data, section, section_indices, range_of}
 use Rattle.ebpf_elf.specs.Names.{string_table_name}
 
--- the first section of kind SYMTAB
+-- the first section of type SYMTAB
 unfoldable pub symbol_table_section : List ℕ → Option ℕ
 symbol_table_section bytes =
     find (λ i. (section bytes i).sh_type == SHT_SYMTAB) (section_indices bytes)
 
--- where the entry of a symbol stands in the table i: each has 24 bytes
+-- the offset of a symbol's entry in the table i: each entry has 24 bytes
 abbrev pub symbol_offset : List ℕ → ℕ → ℕ → ℕ
 symbol_offset bytes i k = (section bytes i).sh_offset + 24 * k
 
@@ -51,7 +52,7 @@ pub record SymbolOf : Type 0 where
   pub table : ℕ
   pub index : ℕ
 
--- its entry
+-- the entry of a symbol
 unfoldable pub entry : SymbolOf → SymbolEntry
 entry s = symbol_at (ei_data s.file) s.file (symbol_offset s.file s.table s.index)
 
@@ -61,7 +62,7 @@ symbols_in bytes None = []
 symbols_in bytes (Some t) =
     map (λ k. record { file = bytes; table = t; index = k }) (symbol_table_indices bytes t)
 
--- those of a table from index a up to n
+-- the symbols of a table from index a up to n
 abbrev pub symbols_from : List ℕ → ℕ → ℕ → ℕ → List SymbolOf
 symbols_from bytes t a n =
     map (λ k. record { file = bytes; table = t; index = k }) (range_with_len a (n - a))
@@ -69,7 +70,8 @@ symbols_from bytes t a n =
 abbrev pub symbols : List ℕ → List SymbolOf
 symbols bytes = symbols_in bytes (symbol_table_section bytes)
 
--- its name, where it can be read: in the string table that is the link of the symbol table
+-- the name of a symbol, in the string table that is the link of the symbol table; none where the
+-- name cannot be read
 abbrev pub symbol_names : SymbolOf → List ℕ
 symbol_names s = range_of s.file (section s.file (section s.file s.table).sh_link)
 
@@ -96,8 +98,8 @@ unfoldable pub symbol_section_index : SymbolEntry → Option ℕ
 symbol_section_index e =
     if e.st_shndx == 0 || nat_le SHN_LORESERVE e.st_shndx then None else Some e.st_shndx
 
--- A function, an object or something of a size, that is not undefined.
--- A reserved section index counts here, as that of an absolute symbol.
+-- A definition is a function, an object or a symbol with a size, and is not undefined.
+-- A symbol with a reserved section index, such as an absolute symbol, is a definition too.
 unfoldable pub is_definition : SymbolEntry → Bool
 is_definition e =
     not (e.st_shndx == 0)

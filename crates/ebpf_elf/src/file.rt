@@ -1,4 +1,4 @@
-//! A file.
+//! An ELF64 file and its parts.
 
 ghost use Rattle.std.specs.Prelude.{◌≡◌, ◌<◌, ◌==◌, ◌^◌, length, List, ℕ, None, Some, IfOk, OnOk, IfErr, option_map};
 ghost use Rattle.std.specs.List.{find};
@@ -22,7 +22,7 @@ use ebpf_base::Endianness;
 use ebpf_base::numbers::read_u16;
 use std::marker::Model;
 
-/// The string table of the section names.
+/// Returns the string table of the section names.
 #[tactic(auto, unfolding(crate::specs::Faults::names_faults, crate::specs::Names::section_names, crate::specs::Headers::e_shstrndx))]
 fn names_of<'a>(table: &SectionTable<'a>) -> Result<&'a [u8], ElfReadError>
     requires { 0 < table.now.count }
@@ -38,7 +38,7 @@ fn names_of<'a>(table: &SectionTable<'a>) -> Result<&'a [u8], ElfReadError>
         .ok_or(ElfReadError::BadStringTable)
 }
 
-/// The symbol table in the section `index`, whose symbols and relocations are sound.
+/// Returns the symbol table in the section `index`, after it checked the symbols and relocations.
 fn sound_symbols<'a>(table: SectionTable<'a>, index: usize) -> Result<SymbolTable<'a>, ElfReadError>
     requires { index < table.count }
     ensures fault { fault_of result
@@ -54,7 +54,7 @@ fn sound_symbols<'a>(table: SectionTable<'a>, index: usize) -> Result<SymbolTabl
     Ok(symbols)
 }
 
-/// Where the parts of a file without faults stand.
+/// The positions of the parts of a file without faults.
 #[derive(Clone, Copy)]
 pub struct Layout<'a> {
     pub table: SectionTable<'a>,
@@ -67,7 +67,7 @@ pub struct Layout<'a> {
     ghost same: { ForSome symbols (λ s. s.table.bytes.now ≡ table.bytes.now) },
 }
 
-/// Finds the parts of a file.
+/// Returns the positions of the parts of a file.
 #[tactic(auto, unfolding(crate::specs::Faults::faults, crate::specs::Symbols::symbol_table_section))]
 pub fn layout_of<'a>(bytes: &'a [u8]) -> Result<Layout<'a>, ElfReadError>
     ensures fault { fault_of result ≡ first_in (faults bytes.now) }
@@ -94,7 +94,7 @@ pub fn layout_of<'a>(bytes: &'a [u8]) -> Result<Layout<'a>, ElfReadError>
     })
 }
 
-/// An ELF64 file, with what `parse` has found sound. Contracts see its bytes.
+/// An ELF64 file that `parse` has checked. Contracts see the file's bytes.
 #[derive(Clone, Drop)]
 pub struct ElfFile<'a> {
     layout: Layout<'a>,
@@ -107,19 +107,29 @@ impl<'a> Model for ElfFile<'a> {
 }
 
 impl<'a> ElfFile<'a> {
-    /// The file that the bytes are. The first of these faults refuses:
+    /// Reads an ELF64 file of any machine (ELF-64 gABI, 'ELF Header').
     ///
-    /// 1. `TooShort`, `BadMagic`, `NotElf64`, `BadByteOrder`: the identification. A file whose section
-    ///    headers stand at 0 has no sections and no symbols, and nothing more is looked at.
-    /// 2. `ExtendedNumbering`: no section headers are counted, or the names are in section 0xffff.
-    /// 3. `BadSectionTable`: a section header has not 64 bytes, or their table runs past the end.
-    /// 4. `BadStringTable`: the section names are in no sound string table.
-    /// 5. `BadSymbolTable`, `BadStringTable`: the first section of type SYMTAB, and its string table.
-    /// 6. `ExtendedNumbering`: a symbol's section index is kept elsewhere.
-    /// 7. `BadRelocationTable`: a section of type REL or RELA, whose link is the symbol table and whose
-    ///    info is not 0.
+    /// A file whose section header offset (e_shoff) is 0 has no sections and no symbols; only its identification is
+    /// checked. Type, machine and version of the file, section 0 and symbol 0 are not checked.
     ///
-    /// Type, machine and version of the file, section 0 and symbol 0 are not looked at.
+    /// # Errors
+    ///
+    /// The faults are looked for in this order, and the first one is the error:
+    ///
+    /// - `TooShort`: the input has fewer than 64 bytes.
+    /// - `BadMagic`: the first four bytes are not `7f 45 4c 46`.
+    /// - `NotElf64`: the class is not ELFCLASS64.
+    /// - `BadByteOrder`: the data encoding is neither little-endian nor big-endian.
+    /// - `ExtendedNumbering`: e_shnum is 0, or e_shstrndx is SHN_XINDEX.
+    /// - `BadSectionTable`: e_shentsize is not 64, or the section header table runs past the end of the file.
+    /// - `BadStringTable`: e_shstrndx is not 0, and its section has another type than STRTAB or runs past the end of the
+    ///   file.
+    /// - `BadSymbolTable`: the size of the first section of type SYMTAB is no multiple of 24, or the section runs past the
+    ///   end of the file.
+    /// - `BadStringTable`: the link of the symbol table is no string table inside the file.
+    /// - `ExtendedNumbering`: the section index of a symbol is SHN_XINDEX.
+    /// - `BadRelocationTable`: a section of relocations against the symbol table, whose info is not 0, has a target that
+    ///   does not exist, a size that is no multiple of its entries, or runs past the end of the file.
     #[tactic(auto, using(ebpf_base::proofs::Faults::clear_rows, ebpf_base::proofs::Faults::first_row))]
     pub fn parse(bytes: &'a [u8]) -> Result<ElfFile<'a>, ElfReadError>
         ensures fault { fault_of result ≡ first_in (faults bytes.now) }
@@ -131,14 +141,14 @@ impl<'a> ElfFile<'a> {
         Ok(ElfFile { layout })
     }
 
-    /// The byte order of the file's numbers (EI_DATA).
+    /// Returns the byte order of the file's numbers (EI_DATA).
     pub fn endianness(&self) -> Endianness
         ensures { result ≡ ei_data self.now }
     {
         self.layout.table.endianness
     }
 
-    /// The number of the machine that the file is for (e_machine).
+    /// Returns the number of the file's machine (e_machine); 247 for eBPF.
     #[tactic(auto, unfolding(crate::specs::Headers::e_machine))]
     pub fn machine(&self) -> u16
         ensures { result ≡ e_machine self.now }
@@ -146,14 +156,14 @@ impl<'a> ElfFile<'a> {
         read_u16(self.layout.table.endianness, self.layout.table.bytes, 18)
     }
 
-    /// Whether the file is for eBPF. `parse` takes files for any machine.
+    /// Returns whether the file's machine is eBPF (EM_BPF). `parse` accepts files of any machine.
     pub fn is_bpf(&self) -> bool
         ensures { result ≡ (e_machine self.now == EM_BPF) }
     {
         self.machine() == EM_BPF
     }
 
-    /// The sections from index 1 on, in order.
+    /// Returns the sections from index 1 on, in order of their indices.
     #[tactic(auto, using(crate::proofs::Ranges::length_numbers))]
     pub fn sections(&self) -> Sections<'a>
         ensures list { result ≡ sections self.now }
@@ -162,21 +172,21 @@ impl<'a> ElfFile<'a> {
         Sections::new(self.layout)
     }
 
-    /// The first section of this name. Names that can't be read are passed over.
+    /// Returns the first section with this name. Sections whose names cannot be read are skipped.
     pub fn section_by_name(&self, name: &str) -> Option<ElfSection<'a>>
         ensures { result ≡ find (λ s. is_name name.now (section_name s)) (sections self.now) }
     {
         first_named(self.sections(), name)
     }
 
-    /// The section with this index, from 1 on.
+    /// Returns the section with this index; none where the index is 0 or past the last section.
     pub fn section_at(&self, index: usize) -> Option<ElfSection<'a>>
         ensures { result ≡ find (λ s. s.index == index) (sections self.now) }
     {
         first_with_index(self.sections(), index)
     }
 
-    /// The symbols from index 1 on, in order.
+    /// Returns the symbols from index 1 on, in order of their indices; none without a symbol table.
     #[tactic(auto, using(crate::proofs::Ranges::length_numbers))]
     pub fn symbols(&self) -> Symbols<'a>
         ensures list { result ≡ symbols self.now }
@@ -185,7 +195,7 @@ impl<'a> ElfFile<'a> {
         Symbols::new(self.layout)
     }
 
-    /// The sections with relocations against the symbol table, in order of their indices.
+    /// Returns the sections of relocations against the symbol table, in order of their indices.
     #[tactic(auto, using(crate::proofs::Ranges::length_filtered))]
     pub fn relocation_sections(&self) -> RelocationSections<'a>
         ensures list { result ≡ relocation_sections self.now }

@@ -1,4 +1,4 @@
-//! The file's header, section headers, and the table of them.
+//! The file header, the section headers, and the section header table.
 
 ghost use Rattle.std.specs.Prelude.{◌≡◌, ◌↔◌, ◌+◌, ◌*◌, ◌<◌, ◌≤◌, ◌==◌, [], length, false, if◌then◌else◌, IfOk, IfSome, IsNone};
 ghost use Rattle.ebpf_base.specs.Faults.{first_of, fault_of};
@@ -11,7 +11,7 @@ use crate::error::ElfReadError;
 use ebpf_base::Endianness;
 use ebpf_base::numbers::{read_u16, read_u32, read_u64};
 
-/// The byte order of an ELF64 file.
+/// Returns the byte order of an ELF64 file, after it checked the identification.
 #[tactic(auto, unfolding(crate::specs::Headers::ei_data, crate::specs::Faults::identity_faults))]
 pub fn identify(bytes: &[u8]) -> Result<Endianness, ElfReadError>
     ensures fault { fault_of result ≡ first_of (identity_faults bytes.now) }
@@ -34,7 +34,7 @@ pub fn identify(bytes: &[u8]) -> Result<Endianness, ElfReadError>
     }
 }
 
-/// A section header (Elf64_Shdr), without its alignment and entry size.
+/// A section header (Elf64_Shdr), without sh_addralign and sh_entsize.
 #[derive(Clone, Copy)]
 pub struct SectionHeader {
     pub sh_name: u32,
@@ -47,7 +47,7 @@ pub struct SectionHeader {
     pub sh_info: u32,
 }
 
-/// Where the section headers of a file stand.
+/// The position of the section header table of a file.
 #[derive(Clone, Copy)]
 pub struct SectionTable<'a> {
     pub bytes: &'a [u8],
@@ -61,7 +61,7 @@ pub struct SectionTable<'a> {
     ghost room: { 64 ≤ length bytes.now },
 }
 
-/// The table of section headers. Without one its start is 0.
+/// Returns the section header table; its start is 0 for a file without one.
 #[tactic(auto, unfolding(crate::specs::Faults::table_faults, crate::specs::Headers::e_shoff, crate::specs::Headers::e_shnum, crate::specs::Headers::e_shentsize, crate::specs::Headers::e_shstrndx))]
 pub fn section_table<'a>(
     endianness: Endianness,
@@ -103,7 +103,7 @@ pub fn section_table<'a>(
 }
 
 impl<'a> SectionTable<'a> {
-    /// The header of a section.
+    /// Returns the header of a section.
     #[tactic(auto, unfolding(crate::specs::Headers::section, crate::specs::Headers::header_at))]
     pub fn header(&self, index: usize) -> SectionHeader
         requires { index < self.now.count }
@@ -122,7 +122,7 @@ impl<'a> SectionTable<'a> {
         }
     }
 
-    /// The range of a section, where it is inside the file.
+    /// Returns the bytes of a section; none where they run past the end of the file.
     pub fn range(&self, header: &SectionHeader) -> Option<&'a [u8]>
         ensures none { IsNone result
             ↔ (is_inside self.now.bytes.now header.now.sh_offset header.now.sh_size ≡ false) }
@@ -139,7 +139,7 @@ impl<'a> SectionTable<'a> {
         Some(&self.bytes[offset..offset + size])
     }
 
-    /// The string table in a section, where it is one.
+    /// Returns the string table in a section; none where the section is no string table inside the file.
     #[tactic(auto, unfolding(crate::specs::Names::is_string_table))]
     pub fn string_table(&self, index: usize) -> Option<&'a [u8]>
         ensures none { IsNone result ↔ (is_string_table self.now.bytes.now index ≡ false) }

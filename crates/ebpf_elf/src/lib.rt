@@ -1,4 +1,6 @@
-//! Reads ELF64 object files in either byte order. Nothing is allocated: names and data are slices of the input.
+//! Reads ELF64 object files in either byte order (ELF-64 gABI).
+//!
+//! The crate allocates nothing: names and data are slices of the input.
 #![tactic(auto)]
 
 pub mod constants;

@@ -1,4 +1,4 @@
-//! The sections with relocations, and the relocations of a section.
+//! The sections of relocations, and the relocations of a section.
 
 ghost use Rattle.std.specs.Prelude.{◌≡◌, ◌+◌, ◌*◌, ◌<◌, ◌≤◌, ◌^◌, ◌&&◌, ◌++◌, List, [], ◌∷◌, length, true, None, IfNone, IfSome, option_map, unwrap_or};
 ghost use Rattle.std.specs.Iterator.{YieldsFirst, item_count};
@@ -24,15 +24,15 @@ use std::marker::Model;
 /// A relocation (ELF-64 gABI, 'Relocation').
 #[derive(Clone, Copy, Debug, PartialEq, Eq)]
 pub struct ElfRelocation {
-    /// The offset that is patched, in bytes from the start of its section (r_offset).
+    /// The offset to patch, in bytes from the start of the target section (r_offset).
     pub offset: u64,
-    /// The size of what is patched, in bits: 64 at R_BPF_64_64, 32 at R_BPF_64_32, else 0.
+    /// The size of the patched field in bits: 64 for R_BPF_64_64, 32 for R_BPF_64_32, else 0.
     pub size: u8,
     /// The index of the symbol (the high half of r_info).
     pub symbol_index: usize,
 }
 
-/// The relocation in the 16 bytes from `offset` on. An addend behind them is not read.
+/// Returns the relocation in the 16 bytes from `offset` on. An addend after them is not read.
 #[tactic(auto, unfolding(crate::specs::Relocations::relocation_at))]
 fn read_relocation(order: Endianness, bytes: &[u8], offset: usize) -> ElfRelocation
     requires { offset + 16 ≤ length bytes.now }
@@ -51,7 +51,7 @@ fn read_relocation(order: Endianness, bytes: &[u8], offset: usize) -> ElfRelocat
     }
 }
 
-/// The size in bytes of an entry in a section of this kind.
+/// Returns the size in bytes of an entry in a section of this type: 16 for REL, 24 for RELA.
 pub fn relocation_size(kind: u32) -> u64
     ensures { result ≡ relocation_size kind }
 {
@@ -59,7 +59,7 @@ pub fn relocation_size(kind: u32) -> u64
 }
 
 impl SymbolTable<'_> {
-    /// Whether a section holds relocations against this table.
+    /// Returns whether a section holds relocations against this table.
     #[tactic(auto, unfolding(crate::specs::Relocations::holds_relocations))]
     pub fn holds_relocations(&self, section: usize) -> bool
         requires { section < self.now.table.count }
@@ -71,7 +71,7 @@ impl SymbolTable<'_> {
             && header.sh_link as usize == self.index
     }
 
-    /// Whether a section is malformed, taken as one of relocations.
+    /// Returns whether a section is malformed as a section of relocations.
     #[tactic(auto, unfolding(crate::specs::Relocations::is_bad_relocation_table))]
     fn is_bad_relocation_table(&self, section: usize) -> bool
         requires { section < self.now.table.count }
@@ -83,7 +83,7 @@ impl SymbolTable<'_> {
             || self.table.range(&header).is_none()
     }
 
-    /// Whether a section with relocations against this table is malformed.
+    /// Returns whether a section of relocations against this table is malformed.
     fn has_bad_relocations(&self) -> bool
         ensures { result
             ≡ list_any
@@ -95,7 +95,7 @@ impl SymbolTable<'_> {
         (1..self.table.count).any(|j| self.holds_relocations(j) && self.is_bad_relocation_table(j))
     }
 
-    /// Refuses malformed relocations against this table.
+    /// Checks the sections of relocations against this table.
     #[tactic(auto, unfolding(crate::specs::Faults::relocation_faults))]
     pub fn check_relocations(&self) -> Result<(), ElfReadError>
         ensures { fault_of result
@@ -107,7 +107,7 @@ impl SymbolTable<'_> {
         Ok(())
     }
 
-    /// The index of the first section from `from` on with relocations against this table.
+    /// Returns the index of the first section from `from` on with relocations against this table.
     #[tactic(auto, using(ebpf_base::proofs::Lists::range_more))]
     pub fn next_relocation_section(&self, from: usize) -> Option<usize>
         ensures none { IfNone result
@@ -134,10 +134,10 @@ impl SymbolTable<'_> {
     }
 }
 
-/// Where the entries of a section with relocations stand in its file.
+/// The position of the entries of a section of relocations in its file.
 #[derive(Clone, Copy, Debug, PartialEq, Eq)]
 pub struct EntryExtent {
-    /// The offset of the first entry (sh_offset).
+    /// The offset of the first entry in the file, in bytes (sh_offset).
     pub offset: usize,
     /// The size of an entry in bytes: 16 in a REL section, 24 in a RELA section.
     pub entry_size: usize,
@@ -145,7 +145,7 @@ pub struct EntryExtent {
     pub count: usize,
 }
 
-/// A section with relocations against the symbol table. Contracts see the file and the section's index.
+/// A section of relocations against the symbol table. Contracts see the file and the section's index.
 #[derive(Clone, Drop)]
 pub struct ElfRelocationSection<'a> {
     table: SectionTable<'a>,
@@ -167,7 +167,7 @@ impl<'a> Model for ElfRelocationSection<'a> {
         ≤ length s.table.bytes.now) };
 }
 
-/// The section with this index, which holds relocations against a symbol table.
+/// Returns the section with this index, which holds relocations against a symbol table.
 #[tactic(auto, using(crate::proofs::Entries::not_bad, crate::proofs::Entries::entries_inside))]
 fn relocation_section_at<'a>(symbols: &SymbolTable<'a>, index: usize) -> ElfRelocationSection<'a>
     requires from { 1 ≤ index }
@@ -193,21 +193,21 @@ fn relocation_section_at<'a>(symbols: &SymbolTable<'a>, index: usize) -> ElfRelo
 }
 
 impl<'a> ElfRelocationSection<'a> {
-    /// The section's own index, from 1 on.
+    /// Returns the index of the section of relocations itself, 1 or more.
     pub fn index(&self) -> SectionIndex
         ensures { result.0 ≡ self.now.index }
     {
         SectionIndex(self.index)
     }
 
-    /// The index of the section that the entries patch (sh_info).
+    /// Returns the index of the section that the entries patch (sh_info).
     pub fn target(&self) -> usize
         ensures { result ≡ relocated_section self.now }
     {
         self.target
     }
 
-    /// Where the entries stand. Two sections of a file whose entries have the same extent have the same entries.
+    /// Returns the position of the entries in the file. Sections of a file with the same extent have the same entries.
     pub fn extent(&self) -> EntryExtent
         ensures offset { result.offset ≡ (header self.now).sh_offset }
         ensures entry_size { result.entry_size ≡ relocation_size (header self.now).sh_type }
@@ -216,7 +216,7 @@ impl<'a> ElfRelocationSection<'a> {
         self.extent
     }
 
-    /// The entry with this index, from 0 on.
+    /// Returns the entry with this index, from 0 on.
     #[tactic(auto, using(crate::proofs::Entries::entry_inside), unfolding(crate::specs::Relocations::table_entry))]
     fn entry(&self, entry_index: usize) -> ElfRelocation
         requires { entry_index < entry_count self.now }
@@ -226,7 +226,7 @@ impl<'a> ElfRelocationSection<'a> {
         read_relocation(self.table.endianness, self.table.bytes, offset)
     }
 
-    /// The entries of this section, in order.
+    /// Returns the entries of this section, in order.
     #[tactic(auto, using(crate::proofs::Ranges::length_numbers))]
     pub fn relocations(&self) -> RelocationEntries<'a>
         ensures list { result ≡ table_entries self.now }
@@ -239,7 +239,7 @@ impl<'a> ElfRelocationSection<'a> {
     }
 }
 
-/// The entries of a section with relocations that are left, in order. Contracts see the list of them.
+/// An iterator over the entries of a section of relocations, in order. Contracts see the list of the entries left.
 #[derive(Clone, Drop)]
 pub struct RelocationEntries<'a> {
     section: ElfRelocationSection<'a>,
@@ -270,7 +270,7 @@ impl<'a> Iterator for RelocationEntries<'a> {
     }
 }
 
-/// The sections with relocations that are left, in order of their indices. Contracts see the list of them.
+/// An iterator over the sections of relocations, in order of their indices. Contracts see the list of the sections left.
 #[derive(Clone, Drop)]
 pub struct RelocationSections<'a> {
     symbols: Option<SymbolTable<'a>>,
@@ -293,7 +293,7 @@ impl<'a> Model for RelocationSections<'a> {
 }
 
 impl<'a> RelocationSections<'a> {
-    /// The sections with relocations against the file's symbol table.
+    /// Returns the sections of relocations against the file's symbol table.
     pub(crate) fn new(layout: Layout<'a>) -> RelocationSections<'a>
         ensures { result ≡ relocation_sections layout.entry.table.bytes.now }
     {
@@ -322,7 +322,7 @@ impl<'a> Iterator for RelocationSections<'a> {
     }
 }
 
-/// The first relocation for a target, and the entries after it in its section.
+/// Returns the first relocation for a target, and the entries after it in its section of relocations.
 fn first_relocation<'a>(
     sections: &mut RelocationSections<'a>,
     target: usize,
@@ -344,7 +344,7 @@ fn first_relocation<'a>(
     None
 }
 
-/// The relocations of a section that are left, in order. Contracts see the list of them.
+/// An iterator over the relocations of a section, in order. Contracts see the list of the relocations left.
 #[derive(Clone, Drop)]
 pub struct Relocations<'a> {
     target: usize,
@@ -359,7 +359,7 @@ impl<'a> Model for Relocations<'a> {
 }
 
 impl<'a> Relocations<'a> {
-    /// The entries in these sections that are for the section `target`.
+    /// Returns the entries in these sections whose target is the section `target`.
     pub(crate) fn new(sections: RelocationSections<'a>, target: usize) -> Relocations<'a>
         ensures { result ≡ entries_for target sections.entry }
     {

@@ -41,44 +41,46 @@ impl<'a> Model for ElfSection<'a> {
 }
 
 impl<'a> ElfSection<'a> {
-    /// The section's index, from 1 on.
+    /// Returns the section's index, 1 or more.
     pub fn index(&self) -> SectionIndex
         ensures { result.0 ≡ self.now.index }
     {
         SectionIndex(self.index)
     }
 
-    /// The section's type (sh_type), as 1 at PROGBITS and 8 at NOBITS.
+    /// Returns the section's type (sh_type): 1 is PROGBITS, 8 is NOBITS.
     pub fn kind_number(&self) -> u32
         ensures { result ≡ (header self.now).sh_type }
     {
         self.fields.sh_type
     }
 
-    /// The section's flags (sh_flags), as 2 at ALLOC and 4 at EXECINSTR.
+    /// Returns the section's flags (sh_flags), as a sum: 2 is ALLOC, 4 is EXECINSTR.
     pub fn flags(&self) -> u64
         ensures { result ≡ (header self.now).sh_flags }
     {
         self.fields.sh_flags
     }
 
-    /// The address of the section's first byte (sh_addr); 0 in most object files.
+    /// Returns the address of the section's first byte (sh_addr); 0 in most object files.
     pub fn address(&self) -> u64
         ensures { result ≡ (header self.now).sh_addr }
     {
         self.fields.sh_addr
     }
 
-    /// The section's size in bytes (sh_size), also where it has no data in the file.
+    /// Returns the section's size in bytes (sh_size), also for a section without data in the file.
     pub fn size(&self) -> u64
         ensures { result ≡ (header self.now).sh_size }
     {
         self.fields.sh_size
     }
 
-    /// The section's name, from the string table of the section names (sh_name).
+    /// Returns the section's name, from the string table of the section names (sh_name).
     ///
-    /// `BadStringTable` where no zero byte follows it in that table, or it is not UTF-8.
+    /// # Errors
+    ///
+    /// - `BadStringTable`: no zero byte follows the name in the string table, or the name is not UTF-8.
     #[tactic(auto, unfolding(crate::specs::Sections::section_name))]
     pub fn name(&self) -> Result<&'a str, ElfReadError>
         ensures name { IfOk result (λ text. section_name self.now ≡ Some text.now) }
@@ -88,8 +90,8 @@ impl<'a> ElfSection<'a> {
         name_in(self.layout.names, self.fields.sh_name as usize)
     }
 
-    /// Whether the section has this name; not where its name can't be read. It costs as this text's length does, however
-    /// long the section's name is.
+    /// Returns whether the section has this name; false where the section's name cannot be read. The time is linear in
+    /// the length of `text`, however long the section's name is.
     #[tactic(auto, unfolding(crate::specs::Sections::section_name))]
     pub fn has_name(&self, text: &str) -> bool
         ensures { result ≡ is_name text.now (section_name self.now) }
@@ -97,9 +99,11 @@ impl<'a> ElfSection<'a> {
         is_name_in(self.layout.names, self.fields.sh_name as usize, text)
     }
 
-    /// The section's bytes in the file (sh_offset, sh_size). A section of type NOBITS has none.
+    /// Returns the section's bytes in the file (sh_offset, sh_size); none for a section of type NOBITS.
     ///
-    /// `BadSectionRange` where they run past the end of the file.
+    /// # Errors
+    ///
+    /// - `BadSectionRange`: the bytes run past the end of the file.
     #[tactic(auto, unfolding(crate::specs::Sections::data_faults, crate::specs::Sections::data_of))]
     pub fn data(&self) -> Result<&'a [u8], ElfReadError>
         ensures fault { fault_of result ≡ first_of (data_faults self.now) }
@@ -114,8 +118,8 @@ impl<'a> ElfSection<'a> {
             .ok_or(ElfReadError::BadSectionRange)
     }
 
-    /// The relocations of the section: the entries of the REL and RELA sections against the symbol table
-    /// whose target it is, in order.
+    /// Returns the relocations of the section, in order: the entries of the REL and RELA sections against the symbol table
+    /// whose target (sh_info) is this section.
     pub fn relocations(&self) -> Relocations<'a>
         ensures { result ≡ relocations self.now }
     {
@@ -123,7 +127,7 @@ impl<'a> ElfSection<'a> {
     }
 }
 
-/// The sections of a file that are left, in order of their indices. Contracts see the list of them.
+/// An iterator over the sections of a file, in order of their indices. Contracts see the list of the sections left.
 #[derive(Clone, Drop)]
 pub struct Sections<'a> {
     layout: Layout<'a>,
@@ -137,7 +141,7 @@ impl<'a> Model for Sections<'a> {
 }
 
 impl<'a> Sections<'a> {
-    /// The sections of the file from index 1 on.
+    /// Returns the sections of the file from index 1 on.
     pub(crate) fn new(layout: Layout<'a>) -> Sections<'a>
         ensures { result ≡ sections layout.entry.table.bytes.now }
     {
@@ -167,7 +171,7 @@ impl<'a> Iterator for Sections<'a> {
     }
 }
 
-/// The first section of this name.
+/// Returns the first section with this name.
 pub fn first_named<'a>(sections: Sections<'a>, name: &str) -> Option<ElfSection<'a>>
     ensures { result ≡ find (λ s. is_name name.now (section_name s)) sections.entry }
 {
@@ -179,7 +183,7 @@ pub fn first_named<'a>(sections: Sections<'a>, name: &str) -> Option<ElfSection<
     None
 }
 
-/// The section with this index.
+/// Returns the section with this index.
 pub fn first_with_index<'a>(sections: Sections<'a>, index: usize) -> Option<ElfSection<'a>>
     ensures { result ≡ find (λ s. s.index == index) sections.entry }
 {

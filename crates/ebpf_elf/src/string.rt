@@ -7,14 +7,14 @@ ghost use Rattle.ebpf_elf.specs.declared.error.ElfReadError.TheVariants.{BadStri
 
 use crate::error::ElfReadError;
 
-/// The index of the first zero byte.
+/// Returns the index of the first zero byte.
 fn first_zero(bytes: &[u8]) -> Option<usize>
     ensures { result ≡ position (λ b. b == 0) bytes.now }
 {
     bytes.iter().position(|b| *b == 0)
 }
 
-/// The bytes up to the first zero byte.
+/// Returns the bytes before the first zero byte.
 fn before_zero(bytes: &[u8]) -> Option<&[u8]>
     ensures { MatchOption result (bytes_before_zero bytes.now ≡ None) (λ text.
         bytes_before_zero bytes.now ≡ Some text.now) }
@@ -25,7 +25,7 @@ fn before_zero(bytes: &[u8]) -> Option<&[u8]>
     }
 }
 
-/// The bytes of the name with this index.
+/// Returns the bytes of the name with this index.
 #[tactic(auto, unfolding(crate::specs::Names::name_bytes))]
 fn bytes_in(names: &[u8], index: usize) -> Option<&[u8]>
     ensures { MatchOption result (name_bytes names.now index ≡ None) (λ text.
@@ -40,7 +40,11 @@ fn bytes_in(names: &[u8], index: usize) -> Option<&[u8]>
     before_zero(&names[index..])
 }
 
-/// The name with this index. `BadStringTable` where no zero byte follows, or it is not UTF-8.
+/// Returns the name with this index.
+///
+/// # Errors
+///
+/// - `BadStringTable`: no zero byte follows the name, or the name is not UTF-8.
 #[tactic(auto, using(crate::proofs::Names::readable_text, crate::proofs::Names::unreadable), unfolding(crate::specs::Names::string_table_name))]
 pub fn name_in(names: &[u8], index: usize) -> Result<&str, ElfReadError>
     ensures name { IfOk result (λ text. string_table_name names.now index ≡ Some text.now) }
@@ -56,7 +60,7 @@ pub fn name_in(names: &[u8], index: usize) -> Result<&str, ElfReadError>
     }
 }
 
-/// Whether the name with this index can be read and is this text.
+/// Returns whether the name with this index can be read and is this text.
 fn reads_as(names: &[u8], index: usize, text: &str) -> bool
     ensures { result ≡ is_name text.now (string_table_name names.now index) }
 {
@@ -66,7 +70,8 @@ fn reads_as(names: &[u8], index: usize, text: &str) -> bool
     }
 }
 
-/// Whether the name with this index can be read and is this text. Of the name one byte more than the text has is read.
+/// Returns whether the name with this index can be read and is this text. It reads at most one byte more of the name than
+/// `text` has.
 pub fn is_name_in(names: &[u8], index: usize, text: &str) -> bool
     ensures { result ≡ is_name text.now (string_table_name names.now index) }
 {

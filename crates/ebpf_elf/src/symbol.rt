@@ -21,7 +21,7 @@ use ebpf_base::Endianness;
 use ebpf_base::numbers::{read_u16, read_u32, read_u64};
 use std::marker::Model;
 
-/// What a symbol stands for, by its type (ELF-64 gABI, 'Symbol Table').
+/// The kind of a symbol, by its type (ELF-64 gABI, 'Symbol Table').
 #[derive(Clone, Copy, Debug, PartialEq, Eq)]
 pub enum SymbolKind {
     /// No type (STT_NOTYPE), or one that is not listed here.
@@ -48,7 +48,7 @@ pub struct SymbolEntry {
     pub st_size: u64,
 }
 
-/// The entry in the 24 bytes from `offset` on.
+/// Returns the entry in the 24 bytes from `offset` on (Elf64_Sym).
 #[tactic(auto, unfolding(crate::specs::Symbols::symbol_at, ebpf_base::specs::Numbers::number_at))]
 pub fn read_symbol(order: Endianness, bytes: &[u8], offset: usize) -> SymbolEntry
     requires { offset + 24 ≤ length bytes.now }
@@ -63,7 +63,7 @@ pub fn read_symbol(order: Endianness, bytes: &[u8], offset: usize) -> SymbolEntr
     }
 }
 
-/// The index of the first section of kind SYMTAB.
+/// Returns the index of the first section of type SYMTAB.
 #[tactic(auto, unfolding(crate::specs::Symbols::symbol_table_section))]
 pub fn find_symbol_table(table: &SectionTable<'_>) -> Option<usize>
     ensures first { result ≡ symbol_table_section table.now.bytes.now }
@@ -72,7 +72,7 @@ pub fn find_symbol_table(table: &SectionTable<'_>) -> Option<usize>
     (1..table.count).find(|i| table.header(*i).sh_type == SHT_SYMTAB)
 }
 
-/// Where a symbol table and its names stand.
+/// The positions of a symbol table and its names.
 #[derive(Clone, Copy)]
 pub struct SymbolTable<'a> {
     pub table: SectionTable<'a>,
@@ -88,7 +88,7 @@ pub struct SymbolTable<'a> {
         (section table.bytes.now (section table.bytes.now index).sh_link) },
 }
 
-/// The symbol table in the section `index`.
+/// Returns the symbol table in the section `index`.
 #[tactic(auto, unfolding(crate::specs::Faults::symbol_faults))]
 pub fn open_symbol_table<'a>(
     table: SectionTable<'a>,
@@ -116,7 +116,7 @@ pub fn open_symbol_table<'a>(
 }
 
 impl SymbolTable<'_> {
-    /// The section index of a symbol.
+    /// Returns the section index of a symbol (st_shndx).
     #[tactic(auto, unfolding(crate::specs::Symbols::st_shndx_at))]
     fn shndx_of(&self, symbol: usize) -> u16
         requires { symbol < self.now.count }
@@ -129,7 +129,7 @@ impl SymbolTable<'_> {
         )
     }
 
-    /// Whether the section index of a symbol is kept elsewhere.
+    /// Returns whether the section index of a symbol is stored elsewhere (SHN_XINDEX).
     fn has_extended_index(&self) -> bool
         ensures { result
             ≡ list_any (λ k. st_shndx_at self.now.table.bytes.now self.now.index k == SHN_XINDEX)
@@ -138,7 +138,7 @@ impl SymbolTable<'_> {
         (1..self.count).any(|k| self.shndx_of(k) == SHN_XINDEX)
     }
 
-    /// Refuses section indices that are kept elsewhere.
+    /// Checks that no symbol's section index is stored elsewhere (SHN_XINDEX).
     #[tactic(auto, unfolding(crate::specs::Faults::xindex_faults))]
     pub fn check_section_indices(&self) -> Result<(), ElfReadError>
         ensures { fault_of result
@@ -175,16 +175,18 @@ impl<'a> Model for ElfSymbol<'a> {
 }
 
 impl<'a> ElfSymbol<'a> {
-    /// The symbol's index, from 1 on.
+    /// Returns the symbol's index, 1 or more.
     pub fn index(&self) -> usize
         ensures { result ≡ self.now.index }
     {
         self.index
     }
 
-    /// The symbol's name, from the string table that is the link of the symbol table (st_name).
+    /// Returns the symbol's name, from the string table that is the link of the symbol table (st_name).
     ///
-    /// `BadStringTable` where no zero byte follows it in that table, or it is not UTF-8.
+    /// # Errors
+    ///
+    /// - `BadStringTable`: no zero byte follows the name in the string table, or the name is not UTF-8.
     #[tactic(auto, unfolding(crate::specs::Symbols::symbol_name))]
     pub fn name(&self) -> Result<&'a str, ElfReadError>
         ensures name { IfOk result (λ text. symbol_name self.now ≡ Some text.now) }
@@ -194,8 +196,8 @@ impl<'a> ElfSymbol<'a> {
         name_in(self.symbols.names, self.fields.st_name as usize)
     }
 
-    /// The index of the section that the symbol is in (st_shndx). An undefined symbol, and one with a
-    /// reserved index, as an absolute one, is in no section.
+    /// Returns the index of the symbol's section (st_shndx); none for an undefined symbol and for a reserved index, such as
+    /// the one of an absolute symbol.
     #[tactic(auto, unfolding(crate::specs::Symbols::symbol_section_index))]
     pub fn section_index(&self) -> Option<usize>
         ensures { result ≡ symbol_section_index (entry self.now) }
@@ -206,21 +208,21 @@ impl<'a> ElfSymbol<'a> {
         Some(self.fields.st_shndx as usize)
     }
 
-    /// The symbol's value (st_value): in object files its offset in its section, in bytes.
+    /// Returns the symbol's value (st_value): in object files the symbol's offset in its section, in bytes.
     pub fn address(&self) -> u64
         ensures { result ≡ (entry self.now).st_value }
     {
         self.fields.st_value
     }
 
-    /// The symbol's size in bytes (st_size); 0 where it has none or is unknown.
+    /// Returns the symbol's size in bytes (st_size); 0 for a symbol without a size and for an unknown size.
     pub fn size(&self) -> u64
         ensures { result ≡ (entry self.now).st_size }
     {
         self.fields.st_size
     }
 
-    /// What the symbol stands for, by its type (the low half of st_info).
+    /// Returns the kind of the symbol, by its type (the low four bits of st_info).
     #[tactic(auto, unfolding(crate::specs::Symbols::symbol_kind))]
     pub fn kind(&self) -> SymbolKind
         ensures { result ≡ symbol_kind (entry self.now) }
@@ -235,8 +237,8 @@ impl<'a> ElfSymbol<'a> {
         }
     }
 
-    /// Whether the symbol defines something: it is not undefined, and is of type FUNC, OBJECT, or NOTYPE
-    /// with a size.
+    /// Returns whether the symbol is a definition: it is not undefined, and has the type FUNC or OBJECT, or the type NOTYPE
+    /// and a size other than 0.
     #[tactic(auto, unfolding(crate::specs::Symbols::is_definition))]
     pub fn is_definition(&self) -> bool
         ensures { result ≡ is_definition (entry self.now) }
@@ -248,7 +250,7 @@ impl<'a> ElfSymbol<'a> {
                 || (kind == STT_NOTYPE && self.fields.st_size != 0))
     }
 
-    /// Whether the symbol's binding is weak (the high half of st_info).
+    /// Returns whether the symbol's binding is weak (the high four bits of st_info).
     #[tactic(auto, unfolding(crate::specs::Symbols::is_weak))]
     pub fn is_weak(&self) -> bool
         ensures { result ≡ is_weak (entry self.now) }
@@ -257,7 +259,7 @@ impl<'a> ElfSymbol<'a> {
     }
 }
 
-/// The symbols of a file that are left, in order of their indices. Contracts see the list of them.
+/// An iterator over the symbols of a file, in order of their indices. Contracts see the list of the symbols left.
 #[derive(Clone, Drop)]
 pub struct Symbols<'a> {
     table: Option<SymbolTable<'a>>,
@@ -274,7 +276,7 @@ impl<'a> Model for Symbols<'a> {
 }
 
 impl<'a> Symbols<'a> {
-    /// The symbols of the file from index 1 on.
+    /// Returns the symbols of the file from index 1 on.
     pub(crate) fn new(layout: Layout<'a>) -> Symbols<'a>
         ensures { result ≡ symbols layout.entry.table.bytes.now }
     {
