@@ -1,4 +1,5 @@
--- What is added to types and strings, and taken back. Ids and offsets have 32 bits.
+-- Additions to types and strings, and their removal. An addition is at the end; ids and offsets
+-- have 32 bits.
 use Rattle.std.specs.Prelude.{ℕ, ◌^◌, List, [], ◌∷◌, ◌++◌, take, Option, Some, None, nat_lt}
 use Rattle.std.specs.Prelude.{if◌then◌else◌}
 use Rattle.ebpf_btf.specs.declared.error.BtfError.{BtfError}

@@ -26,7 +26,7 @@ word order bytes offset = number_at order 4 bytes offset
 
 -- ---- the info word
 
--- vlen: how many members, variants, parameters or entries the type has
+-- vlen: the number of members, variants, parameters or entries of the type
 unfoldable pub info_vlen : ℕ → ℕ
 info_vlen info = info % 2 ^ 16
 
@@ -120,7 +120,7 @@ vlen_at o bytes offset = info_vlen (info_at o bytes offset)
 abbrev pub kind_flag_at : Endianness → List ℕ → ℕ → Bool
 kind_flag_at o bytes offset = info_kind_flag (info_at o bytes offset)
 
--- the type of a kind that stands at an offset
+-- the type of a kind at an offset
 unfoldable pub spelled : Endianness → List ℕ → ℕ → BtfKind → BtfType
 spelled o bytes p kinds.Unknown = Unknown
 spelled o bytes p kinds.Int = Int (word o bytes p) (word o bytes (p + 8)) (word o bytes (p + 12))
@@ -173,15 +173,15 @@ AreTypesAt o bytes offset [] = offset ≡ length bytes
 AreTypesAt o bytes offset (t ∷ ts) =
     (next : ℕ) × IsTypeAt o bytes offset next t × (next ≤ length bytes) × AreTypesAt o bytes next ts
 
--- ---- the tables of kinds and of their numbers, beside each other
+-- ---- the tables of kinds and of their numbers, compared with each other
 
--- the kind that an info word has is the one of its number
+-- the kind of an info word is the kind of its number
 abbrev pub KindsByNumber : Type 0
 KindsByNumber =
     (info : ℕ) (kind : BtfKind) → info_kind info ≡ Some kind
     → kind_number kind ≡ info_kind_number info
 
--- each kind but that of void stands in the info words that have its number
+-- each kind but void is the kind of the info words that have its number
 abbrev pub NumbersOfKinds : Type 0
 NumbersOfKinds =
     (info : ℕ) (kind : BtfKind) → 0 < kind_number kind → info_kind_number info ≡ kind_number kind

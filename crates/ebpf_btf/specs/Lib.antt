@@ -5,6 +5,7 @@ pub mod Header
 pub mod Items
 pub mod Memory
 pub mod Next
+pub mod Numbers
 pub mod Reading
 pub mod Steps
 pub mod Strings
@@ -12,5 +13,5 @@ pub mod TypeInfo
 pub mod Types
 pub mod Variants
 pub mod Words
--- What only private contracts and proofs name.
+-- Definitions of private contracts and proofs.
 pub mod Offsets

@@ -1,4 +1,4 @@
--- The one answer of this layer that no definition states: want of memory.
+-- Out of memory: the one error of this layer that no definition states.
 use Rattle.std.specs.Prelude.{Bool, true, false}
 use Rattle.ebpf_btf.specs.declared.error.BtfError.{BtfError}
 use Rattle.ebpf_btf.specs.declared.error.BtfError.TheVariants.{OutOfMemory}

@@ -1,4 +1,4 @@
--- Types by the offsets where they stand.
+-- Types by their offsets in the bytes, and the enumerations that UNIONs replace.
 use Rattle.std.specs.Prelude.{◌≡◌, ◌≤◌, ◌*◌, ◌^◌, ◌<◌, ◌==◌, ℕ, List, [], ◌∷◌, Option, None, Some}
 use Rattle.std.specs.Prelude.{map, length, drop, option_map, unwrap_or}
 use Rattle.std.specs.List.{All, find}
@@ -19,7 +19,7 @@ kind_here o bytes offset = unwrap_or (info_kind (info_at o bytes offset)) kinds.
 unfoldable pub type_here : Endianness → List ℕ → ℕ → BtfType
 type_here o bytes offset = spelled o bytes offset (kind_here o bytes offset)
 
--- where it ends
+-- the end of the type at an offset
 unfoldable pub end_here : Endianness → List ℕ → ℕ → ℕ
 end_here o bytes offset = end_of o bytes offset (kind_here o bytes offset)
 
@@ -31,7 +31,7 @@ types_here o bytes offsets = map (type_here o bytes) offsets
 abbrev pub AreInside : Endianness → List ℕ → List ℕ → Type 0
 AreInside o bytes offsets = All (λ offset. end_here o bytes offset ≤ length bytes) offsets
 
--- types stand at the offsets, one after the other from an offset up to another
+-- types begin at the offsets, one after the other from an offset up to another
 abbrev pub AreOffsets : Endianness → List ℕ → ℕ → ℕ → List ℕ → Type 0
 AreOffsets o bytes offset end [] = offset ≡ end
 AreOffsets o bytes offset end (p ∷ ps) =
@@ -50,15 +50,14 @@ pub record HoldsTypes (o : Endianness) (bytes : List ℕ) (start : ℕ) (offsets
   pub tiled : AreOffsets o (drop start bytes) 0 (length (drop start bytes)) offsets
   pub whole : AreTypesAt o (drop start bytes) 0 (types_here o (drop start bytes) offsets)
 
--- ---- what stands beside the bytes: of UNIONs the enumerations of 64 bits that they were, which no
--- bytes hold
+-- ---- the fallbacks: the enumerations of 64 bits that UNIONs replace, which no bytes hold
 
--- what the UNION at an offset was
+-- the enumeration that the UNION at an offset replaces
 unfoldable pub fallback_at : List OffsetFallback → ℕ → Option Enum64Fallback
 fallback_at fallbacks offset =
     option_map (λ f. f.fallback) (find (λ f. f.offset == offset) fallbacks)
 
--- a UNION and what it was
+-- a UNION with the enumeration that it replaces
 unfoldable pub with_fallback : Option Enum64Fallback → BtfType → BtfType
 with_fallback None t = t
 with_fallback (Some fallback) (Union name size flag members _) =
@@ -70,7 +69,7 @@ unfoldable pub without_fallback : BtfType → BtfType
 without_fallback (Union name size flag members _) = Union name size flag members None
 without_fallback t = t
 
--- the type at an offset, with what stands beside
+-- the type at an offset, with its fallback
 unfoldable pub held_type : Endianness → List ℕ → List OffsetFallback → ℕ → BtfType
 held_type o bytes fallbacks offset =
     with_fallback (fallback_at fallbacks offset) (type_here o bytes offset)
@@ -78,11 +77,11 @@ held_type o bytes fallbacks offset =
 unfoldable pub held_types : Endianness → List ℕ → List OffsetFallback → List ℕ → List BtfType
 held_types o bytes fallbacks offsets = map (held_type o bytes fallbacks) offsets
 
--- it stands beside types that are in the bytes
+-- the fallbacks are of types that are in the bytes
 abbrev pub AreBeside : List ℕ → List OffsetFallback → Type 0
 AreBeside bytes fallbacks = All (λ f. f.offset < length bytes) fallbacks
 
--- what is added with a type at an offset
+-- the fallback that is added with a type at an offset
 abbrev pub beside : ℕ → Option Enum64Fallback → List OffsetFallback
 beside offset None = []
 beside offset (Some fallback) = (record { offset = offset; fallback = fallback }) ∷ []

@@ -1,5 +1,6 @@
--- What bytes give, and their first fault: the header of `.BTF` and its two parts (the kernel's
--- Documentation/bpf/btf.rst, 2. "BTF Type and String Encoding"; struct btf_header).
+-- The type information of some bytes, or their first fault: `.BTF` is a header and two parts, the
+-- types and the strings (the kernel's Documentation/bpf/btf.rst, 2. "BTF Type and String Encoding";
+-- struct btf_header).
 use Rattle.std.specs.Prelude.{◌≡◌, ℕ, zero, suc, ◌+◌, ◌∷◌, ◌++◌, [], List, length, Option, Some}
 use Rattle.std.specs.Prelude.{None, Result, Ok, Err, option_map, nat_lt, not, ◌==◌, if◌then◌else◌}
 use Rattle.std.specs.Prelude.{slice_range}
@@ -23,14 +24,14 @@ magic o bytes = number_at o 2 bytes 0
 unfoldable pub header_length : Endianness → List ℕ → ℕ
 header_length o bytes = word o bytes 4
 
--- where the types begin and end
+-- the start and end of the types
 unfoldable pub types_start : Endianness → List ℕ → ℕ
 types_start o bytes = header_length o bytes + word o bytes 8
 
 unfoldable pub types_end : Endianness → List ℕ → ℕ
 types_end o bytes = types_start o bytes + word o bytes 12
 
--- where the strings begin and end
+-- the start and end of the strings
 unfoldable pub strings_start : Endianness → List ℕ → ℕ
 strings_start o bytes = header_length o bytes + word o bytes 16
 
@@ -54,7 +55,7 @@ strings_in o bytes = slice_range bytes (strings_start o bytes) (strings_end o by
 unfoldable pub types_part : Endianness → List ℕ → List ℕ
 types_part o bytes = slice_range bytes (types_start o bytes) (types_end o bytes)
 
--- ---- what bytes spell
+-- ---- the contents of bytes
 
 -- The header is sound, and its two parts are some types after void, and the strings.
 pub record Spells (o : Endianness) (bytes : List ℕ) (info : TypeInfo) : Type 0 where
@@ -64,7 +65,7 @@ pub record Spells (o : Endianness) (bytes : List ℕ) (info : TypeInfo) : Type 0
       × AreTypesAt o (types_part o bytes) 0 ts
   pub strings : info.strings ≡ strings_in o bytes
 
--- ---- what is read
+-- ---- reading
 
 -- the type at an offset, of a kind that is known, and the offset after it, where that is not past
 -- the end
@@ -92,7 +93,7 @@ types_from (suc left) o bytes offset =
     else if_some (type_before o bytes offset)
     (λ found. prepend_types (found.0 ∷ []) (types_from left o bytes found.1)) None
 
--- no more types than bytes stand in the part
+-- a part has no more types than bytes
 unfoldable pub types_of : Endianness → List ℕ → Option (List BtfType)
 types_of o part = types_from (length part) o part 0
 

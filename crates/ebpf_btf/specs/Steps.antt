@@ -1,4 +1,4 @@
--- Modifiers, and sizes.
+-- The resolution of modifiers, and the sizes of types.
 use Rattle.std.specs.Prelude.{ℕ, ◌*◌, ◌^◌, zero, suc, List, Option, Some, None, Result, Ok, Err}
 use Rattle.std.specs.Prelude.{nat_lt, slice_get, if◌then◌else◌}
 use Rattle.ebpf_btf.specs.declared.error.BtfError.{BtfError}
@@ -11,7 +11,7 @@ use Rattle.ebpf_base.specs.Faults.{if_ok}
 use Rattle.ebpf_btf.specs.Next.{if_some}
 use Rattle.ebpf_btf.specs.Types.{size_word}
 
--- How many types a resolution looks at: the one that it starts from, and 32 that it follows to.
+-- The maximum number of types that a resolution reads: the first, and 32 that it follows to.
 abbrev pub looks : ℕ
 looks = 33
 
@@ -30,7 +30,7 @@ modifier_type_id (Restrict _ id) = Some id
 modifier_type_id (TypeTag _ id) = Some id
 modifier_type_id _ = None
 
--- the first type from an id on that stands for no other, where `left` types may be looked at
+-- the first type from an id on that is no modifier, where `left` types may be read
 unfoldable pub resolved_from : ℕ → List BtfType → ℕ → ℕ → Result ℕ BtfError
 resolved_from zero types start id = Err (MaximumTypeDepth start)
 resolved_from (suc left) types start id =
@@ -46,20 +46,20 @@ resolved_type types id = if_ok (resolved types id) (λ found. type_at types foun
 
 -- ---- sizes in bytes
 
--- the size that a type has of its own: 8 of a PTR, else the one that it states
+-- the size of a type without inner types: 8 for a PTR, else the size field
 unfoldable pub own_size : BtfType → Option ℕ
 own_size (Ptr _ _) = Some 8
 own_size t = size_word t
 
--- the id of the type that another is sized by: what it stands for, a variable's or function's type,
--- an element
+-- the id of the type that gives another its size: the modified type, the type of a variable or
+-- function, the elements of an array
 unfoldable pub sized_by : BtfType → Option ℕ
 sized_by (Var _ id _) = Some id
 sized_by (Func _ id) = Some id
 sized_by (Array _ id _ _) = Some id
 sized_by t = modifier_type_id t
 
--- how many of that type it has
+-- the number of elements of an array, 1 for other types
 unfoldable pub repeats : BtfType → ℕ
 repeats (Array _ _ _ n) = n
 repeats _ = 1
@@ -68,7 +68,7 @@ repeats _ = 1
 abbrev pub times : ℕ → ℕ → Result ℕ BtfError
 times m n = if nat_lt (m * n) (2 ^ 32) then Ok (m * n) else Err InvalidTypeInfo
 
--- the size of `count` of the types with an id, where `left` types may be looked at
+-- the size of `count` of the types with an id, where `left` types may be read
 unfoldable pub size_from : ℕ → List BtfType → ℕ → ℕ → ℕ → Result ℕ BtfError
 size_from zero types start count id = Err (MaximumTypeDepth start)
 size_from (suc left) types start count id =

@@ -1,4 +1,5 @@
--- Strings by their offsets (the kernel's Documentation/bpf/btf.rst, 2.1 "String Encoding").
+-- The strings by offset: a text is the bytes from an offset up to the next zero byte (the kernel's
+-- Documentation/bpf/btf.rst, 2.1 "String Encoding").
 use Rattle.std.specs.Prelude.{◌≡◌, ℕ, Bool, false, List, take, drop, Option, Some, None, Result, Ok}
 use Rattle.std.specs.Prelude.{Err, option_map, is_some, nat_lt, ◌==◌, ◌&&◌}
 use Rattle.std.specs.List.{position, position_from}
@@ -28,7 +29,7 @@ text_or_fault offset (Some bytes) = Ok (utf8_lossy bytes)
 unfoldable pub text_at : List ℕ → ℕ → Result (List ℕ) BtfError
 text_at strings offset = text_or_fault offset (before_zero (drop offset strings))
 
--- a text stands at each offset below a number, and at no other
+-- a text can be read at each offset below a number, and at no other
 abbrev pub AreReadableBelow : List ℕ → ℕ → Type 0
 AreReadableBelow strings n =
     (offset : ℕ) → is_some (before_zero (drop offset strings)) ≡ nat_lt offset n

@@ -1,4 +1,4 @@
--- What a `Btf` is: a list of types and their strings. All else is a function of these two.
+-- The model of a `Btf`: a list of types by id, and the bytes of the strings.
 use Rattle.std.specs.Prelude.{ℕ, ◌∷◌, [], List}
 use Rattle.ebpf_btf.specs.declared.types.BtfType.{BtfType}
 use Rattle.ebpf_btf.specs.declared.types.BtfType.TheVariants.{Unknown}

@@ -1,4 +1,5 @@
--- The words of types (the kernel's Documentation/bpf/btf.rst, 2.2 "Type Encoding").
+-- The kind, name, size and other fields of a type (the kernel's Documentation/bpf/btf.rst, 2.2
+-- "Type Encoding").
 use Rattle.std.specs.Prelude.{ℕ, ◌/◌, ◌%◌, ◌^◌, Bool, false, List, Option, Some, None, ◌==◌}
 use Rattle.std.specs.Prelude.{if◌then◌else◌}
 use Rattle.ebpf_btf.specs.declared.array.BtfArray.{BtfArray}
@@ -84,7 +85,7 @@ name_off (DeclTag name _ _) = name
 name_off (TypeTag name _) = name
 name_off (Enum64 name _ _ _) = name
 
--- the size in bytes that a type states
+-- the size field of a type, in bytes
 unfoldable pub size_word : BtfType → Option ℕ
 size_word (Int _ size _) = Some size
 size_word (Struct _ size _ _) = Some size
@@ -114,7 +115,7 @@ members_of (Struct _ _ _ members) = Some members
 members_of (Union _ _ _ members _) = Some members
 members_of _ = None
 
--- whether the offsets of members have sizes of bit fields in them
+-- whether the offset fields of members hold bit field sizes
 unfoldable pub has_bit_fields : BtfType → Bool
 has_bit_fields (Struct _ _ flag _) = flag
 has_bit_fields (Union _ _ flag _ _) = flag

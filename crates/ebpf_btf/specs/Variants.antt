@@ -1,6 +1,5 @@
--- The variants of enumerations in one form (the kernel's Documentation/bpf/btf.rst, 2.2.6
--- BTF_KIND_ENUM and 2.2.19
--- BTF_KIND_ENUM64). Values have 64 bits.
+-- The variants of enumerations, each a name and a value of 64 bits (the kernel's
+-- Documentation/bpf/btf.rst, 2.2.6 BTF_KIND_ENUM and 2.2.19 BTF_KIND_ENUM64).
 use Rattle.std.specs.Prelude.{ℕ, ◌+◌, ◌*◌, ◌-◌, ◌^◌, Bool, List, map, Option, Some, None, nat_le}
 use Rattle.std.specs.Prelude.{◌&&◌, if◌then◌else◌}
 use Rattle.ebpf_btf.specs.declared.members.BtfEnum.{BtfEnum}
@@ -10,22 +9,22 @@ use Rattle.ebpf_btf.specs.declared.types.BtfType.{BtfType}
 use Rattle.ebpf_btf.specs.declared.types.BtfType.TheVariants.{Enum, Enum64, Union}
 use Rattle.ebpf_btf.specs.declared.variants.BtfVariant.{BtfVariant}
 
--- 32 bits as 64: the high ones are those of the sign
+-- 32 bits as 64, sign-extended in a signed enumeration
 abbrev pub sign_extended : Bool → ℕ → ℕ
 sign_extended signed value =
     if signed && nat_le (2 ^ 31) value then value + (2 ^ 64 - 2 ^ 32) else value
 
--- of an ENUM
+-- the variant of an ENUM
 abbrev pub variant_of_32 : Bool → BtfEnum → BtfVariant
 variant_of_32 signed v =
     record { name_offset = v.name_offset; value = sign_extended signed v.value }
 
--- of an ENUM64: the two halves of the value
+-- the variant of an ENUM64, whose value has two halves
 abbrev pub variant_of_64 : BtfEnum64 → BtfVariant
 variant_of_64 v =
     record { name_offset = v.name_offset; value = v.value_high * 2 ^ 32 + v.value_low }
 
--- of an enumeration that was made a UNION
+-- the variant of an enumeration that a UNION replaces
 abbrev pub variant_of_fallback : Enum64VariantFallback → BtfVariant
 variant_of_fallback v = record { name_offset = v.name_offset; value = v.value }
 

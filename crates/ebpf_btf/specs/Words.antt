@@ -1,4 +1,4 @@
--- Types as words, in which they are written (the kernel's Documentation/bpf/btf.rst, 2.2 "Type
+-- The words of a type as `.BTF` writes it (the kernel's Documentation/bpf/btf.rst, 2.2 "Type
 -- Encoding").
 use Rattle.std.specs.Prelude.{ℕ, ◌+◌, ◌*◌, ◌^◌, Bool, false, List, [], ◌∷◌, length, drop, flat_map}
 use Rattle.std.specs.Prelude.{sum_by, Option, None, is_some, unwrap_or, nat_le, ◌==◌, if◌then◌else◌}
@@ -54,7 +54,7 @@ flag_of (Enum64 _ _ flag _) = flag
 flag_of (Fwd _ flag) = flag
 flag_of _ = false
 
--- how many members, variants, parameters or entries there are
+-- the number of members, variants, parameters or entries
 unfoldable pub count_of : BtfType → ℕ
 count_of (Struct _ _ _ members) = length members
 count_of (Union _ _ _ members _) = length members
@@ -68,7 +68,7 @@ count_of _ = 0
 abbrev pub info_word : ℕ → Bool → ℕ → ℕ
 info_word kind flag count = count + kind * 2 ^ 24 + (if flag then 2 ^ 31 else 0)
 
--- the size or the type; 0 of a type that has neither
+-- the size or the type field; 0 for a type that has neither
 abbrev pub third_of : BtfType → ℕ
 third_of t = unwrap_or (size_word t) (unwrap_or (type_word t) 0)
 
@@ -95,7 +95,7 @@ words_of t =
 
 -- ---- what can be added
 
--- how many bytes a type takes, and some types after void
+-- the number of bytes of a type, and of the types after void
 unfoldable pub type_length : BtfType → ℕ
 type_length t = 12 + 4 * further_words (kind_of t) (count_of t)
 
@@ -112,7 +112,7 @@ type_fault info t = first_of (
 
 -- ---- what can be written
 
--- the enumeration of 64 bits that a UNION was, which no bytes hold
+-- the enumeration of 64 bits that a UNION replaces, which no bytes hold
 unfoldable pub fallback_of : BtfType → Option Enum64Fallback
 fallback_of (Union _ _ _ _ fallback) = fallback
 fallback_of _ = None
@@ -120,7 +120,7 @@ fallback_of _ = None
 abbrev pub has_fallback : BtfType → Bool
 has_fallback t = is_some (fallback_of t)
 
--- No bytes hold what a UNION was, and the length of the strings has 32 bits.
+-- No bytes hold the enumeration that a UNION replaces, and the length of the strings has 32 bits.
 abbrev pub written_fault : TypeInfo → Option BtfError
 written_fault info =
     first_of

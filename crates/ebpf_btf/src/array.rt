@@ -10,14 +10,14 @@ use crate::types::BtfType;
 pub struct BtfArray {
     /// The id of the elements' type.
     pub element_type: u32,
-    /// The id of the type of its indices.
+    /// The id of the type of the indices.
     pub index_type: u32,
     /// The number of elements.
     pub len: u32,
 }
 
 impl<'a> BtfType<'a> {
-    /// The elements of an ARRAY; None of others.
+    /// Returns the elements of an ARRAY; none for other kinds.
     #[tactic(auto, unfolding(crate::specs::Types::array_of))]
     pub fn array(&self) -> Option<BtfArray>
         ensures { result ≡ array_of self.now }

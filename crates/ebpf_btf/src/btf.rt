@@ -1,4 +1,4 @@
-//! Types and their strings, as bytes.
+//! Type information: types and their strings, stored as bytes.
 
 ghost use Rattle.std.specs.Prelude.{◌≡◌, ◌==◌, ◌*◌, ◌<◌, ◌≤◌, ◌^◌, ◌∷◌, ◌++◌, ◌-◌, [], drop, length, slice_get, slice_index_or, IfOk, IfErr, OnOk, OnErr, Ok, Err, None, Some, option_map};
 ghost use Rattle.std.specs.List.{list_any};
@@ -37,10 +37,10 @@ use std::alloc::{AllocError, Global};
 use std::borrow::CowStr;
 use std::marker::Model;
 
-/// The length that the bytes of types stay below, and the strings where they are written.
+/// The limit of the length of the types and of written strings, in bytes: both are shorter.
 const LENGTH_LIMIT: usize = 0x1_0000_0000;
 
-/// The number that counts of members, variants, parameters and entries stay below.
+/// The limit of the counts of members, variants, parameters and entries: each is lower.
 const COUNT_LIMIT: usize = 0x1_0000;
 
 /// Types, by their ids, and the strings that have their names: the bytes of both, and the offset of each type.
@@ -49,14 +49,14 @@ const COUNT_LIMIT: usize = 0x1_0000;
 #[derive(Debug, Drop)]
 pub struct Btf {
     bytes: Vec<u8>,
-    /// The types stand in the bytes from here on.
+    /// The offset of the first type in the bytes.
     start: usize,
-    /// Where each type stands, counted from there, from id 1 on.
+    /// The offset of each type after the first type's, from id 1 on.
     offsets: Vec<u32>,
-    /// What stands beside the bytes of UNIONs, which no bytes hold.
+    /// The enumerations that UNIONs replace, which no bytes hold.
     fallbacks: Vec<OffsetFallback>,
     strings: Vec<u8>,
-    /// A text can be read at the offsets below, and at no others.
+    /// The offset below which a text can be read; at no other offset can one be read.
     readable: usize,
     order: Endianness,
 }
@@ -85,8 +85,12 @@ impl Model for Btf {
 }
 
 impl Btf {
-    /// Type information with `void` alone, whose strings are one zero byte: the empty name, at offset 0. Types are
-    /// added in little-endian words. `OutOfMemory` where memory is refused.
+    /// Returns type information with `void` alone and little-endian byte order. Its strings are one zero byte: the empty
+    /// name, at offset 0.
+    ///
+    /// # Errors
+    ///
+    /// - `OutOfMemory`: out of memory.
     #[tactic(auto, using(crate::proofs::Listed::holds_none, crate::proofs::Listed::none_here))]
     pub fn new(alloc: Global) -> Result<Btf, BtfError>
         ensures empty { IfOk result (λ b. b ≡ no_types) }
@@ -98,7 +102,7 @@ impl Btf {
         Ok(Btf::from_parts(Endianness::Little, none, 0, Vec::new(alloc), strings))
     }
 
-    /// The types that stand in bytes from an offset on, by their offsets, and their strings.
+    /// Returns the types in bytes from an offset on, by their offsets, and their strings.
     #[tactic(auto, using(crate::proofs::Beside::none_beside, crate::proofs::Held::held_alone))]
     pub(crate) fn from_parts(
         order: Endianness,
@@ -125,7 +129,7 @@ impl Btf {
         }
     }
 
-    /// How many types there are, with void.
+    /// Returns the number of types, `void` included.
     #[inline]
     #[tactic(auto, using(crate::proofs::Held::held_length))]
     pub fn len(&self) -> usize
@@ -135,14 +139,14 @@ impl Btf {
         1 + self.offsets.len()
     }
 
-    /// Whether there is no type, which never is: there is void.
+    /// Returns false: `void` is always there.
     pub fn is_empty(&self) -> bool
         ensures { result ≡ (length self.now.types == 0) }
     {
         self.len() == 0
     }
 
-    /// The type with an id from 0 on, which is `void`; None where there is none.
+    /// Returns the type with an id; none past the last id. Id 0 is `void`.
     #[inline]
     #[tactic(auto, using(crate::proofs::Held::held_first, crate::proofs::Held::held_some, crate::proofs::Held::held_none, crate::proofs::Listed::inside_at))]
     pub fn get(&self, id: usize) -> Option<BtfType<'_>>
@@ -159,7 +163,7 @@ impl Btf {
         Some(with_fallback(fallback_at(&self.fallbacks, offset), ty))
     }
 
-    /// The type with an id from 0 on where there is one.
+    /// Returns the type with an id below the number of types. Id 0 is `void`.
     #[inline]
     #[tactic(auto, using(crate::proofs::Listed::never_none, crate::proofs::InOrder::item_read))]
     pub fn at(&self, id: usize) -> BtfType<'_>
@@ -173,7 +177,7 @@ impl Btf {
         }
     }
 
-    /// The kind and the name of the type with an id from 0 on; None where there is none.
+    /// Returns the kind and the name offset of the type with an id; none past the last id. Id 0 is `void`.
     #[inline]
     #[tactic(auto, using(crate::proofs::Held::held_first, crate::proofs::Held::held_none, crate::proofs::Held::head_kind, crate::proofs::Held::head_name, crate::proofs::Listed::inside_at), unfolding(crate::specs::Types::kind_of, crate::specs::Types::name_off))]
     pub fn head(&self, id: usize) -> Option<TypeHead>
@@ -195,7 +199,7 @@ impl Btf {
         Some(head_here(self.order, behind(&self.bytes, self.start), offset))
     }
 
-    /// The types in order of their ids, from id 0 on, which is `void`.
+    /// Returns an iterator over the types, in order of their ids from 0 on. Id 0 is `void`.
     #[inline]
     pub fn types(&self) -> TypesIter<'_>
         ensures all { result ≡ self.now.types }
@@ -207,7 +211,11 @@ impl Btf {
         TypesIter::new(self)
     }
 
-    /// The type with an id. `UnknownBtfType` where there is none.
+    /// Returns the type with an id.
+    ///
+    /// # Errors
+    ///
+    /// - `UnknownBtfType`: no type has the id.
     pub fn type_by_id(&self, type_id: u32) -> Result<BtfType<'_>, BtfError>
         ensures found { result_ok result ≡ slice_get self.now.types type_id }
         ensures missing { IfErr result (λ e. e ≡ UnknownBtfType type_id) }
@@ -218,11 +226,15 @@ impl Btf {
         }
     }
 
-    /// The text at an offset of the strings, up to the next zero byte. As by `String::from_utf8_lossy`, each
-    /// sequence of bytes in it that is not UTF-8 is U+FFFD; only then is it a copy.
+    /// Returns the text at an offset of the strings, up to the next zero byte.
     ///
-    /// `InvalidStringOffset` where the offset is outside the strings or no zero byte follows; `OutOfMemory`
-    /// where memory for a copy is refused.
+    /// Each invalid UTF-8 sequence is U+FFFD, as by `String::from_utf8_lossy`. The text is a copy only where it has such a
+    /// sequence.
+    ///
+    /// # Errors
+    ///
+    /// - `InvalidStringOffset`: the offset is outside the strings, or no zero byte follows.
+    /// - `OutOfMemory`: out of memory for a copy.
     pub fn string_at(&self, offset: u32) -> Result<CowStr<'_, Global>, BtfError>
         ensures text { IfOk result (λ text.
             text_at self.now.strings offset ≡ Ok (cow_str_bytes text)) }
@@ -231,16 +243,18 @@ impl Btf {
         read_text(*self.strings.allocator(), &self.strings, offset)
     }
 
-    /// The bytes of the strings.
+    /// Returns the bytes of the strings.
     pub fn strings(&self) -> &[u8]
         ensures { result.now ≡ self.now.strings }
     {
         self.strings.as_slice()
     }
 
-    /// The bytes from an offset of the strings up to the next zero byte, as they stand.
+    /// Returns the bytes from an offset of the strings up to the next zero byte, without decoding.
     ///
-    /// `InvalidStringOffset` where the offset is outside the strings or no zero byte follows.
+    /// # Errors
+    ///
+    /// - `InvalidStringOffset`: the offset is outside the strings, or no zero byte follows.
     pub fn bytes_at(&self, offset: u32) -> Result<&[u8], BtfError>
         ensures text { IfOk result (λ bytes.
             text_at self.now.strings offset ≡ Ok (utf8_lossy bytes.now)) }
@@ -251,26 +265,26 @@ impl Btf {
         read_bytes(&self.strings, offset)
     }
 
-    /// The number of bytes of the strings.
+    /// Returns the length of the strings in bytes.
     pub fn string_len(&self) -> usize
         ensures { result ≡ length self.now.strings }
     {
         self.strings.len()
     }
 
-    /// A text can be read at the offsets below, and at no others.
+    /// Returns the offset below which a text can be read; at no other offset can one be read.
     pub(crate) fn readable(&self) -> usize
         ensures { AreReadableBelow self.now.strings result }
     {
         self.readable
     }
 
-    /// The memory that the types and strings lie in.
+    /// Returns the allocator of the types and strings.
     pub(crate) fn allocator(&self) -> Global {
         *self.strings.allocator()
     }
 
-    /// A copy of all types and strings.
+    /// Returns a copy of all types and strings.
     pub(crate) fn copy(&self) -> Result<Btf, AllocError>
         ensures { IfOk result (λ copy. copy ≡ self.now) }
     {
@@ -290,8 +304,15 @@ impl Btf {
         })
     }
 
-    /// Adds a type, and gives its id. `TooLarge` where no words hold it: void, more than 65,535 members, variants,
-    /// parameters or entries, or types of 2^32 bytes. `OutOfMemory` where memory is refused. Then nothing changes.
+    /// Adds a type and returns its id.
+    ///
+    /// # Errors
+    ///
+    /// - `TooLarge`: the type is `void`, has more than 65,535 members, variants, parameters or entries, or extends the types
+    ///   to 2^32 bytes.
+    /// - `OutOfMemory`: out of memory.
+    ///
+    /// On error nothing changes.
     #[tactic(auto, using(crate::proofs::Held::held_with_one, crate::proofs::Held::held_length))]
     pub fn add_type(&mut self, ty: &BtfType<'_>) -> Result<u32, BtfError>
         ensures id { IfOk result (λ id. id ≡ length self.old.types) }
@@ -319,8 +340,14 @@ impl Btf {
         Ok(id as u32)
     }
 
-    /// Adds a text and a zero byte to the strings, and gives the text's offset. `TooLarge` where the offset is
-    /// past 32 bits, `OutOfMemory` where memory is refused; then nothing changes.
+    /// Adds a text and a zero byte to the strings and returns the text's offset.
+    ///
+    /// # Errors
+    ///
+    /// - `TooLarge`: the offset needs more than 32 bits.
+    /// - `OutOfMemory`: out of memory.
+    ///
+    /// On error nothing changes.
     pub fn add_string(&mut self, text: &str) -> Result<u32, BtfError>
         ensures offset { IfOk result (λ offset. offset ≡ length self.old.strings) }
         ensures added { OnOk result (self.new ≡ with_string self.old text.now) }
@@ -335,8 +362,8 @@ impl Btf {
         Ok(offset)
     }
 
-    /// Takes back what was added: the first types stay, `void` among them, and the first bytes of the strings, so
-    /// many of each. Where there are no more all stay. No memory is taken.
+    /// Keeps the first `types` types, `void` included, and the first `strings` bytes of the strings, and removes the rest. A
+    /// number past the end keeps all. The call allocates nothing.
     #[tactic(auto, using(crate::proofs::Held::first_all, crate::proofs::Held::first_some, crate::proofs::Held::held_front, crate::proofs::Tiles::holds_front))]
     pub fn truncate(&mut self, types: usize, strings: usize)
         requires { 0 < types }
@@ -352,7 +379,7 @@ impl Btf {
         cut_fallbacks(&mut self.fallbacks, offset);
     }
 
-    /// Whether a UNION stands here that was an enumeration of 64 bits.
+    /// Returns whether a UNION replaces a 64-bit enumeration.
     #[tactic(auto, using(crate::proofs::Held::none_has, crate::proofs::InOrder::any_here, crate::proofs::InOrder::any_past, crate::proofs::InOrder::any_over))]
     fn has_fallback(&self) -> bool
         ensures { result ≡ list_any has_fallback self.now.types }
@@ -368,11 +395,12 @@ impl Btf {
         false
     }
 
-    /// `.BTF` of the types and strings, in the byte order that they are held in, which its magic tells: that of the
-    /// file that they were read from, little-endian of `new`.
+    /// Returns `.BTF` of the types and strings, in the byte order of the file that was read; little-endian after `new`.
     ///
-    /// `TooLarge` where a UNION was an enumeration, which no file holds, or the strings take 2^32 bytes;
-    /// `OutOfMemory` where memory is refused.
+    /// # Errors
+    ///
+    /// - `TooLarge`: a UNION replaces a 64-bit enumeration, which no file holds, or the strings have 2^32 bytes or more.
+    /// - `OutOfMemory`: out of memory.
     #[tactic(auto, using(crate::proofs::Header::header_again, crate::proofs::Header::order_is, crate::proofs::Held::held_plain))]
     pub fn to_bytes(&self, alloc: Global) -> Result<Vec<u8>, BtfError>
         ensures again { IfOk result (λ bytes.
@@ -396,7 +424,7 @@ impl Clone for Btf {
     }
 }
 
-/// A copy of what stands beside the bytes.
+/// Returns a copy of the fallbacks.
 #[tactic(auto, using(crate::proofs::Copies::same_list))]
 fn copy_fallbacks(fallbacks: &Vec<OffsetFallback>) -> Result<Vec<OffsetFallback>, AllocError>
     ensures { IfOk result (λ copy. copy.items ≡ fallbacks.now.items) }
@@ -404,7 +432,7 @@ fn copy_fallbacks(fallbacks: &Vec<OffsetFallback>) -> Result<Vec<OffsetFallback>
     fallbacks.clone()
 }
 
-/// Appends bytes, an offset, and what stands beside. After a refusal nothing has changed.
+/// Appends bytes, an offset and a fallback. On error nothing changes.
 fn append(
     bytes: &mut Vec<u8>,
     offsets: &mut Vec<u32>,
@@ -434,7 +462,7 @@ fn append(
     Ok(())
 }
 
-/// The bytes from an offset on.
+/// Returns the bytes from an offset on.
 #[inline]
 pub(crate) fn behind(bytes: &[u8], start: usize) -> &[u8]
     requires { start ≤ length bytes.now }
@@ -443,7 +471,7 @@ pub(crate) fn behind(bytes: &[u8], start: usize) -> &[u8]
     &bytes[start..]
 }
 
-/// The offset at an index.
+/// Returns the offset at an index.
 #[inline]
 fn offset_at(offsets: &[u32], index: usize) -> Option<u32>
     ensures { result ≡ slice_get offsets.now index }
@@ -451,7 +479,7 @@ fn offset_at(offsets: &[u32], index: usize) -> Option<u32>
     offsets.get(index).copied()
 }
 
-/// Appends a text and a zero byte. After a refusal nothing has changed.
+/// Appends a text and a zero byte. On error nothing changes.
 fn append_text(strings: &mut Vec<u8>, text: &str) -> Result<(), AllocError>
     ensures ok { OnOk result (strings.new.items ≡ strings.old.items ++ text.now ++ 0 ∷ []) }
     ensures err { OnErr result (strings.new.items ≡ strings.old.items) }

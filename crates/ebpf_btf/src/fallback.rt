@@ -1,4 +1,4 @@
-//! The signedness and the variants of an enumeration of 64 bits that was made a UNION.
+//! The signedness and the variants of a 64-bit enumeration that a UNION replaces.
 
 ghost use Rattle.std.specs.Prelude.{◌≡◌, ◌<◌, ◌++◌, OnOk, OnErr, nat_lt};
 ghost use Rattle.std.specs.List.{filter};
@@ -13,7 +13,7 @@ use std::alloc::AllocError;
 use std::fmt;
 use std::marker::Model;
 
-/// The signedness and the variants of an enumeration of 64 bits that was made a UNION for an older kernel.
+/// The signedness and the variants of a 64-bit enumeration that a UNION replaces for an older kernel.
 #[derive(Debug, Drop)]
 pub struct Enum64Fallback {
     /// Whether the values are signed.
@@ -34,7 +34,7 @@ impl Clone for Enum64Fallback {
     }
 }
 
-/// What a UNION holds of the enumeration of 64 bits that it was, if it was one, lent. Contracts see the option alone.
+/// The 64-bit enumeration that a UNION replaces, borrowed; none for other UNIONs. Contracts see the option alone.
 #[derive(Drop)]
 pub struct UnionFallback<'a> {
     contents: Option<&'a Enum64Fallback>,
@@ -51,14 +51,14 @@ impl<'a> Model for UnionFallback<'a> {
 }
 
 impl<'a> UnionFallback<'a> {
-    /// What a UNION holds.
+    /// Returns the fallback of a UNION with these contents.
     pub fn new(contents: Option<&'a Enum64Fallback>) -> UnionFallback<'a>
         ensures { result ≡ option_copied contents.entry }
     {
         UnionFallback { contents }
     }
 
-    /// The fallback; None of a UNION that was no enumeration.
+    /// Returns the enumeration that the UNION replaces; none for a UNION that replaces none.
     pub fn get(&self) -> Option<&'a Enum64Fallback>
         ensures { option_copied result ≡ self.now }
     {
@@ -72,12 +72,12 @@ impl<'a> fmt::Debug for UnionFallback<'a> {
     }
 }
 
-/// What stands beside the bytes of the UNION at an offset.
+/// The enumeration that the UNION at an offset replaces, which no bytes of `.BTF` hold.
 #[derive(Debug, Drop)]
 pub struct OffsetFallback {
-    /// Where the UNION stands.
+    /// The offset of the UNION in the types, in bytes.
     pub offset: u32,
-    /// The enumeration that it was.
+    /// The enumeration that the UNION replaces.
     pub fallback: Enum64Fallback,
 }
 
@@ -92,7 +92,7 @@ impl Clone for OffsetFallback {
     }
 }
 
-/// What stands beside the bytes at an offset.
+/// Returns the enumeration that the UNION at an offset replaces; none for other types.
 #[tactic(auto, unfolding(crate::specs::Offsets::fallback_at))]
 pub fn fallback_at(fallbacks: &[OffsetFallback], offset: u32) -> Option<&Enum64Fallback>
     ensures { option_copied result ≡ fallback_at fallbacks.now offset }
@@ -103,7 +103,7 @@ pub fn fallback_at(fallbacks: &[OffsetFallback], offset: u32) -> Option<&Enum64F
     }
 }
 
-/// A type, and what it was if it is a UNION.
+/// Returns a type, with the enumeration that it replaces where it is a UNION.
 #[tactic(auto, unfolding(crate::specs::Offsets::with_fallback))]
 pub fn with_fallback<'a>(fallback: Option<&'a Enum64Fallback>, ty: BtfType<'a>) -> BtfType<'a>
     ensures { result ≡ with_fallback (option_copied fallback.entry) ty.entry }
@@ -129,7 +129,7 @@ pub fn with_fallback<'a>(fallback: Option<&'a Enum64Fallback>, ty: BtfType<'a>) 
     }
 }
 
-/// What a type was if it is a UNION that was an enumeration.
+/// Returns the enumeration that a UNION replaces; none for other types.
 #[tactic(auto, unfolding(crate::specs::Words::fallback_of))]
 pub fn fallback_of<'a>(ty: &BtfType<'a>) -> Option<&'a Enum64Fallback>
     ensures { option_copied result ≡ fallback_of ty.now }
@@ -143,7 +143,11 @@ pub fn fallback_of<'a>(ty: &BtfType<'a>) -> Option<&'a Enum64Fallback>
     }
 }
 
-/// Adds a copy of what a type was. After a refusal nothing has changed.
+/// Adds a copy of the enumeration that the type at an offset replaces.
+///
+/// # Errors
+///
+/// - `AllocError`: out of memory; the list is unchanged.
 pub fn add_fallback(
     fallbacks: &mut Vec<OffsetFallback>,
     offset: u32,
@@ -166,7 +170,7 @@ pub fn add_fallback(
     Ok(())
 }
 
-/// Takes away what stands at an offset or behind it.
+/// Removes the fallbacks of types at an offset or after it.
 pub fn cut_fallbacks(fallbacks: &mut Vec<OffsetFallback>, end: u32)
     ensures { fallbacks.new.items ≡ filter (λ f. nat_lt f.offset end) fallbacks.old.items }
 {

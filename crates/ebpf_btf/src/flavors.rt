@@ -4,7 +4,7 @@ ghost use Rattle.std.specs.Prelude.{◌≡◌, ◌≤◌, length, drop, nat_eq, 
 ghost use Rattle.std.specs.List.{starts_with};
 ghost use Rattle.ebpf_btf.specs.EssentialNames.{essential_name, flavor_mark, flavor_start};
 
-/// Whether three underscores stand at an index.
+/// Returns whether three underscores begin at an index.
 fn is_flavor_at(name: &[u8], index: usize) -> bool
     requires { index ≤ length name.now }
     ensures { result ≡ starts_with nat_eq (drop index name.now) flavor_mark }
@@ -12,8 +12,8 @@ fn is_flavor_at(name: &[u8], index: usize) -> bool
     name[index..].starts_with(b"___")
 }
 
-/// Where the first three underscores in a row begin. Where the last of three bytes is no underscore none begin at any
-/// of the three, so two of three bytes are not looked at.
+/// Returns the index of the first three underscores in a row. Where the last of three bytes is no underscore, none begin at
+/// any of the three, so that two of three bytes need no look.
 fn flavor_start(name: &[u8]) -> Option<usize>
     ensures first { result ≡ flavor_start name.now }
     ensures inside { IfSome result (λ index. index ≤ length name.now) }
@@ -32,14 +32,15 @@ fn flavor_start(name: &[u8]) -> Option<usize>
     None
 }
 
-/// Whether a name has three underscores in a row.
+/// Returns whether a name has three underscores in a row.
 pub fn has_flavor(name: &[u8]) -> bool
     ensures { result ≡ is_some (flavor_start name.now) }
 {
     flavor_start(name).is_some()
 }
 
-/// What stands before the first three underscores in a row, or the whole name.
+/// Returns the part of a name before its first three underscores in a row; the whole name without them (the kernel's
+/// tools/lib/bpf/relo_core.h, `bpf_core_essential_name_len`).
 #[tactic(auto, unfolding(crate::specs::EssentialNames::essential_name))]
 pub fn essential_name(name: &[u8]) -> &[u8]
     ensures { result.now ≡ essential_name name.now }

@@ -1,9 +1,9 @@
-//! What holds of types.
+//! Laws about types.
 
 ghost use Rattle.ebpf_btf.specs.Format.{KindsByNumber, NumbersOfKinds};
 
-/// The table of kinds by their numbers and that of numbers by their kinds are one, `void` aside, as they stand in
-/// info words.
+/// Proves that the table of kinds by number and the table of numbers by kind agree, except for `void`. The numbers are those
+/// in info words.
 pub fn kinds_have_numbers()
     ensures kinds { KindsByNumber }
     ensures numbers { NumbersOfKinds }

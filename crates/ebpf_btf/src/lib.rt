@@ -1,4 +1,5 @@
-//! `.BTF` of an eBPF object file or a kernel: types and their strings.
+//! Reads, changes and writes `.BTF` of an eBPF object or a kernel: types and their strings (the kernel's
+//! Documentation/bpf/btf.rst).
 #![tactic(auto)]
 
 mod array;

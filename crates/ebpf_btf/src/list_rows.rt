@@ -1,4 +1,4 @@
-//! The rows of a type, lent as the list that they are.
+//! The rows of a type, borrowed as a list.
 
 ghost use Rattle.std.specs.Prelude.{◌≡◌, ◌+◌, ◌*◌, ◌<◌, ◌≤◌, ◌^◌, ◌==◌, ◌++◌, ℕ, List, length, slice_get, slice_index_or, OnOk, Some};
 ghost use Rattle.std.specs.Iterator.{YieldsFirst, item_count};
@@ -10,34 +10,38 @@ use std::alloc::AllocError;
 use std::fmt;
 use std::marker::Model;
 
-/// A member, variant, parameter or entry, as words of bytes.
+/// A member, variant, parameter or entry, which the words of a row hold.
 pub trait ListRow {
-    /// The number of bytes that a row has.
+    /// The size of a row in bytes.
     ghost SIZE: { ℕ };
 
     const SIZE: usize;
 
-    /// What the bytes from an offset on spell.
+    /// The value in the bytes from an offset on.
     ghost row_at: { Endianness → List ℕ → ℕ → Self };
 
-    /// The words that the row is written in.
+    /// The words of the row.
     ghost words: { Self → List ℕ };
 
-    /// What is read of the row at an offset.
+    /// Returns the value of the row at an offset.
     fn read(order: Endianness, bytes: &[u8], offset: usize) -> Self
         requires { offset + SIZE ≤ length bytes.now }
         ensures { result ≡ row_at order bytes.now offset };
 
-    /// The row once more.
+    /// Returns a copy of the row.
     fn duplicate(&self) -> Self
         ensures { result ≡ self.now };
 
     /// Appends the words of the row.
+    ///
+    /// # Errors
+    ///
+    /// - `AllocError`: out of memory.
     fn append_words(&self, out: &mut Vec<u32>) -> Result<(), AllocError>
         ensures { OnOk result (out.new.items ≡ out.old.items ++ words self.now) };
 }
 
-/// The rows of a type: those that bytes spell, or one's own, lent. Contracts see the list.
+/// The rows of a type, borrowed from the bytes of `.BTF` or from a slice of rows. Contracts see the list.
 #[derive(Drop)]
 pub struct Rows<'a, R: ListRow> {
     bytes: &'a [u8],
@@ -62,7 +66,7 @@ impl<'a, R: ListRow> Model for Rows<'a, R> {
 }
 
 impl<'a, R: ListRow> Rows<'a, R> {
-    /// The rows that bytes have from an offset on, so many.
+    /// Returns the `count` rows in the bytes from an offset on.
     #[inline]
     pub(crate) fn over(order: Endianness, bytes: &'a [u8], offset: u32, count: u32) -> Self
         requires { offset + R.SIZE * count ≤ length bytes.now }
@@ -77,7 +81,7 @@ impl<'a, R: ListRow> Rows<'a, R> {
         }
     }
 
-    /// One's own rows.
+    /// Returns the rows of a slice.
     pub fn of(rows: &'a [R]) -> Rows<'a, R>
         ensures { result ≡ rows.now }
     {
@@ -90,7 +94,7 @@ impl<'a, R: ListRow> Rows<'a, R> {
         }
     }
 
-    /// The same rows, lent again.
+    /// Returns the same rows, borrowed again.
     #[inline]
     pub fn copy(&self) -> Rows<'a, R>
         ensures { result ≡ self.now }
@@ -104,7 +108,7 @@ impl<'a, R: ListRow> Rows<'a, R> {
         }
     }
 
-    /// How many they are.
+    /// Returns the number of rows.
     #[inline]
     #[tactic(auto, using(crate::proofs::InOrder::items_length))]
     pub fn len(&self) -> usize
@@ -116,7 +120,7 @@ impl<'a, R: ListRow> Rows<'a, R> {
         }
     }
 
-    /// Whether there are none.
+    /// Returns whether there are no rows.
     #[inline]
     pub fn is_empty(&self) -> bool
         ensures { result ≡ (length self.now == 0) }
@@ -124,7 +128,7 @@ impl<'a, R: ListRow> Rows<'a, R> {
         self.len() == 0
     }
 
-    /// The rows in order.
+    /// Returns an iterator over the rows, in order.
     #[inline]
     #[tactic(auto, using(crate::proofs::InOrder::items_length))]
     pub fn iter(&self) -> RowsIter<'a, R>
@@ -138,7 +142,7 @@ impl<'a, R: ListRow> Rows<'a, R> {
         }
     }
 
-    /// The row with an index, from 0 on.
+    /// Returns the row with an index, from 0 on. The index is below the number of rows.
     #[inline]
     #[tactic(auto, using(crate::proofs::InOrder::item_some, crate::proofs::InOrder::item_read, crate::proofs::InOrder::items_length, crate::proofs::InOrder::record_inside))]
     pub fn at(&self, index: usize) -> R
@@ -153,7 +157,7 @@ impl<'a, R: ListRow> Rows<'a, R> {
         R::read(self.order, self.bytes, offset)
     }
 
-    /// The row with an index, from 0 on; `None` past the last.
+    /// Returns the row with an index, from 0 on; `None` past the last.
     #[inline]
     #[tactic(auto, using(crate::proofs::InOrder::item_some, crate::proofs::InOrder::item_none, crate::proofs::InOrder::record_inside))]
     pub fn get(&self, index: usize) -> Option<R>
@@ -172,7 +176,7 @@ impl<'a, R: ListRow + fmt::Debug + Drop> fmt::Debug for Rows<'a, R> {
     }
 }
 
-/// The rows in order. Contracts see those that are left.
+/// An iterator over the rows of a type, in order. Contracts see the list of the rows left.
 #[derive(Drop)]
 pub struct RowsIter<'a, R: ListRow> {
     rows: Rows<'a, R>,

@@ -8,11 +8,11 @@ ghost use Rattle.ebpf_btf.specs.EssentialNames.{essential_name};
 
 use crate::flavors::{essential_name, has_flavor};
 
-/// U+FFFD, which is read for a wrong sequence of bytes.
+/// U+FFFD in UTF-8, the replacement of an invalid UTF-8 sequence.
 const REPLACEMENT: [u8; 3] = [0xef, 0xbf, 0xbd];
 
-/// The text at the front of some bytes, and what follows the wrong sequence that ends it. Without a wrong sequence
-/// all is text.
+/// Returns the text at the front of some bytes, and the bytes after the invalid UTF-8 sequence that ends it; all bytes and
+/// `None` where no sequence is invalid.
 #[tactic(auto, using(crate::proofs::LossyTexts::lossy_text, crate::proofs::LossyTexts::lossy_split))]
 fn split_wrong(bytes: &[u8]) -> (&[u8], Option<&[u8]>)
     ensures text { IfNone result.1 (utf8_lossy bytes.now ≡ result.0.now) }
@@ -30,7 +30,7 @@ fn split_wrong(bytes: &[u8]) -> (&[u8], Option<&[u8]>)
     }
 }
 
-/// What follows a text and U+FFFD.
+/// Returns the bytes of a name after a text and U+FFFD; `None` where the name begins otherwise.
 fn after_wrong<'a>(name: &'a [u8], text: &[u8]) -> Option<&'a [u8]>
     ensures { (rest : List ℕ)
         → bytes_eq (text.now ++ (replacement_bytes ++ rest)) name.now
@@ -42,7 +42,7 @@ fn after_wrong<'a>(name: &'a [u8], text: &[u8]) -> Option<&'a [u8]>
     }
 }
 
-/// Whether bytes read as a text.
+/// Returns whether the text of some bytes, with U+FFFD for each invalid UTF-8 sequence, is this text.
 pub fn reads_as(bytes: &[u8], text: &[u8]) -> bool
     ensures { result ≡ bytes_eq (utf8_lossy bytes.now) text.now }
 {
@@ -61,7 +61,8 @@ pub fn reads_as(bytes: &[u8], text: &[u8]) -> bool
     }
 }
 
-/// Whether bytes read as a text that is a name before its first three underscores.
+/// Returns whether the text of some bytes, up to its first three underscores, is this name. Each invalid UTF-8 sequence is
+/// U+FFFD.
 pub fn reads_essentially_as(bytes: &[u8], name: &[u8]) -> bool
     ensures { result ≡ bytes_eq (essential_name (utf8_lossy bytes.now)) name.now }
 {

@@ -1,4 +1,4 @@
-//! What stands in the lists of types.
+//! The members, variants, parameters and entries of types.
 
 ghost use Rattle.ebpf_btf.specs.Format.{member_at, enum_at, enum64_at, param_at, entry_at};
 ghost use Rattle.ebpf_btf.specs.Words.{member_words, enum_words, enum64_words, param_words, entry_words};
@@ -11,7 +11,7 @@ use std::alloc::AllocError;
 /// A member of a STRUCT or UNION (`struct btf_member`).
 #[derive(Clone, Copy, Debug, PartialEq, Eq)]
 pub struct BtfMember {
-    /// The offset of the member's name in the strings; 0 where it has none.
+    /// The offset of the member's name in the strings; 0 for a member without a name.
     pub name_offset: u32,
     /// The id of the member's type.
     pub btf_type: u32,
@@ -25,7 +25,7 @@ pub struct BtfMember {
 pub struct BtfEnum {
     /// The offset of the variant's name in the strings.
     pub name_offset: u32,
-    /// The value; of a signed ENUM its bits.
+    /// The 32 bits of the value, two's complement in a signed ENUM.
     pub value: u32,
 }
 
@@ -43,7 +43,7 @@ pub struct BtfEnum64 {
 /// A parameter of a FUNC_PROTO (`struct btf_param`).
 #[derive(Clone, Copy, Debug, PartialEq, Eq)]
 pub struct BtfParam {
-    /// The offset of the parameter's name in the strings; 0 where it has none.
+    /// The offset of the parameter's name in the strings; 0 for a parameter without a name.
     pub name_offset: u32,
     /// The id of the parameter's type.
     pub btf_type: u32,
@@ -54,18 +54,18 @@ pub struct BtfParam {
 pub struct DataSecEntry {
     /// The id of the variable's type.
     pub btf_type: u32,
-    /// The offset in the section, in bytes.
+    /// The offset of the variable in the section, in bytes.
     pub offset: u32,
-    /// The size in bytes.
+    /// The size of the variable in bytes.
     pub size: u32,
 }
 
-/// A variant of an enumeration of 64 bits that was made a UNION.
+/// A variant of a 64-bit enumeration that a UNION replaces.
 #[derive(Clone, Copy, Debug, PartialEq, Eq)]
 pub struct Enum64VariantFallback {
     /// The offset of the variant's name in the strings.
     pub name_offset: u32,
-    /// The value; of a signed enumeration its bits.
+    /// The 64 bits of the value, two's complement in a signed enumeration.
     pub value: u64,
 }
 

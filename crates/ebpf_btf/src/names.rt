@@ -20,7 +20,7 @@ use ebpf_base::Text;
 use std::alloc::Global;
 use std::borrow::CowStr;
 
-/// Whether a type is of a kind.
+/// Returns whether a type is of a kind.
 #[tactic(auto, unfolding(crate::specs::Types::kind_number))]
 fn is_kind(ty: &BtfType<'_>, kind: BtfKind) -> bool
     ensures { result ≡ is_kind kind ty.now }
@@ -29,9 +29,12 @@ fn is_kind(ty: &BtfType<'_>, kind: BtfKind) -> bool
 }
 
 impl Btf {
-    /// The name of a type, as `string_at` gives it: the empty text where it has none.
+    /// Returns the name of a type, as `string_at` does; the empty text for a type without a name.
     ///
-    /// `InvalidStringOffset` where the name can't be read, `OutOfMemory` as in `string_at`.
+    /// # Errors
+    ///
+    /// - `InvalidStringOffset`: the name's offset is outside the strings, or no zero byte follows.
+    /// - `OutOfMemory`: out of memory for a copy.
     pub fn type_name(&self, ty: &BtfType<'_>) -> Result<CowStr<'_, Global>, BtfError>
         ensures name { IfOk result (λ name. type_name self.now ty.now ≡ Ok (cow_str_bytes name)) }
         ensures fault { Refuses is_btf_memory result (fault_of (type_name self.now ty.now)) }
@@ -39,10 +42,13 @@ impl Btf {
         self.string_at(ty.name_offset())
     }
 
-    /// Whether the text at an offset of the strings, as `string_at` gives it, is this one. No memory is taken, and
-    /// at most as many bytes are looked at as the text has, and one.
+    /// Returns whether the text at an offset of the strings, as `string_at` returns it, is this text.
     ///
-    /// `InvalidStringOffset` where the offset is outside the strings or no zero byte follows.
+    /// The call allocates nothing, and compares at most one byte more than `text` has.
+    ///
+    /// # Errors
+    ///
+    /// - `InvalidStringOffset`: the offset is outside the strings, or no zero byte follows.
     pub fn is_name_at(&self, offset: u32, text: &str) -> Result<bool, BtfError>
         ensures { result ≡ is_name_at self.now.strings offset text.now }
     {
@@ -53,10 +59,12 @@ impl Btf {
         Ok(is_text_at(self.strings(), offset, text))
     }
 
-    /// Whether the text at an offset of the strings, as `string_at` gives it, is this one, both taken before their
-    /// first three underscores. No memory is taken.
+    /// Returns whether the text at an offset of the strings and this text have the same essential name: the text before the
+    /// first three underscores. The call allocates nothing.
     ///
-    /// `InvalidStringOffset` where the offset is outside the strings or no zero byte follows.
+    /// # Errors
+    ///
+    /// - `InvalidStringOffset`: the offset is outside the strings, or no zero byte follows.
     pub fn is_essential_name_at(&self, offset: u32, text: &str) -> Result<bool, BtfError>
         ensures { result ≡ is_essential_name_at self.now.strings offset text.now }
     {
@@ -66,7 +74,7 @@ impl Btf {
         }
     }
 
-    /// A copy of a type's name, for errors. None where it can't be read, or where memory is refused.
+    /// Returns a copy of a type's name, for an error; none where the name cannot be read or memory is out.
     pub fn err_type_name(&self, ty: &BtfType<'_>) -> Option<Text>
         ensures { IfSome result (λ name. type_name self.now ty.now ≡ Ok name) }
     {
@@ -76,7 +84,7 @@ impl Btf {
         Text::from_str(self.allocator(), name.as_str()).ok()
     }
 
-    /// The lowest id of a kind and name.
+    /// Returns the lowest id of a type with this kind and name.
     fn find_named(&self, name: &str, kind: BtfKind) -> Option<u32>
         ensures { result ≡ id_of_name self.now name.now kind }
     {
@@ -89,10 +97,14 @@ impl Btf {
         None
     }
 
-    /// The lowest id of a type with this kind and name. A name that can't be read is no name. Of each name of the
-    /// kind at most as many bytes are looked at as this one has, and one; none is copied.
+    /// Returns the lowest id of a type with this kind and name. A type whose name cannot be read does not match.
     ///
-    /// `UnknownBtfTypeName` where there is none, `OutOfMemory` where memory is refused.
+    /// The search copies no name, and compares at most one byte more of each name than `name` has.
+    ///
+    /// # Errors
+    ///
+    /// - `UnknownBtfTypeName`: no type of this kind has the name.
+    /// - `OutOfMemory`: out of memory for the error's copy of the name.
     pub fn id_by_type_name_kind(&self, name: &str, kind: BtfKind) -> Result<u32, BtfError>
         ensures { Gives is_btf_memory result
             (ok_or (id_of_name self.now name.now kind) (UnknownBtfTypeName name.now)) }

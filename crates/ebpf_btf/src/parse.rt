@@ -1,4 +1,4 @@
-//! `.BTF`, read.
+//! Reads `.BTF` (the kernel's Documentation/bpf/btf.rst, 2. "BTF Type and String Encoding").
 
 ghost use Rattle.std.specs.Prelude.{◌≡◌, ◌+◌, ◌*◌, ◌-◌, ◌<◌, ◌≤◌, ◌^◌, length, IfOk, Ok, Some};
 ghost use Rattle.std.specs.Option.{ok_or};
@@ -16,16 +16,16 @@ use ebpf_base::Endianness;
 use ebpf_base::numbers::{read_u16, read_u32};
 use std::alloc::Global;
 
-/// What `.BTF` begins with.
+/// The magic of `.BTF`, its first two bytes (BTF_MAGIC).
 const MAGIC: u16 = 0xeb9f;
 
-/// The least length of the header in bytes.
+/// The minimum length of the header in bytes.
 const HEADER_LENGTH: usize = 24;
 
-/// About how many bytes a type has, for a guess at how many types there are.
+/// The usual length of a type in bytes, for an estimate of the number of types.
 const USUAL_LENGTH: usize = 24;
 
-/// Where the two parts stand.
+/// The ranges of the types and of the strings in the bytes.
 #[derive(Clone, Copy)]
 struct PartRanges {
     types_start: usize,
@@ -34,7 +34,7 @@ struct PartRanges {
     strings_end: usize,
 }
 
-/// Where the two parts stand, which are inside the bytes.
+/// Returns the ranges of the types and of the strings, which are inside the bytes.
 #[tactic(auto, unfolding(crate::specs::Reading::header_fault, crate::specs::Reading::header_length, crate::specs::Reading::magic, crate::specs::Reading::types_start, crate::specs::Reading::types_end, crate::specs::Reading::strings_start, crate::specs::Reading::strings_end))]
 fn read_header(order: Endianness, bytes: &[u8]) -> Result<PartRanges, BtfError>
     ensures fault { fault_of result ≡ header_fault order bytes.now }
@@ -72,8 +72,12 @@ fn read_header(order: Endianness, bytes: &[u8]) -> Result<PartRanges, BtfError>
     })
 }
 
-/// Where the types of a part stand, one after the other up to its end. `InvalidTypeInfo` where one goes past the end
-/// or has no known kind.
+/// Returns the offsets of the types of a part, one after the other up to the end of the part.
+///
+/// # Errors
+///
+/// - `InvalidTypeInfo`: a type runs past the end of the part, or has an unknown kind.
+/// - `OutOfMemory`: out of memory.
 fn read_offsets(alloc: Global, order: Endianness, part: &[u8]) -> Result<Vec<u32>, BtfError>
     requires small { length part.now < 2 ^ 32 }
     ensures found { IfOk result (λ offsets.
@@ -95,7 +99,7 @@ fn read_offsets(alloc: Global, order: Endianness, part: &[u8]) -> Result<Vec<u32
     Ok(offsets)
 }
 
-/// The two parts, copied.
+/// Returns the type information of some bytes, with a copy of the types and the strings.
 #[tactic(auto, unfolding(crate::specs::Reading::type_info_of, crate::specs::Reading::types_part, crate::specs::Reading::strings_in))]
 fn copy_parts(alloc: Global, order: Endianness, data: &[u8]) -> Result<Btf, BtfError>
     ensures { Gives is_btf_memory result (type_info_of order «data».now) }
@@ -108,7 +112,7 @@ fn copy_parts(alloc: Global, order: Endianness, data: &[u8]) -> Result<Btf, BtfE
     Ok(Btf::from_parts(order, bytes, 0, offsets, strings))
 }
 
-/// The two parts, of which the strings alone are copied.
+/// Returns the type information of some bytes, which it keeps; it copies the strings alone.
 #[tactic(auto, unfolding(crate::specs::Reading::type_info_of, crate::specs::Reading::types_part, crate::specs::Reading::strings_in), using(crate::proofs::Cut::part_is))]
 fn take_parts(order: Endianness, data: Vec<u8>) -> Result<Btf, BtfError>
     ensures { Gives is_btf_memory result (type_info_of order «data».items) }
@@ -123,12 +127,15 @@ fn take_parts(order: Endianness, data: Vec<u8>) -> Result<Btf, BtfError>
 }
 
 impl Btf {
-    /// The types and strings of `.BTF`, copied. Numbers are read in the order that is given; version and flags of the
-    /// header are not looked at.
+    /// Reads `.BTF`, and copies its types and strings. Numbers are read in the given byte order; version and flags of the
+    /// header are ignored.
     ///
-    /// `InvalidHeader`: fewer than 24 bytes, another magic than 0xeb9f, a header length below 24, or a part that
-    /// goes past the end of the bytes. `InvalidTypeInfo`: a type that is cut by the end of its part, of kind 0 or
-    /// of a kind past 19. `OutOfMemory` where memory is refused.
+    /// # Errors
+    ///
+    /// - `InvalidHeader`: the bytes are fewer than 24, the magic is not 0xeb9f, the header length is below 24, or a part runs
+    ///   past the end of the bytes.
+    /// - `InvalidTypeInfo`: a type runs past the end of its part, or has kind 0 or a kind past 19.
+    /// - `OutOfMemory`: out of memory.
     #[tactic(auto, using(crate::proofs::Spelling::found_spelled, crate::proofs::Spelling::only_spelled))]
     pub fn parse(alloc: Global, data: &[u8], endianness: Endianness) -> Result<Btf, BtfError>
         ensures exact { Gives is_btf_memory result (type_info_of endianness «data».now) }
@@ -139,9 +146,11 @@ impl Btf {
         copy_parts(alloc, endianness, data)
     }
 
-    /// The types and strings of `.BTF`, which is taken over: the strings alone are copied.
+    /// Reads `.BTF` and keeps its bytes; the call copies the strings alone. Numbers are read in the given byte order.
     ///
-    /// Its faults are those of `parse`.
+    /// # Errors
+    ///
+    /// - The errors of `parse`, in the same cases.
     #[tactic(auto, using(crate::proofs::Spelling::found_spelled, crate::proofs::Spelling::only_spelled))]
     pub fn from_vec(data: Vec<u8>, endianness: Endianness) -> Result<Btf, BtfError>
         ensures exact { Gives is_btf_memory result (type_info_of endianness «data».items) }

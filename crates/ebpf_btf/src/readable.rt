@@ -2,7 +2,7 @@
 
 ghost use Rattle.ebpf_btf.specs.Strings.{AreReadableBelow};
 
-/// One past the last zero byte: a text can be read at the offsets below, and at no others.
+/// Returns the offset after the last zero byte: a text can be read at the offsets below it, and at no others.
 #[tactic(auto, using(crate::proofs::ReadableOffsets::none_past, crate::proofs::ReadableOffsets::none_before, crate::proofs::ReadableOffsets::readable_here, crate::proofs::ReadableOffsets::readable_nowhere))]
 pub fn readable_below(strings: &[u8]) -> usize
     ensures { AreReadableBelow strings.now result }

@@ -1,4 +1,4 @@
-//! Rows of bytes, one after the other, for readers that have measured the bytes.
+//! Rows of bytes, one after the other, for readers that have checked the length of the bytes.
 
 ghost use Rattle.std.specs.Prelude.{◌≡◌, ◌+◌, ◌*◌, ◌<◌, ◌≤◌, ℕ, List, length, IfOk};
 ghost use Rattle.ebpf_btf.specs.Items.{items_at};
@@ -7,21 +7,25 @@ ghost use Rattle.ebpf_base.specs.declared.endianness.Endianness.{Endianness};
 use ebpf_base::{Endianness, Items};
 use std::alloc::{AllocError, Global};
 
-/// What is read of a row of bytes.
+/// A value that is read from a row of bytes.
 pub trait Row {
     /// The least number of bytes that a row has.
     ghost least: { ℕ };
 
-    /// What the bytes from an offset on spell.
+    /// The value in the bytes from an offset on.
     ghost row_at: { Endianness → List ℕ → ℕ → Self };
 
-    /// What is read of the row at an offset.
+    /// Returns the value of the row at an offset.
     fn read(order: Endianness, bytes: &[u8], offset: usize) -> Self
         requires { offset + least ≤ length bytes.now }
         ensures { result ≡ row_at order bytes.now offset };
 }
 
-/// The rows from an offset on, `count` of them, each `size` bytes after the one before.
+/// Returns the `count` rows from an offset on, each `size` bytes after the one before.
+///
+/// # Errors
+///
+/// - `AllocError`: out of memory.
 #[tactic(auto, using(crate::proofs::InOrder::items_none, crate::proofs::InOrder::items_more, crate::proofs::InOrder::record_inside))]
 pub fn read_rows<R: Row + Drop>(
     alloc: Global,

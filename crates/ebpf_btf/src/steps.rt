@@ -1,4 +1,4 @@
-//! Modifiers, and sizes.
+//! Resolves modifiers, and computes the sizes of types.
 
 ghost use Rattle.std.specs.Prelude.{◌≡◌, ◌<◌};
 ghost use Rattle.ebpf_btf.specs.Steps.{modifier_type_id, own_size, sized_by, repeats, times, resolved, resolved_type, size_of};
@@ -7,13 +7,14 @@ use crate::btf::Btf;
 use crate::error::BtfError;
 use crate::types::BtfType;
 
-/// How many types a resolution looks at: the one that it starts from, and 32 that it follows to.
+/// The maximum number of types that a resolution reads: the first, and 32 that it follows to.
 const LOOKS: u32 = 33;
 
 /// The size of a pointer in bytes.
 const POINTER_SIZE: u32 = 8;
 
-/// The id of the type that a modifier (TYPEDEF, VOLATILE, CONST, RESTRICT or TYPE_TAG) is on.
+/// Returns the id of the type that a modifier (TYPEDEF, VOLATILE, CONST, RESTRICT or TYPE_TAG) modifies; none for other
+/// types.
 #[tactic(auto, unfolding(crate::specs::Steps::modifier_type_id))]
 fn modifier_type_id(ty: &BtfType<'_>) -> Option<u32>
     ensures { result ≡ modifier_type_id ty.now }
@@ -28,7 +29,7 @@ fn modifier_type_id(ty: &BtfType<'_>) -> Option<u32>
     }
 }
 
-/// The size that a type has of its own: 8 of a PTR, else the one that it states.
+/// Returns the size of a type without its inner types, in bytes: 8 for a PTR, else the size field.
 #[tactic(auto, unfolding(crate::specs::Steps::own_size))]
 fn own_size(ty: &BtfType<'_>) -> Option<u32>
     ensures { result ≡ own_size ty.now }
@@ -39,7 +40,7 @@ fn own_size(ty: &BtfType<'_>) -> Option<u32>
     }
 }
 
-/// The id of the type that another is sized by.
+/// Returns the id of the type that gives another type its size.
 #[tactic(auto, unfolding(crate::specs::Steps::sized_by))]
 fn sized_by(ty: &BtfType<'_>) -> Option<u32>
     ensures { result ≡ sized_by ty.now }
@@ -51,7 +52,7 @@ fn sized_by(ty: &BtfType<'_>) -> Option<u32>
     }
 }
 
-/// How many of that type it has.
+/// Returns the number of elements of an ARRAY; 1 for other types.
 #[tactic(auto, unfolding(crate::specs::Steps::repeats))]
 fn repeats(ty: &BtfType<'_>) -> u32
     ensures { result ≡ repeats ty.now }
@@ -62,7 +63,11 @@ fn repeats(ty: &BtfType<'_>) -> u32
     }
 }
 
-/// A product of 32 bits.
+/// Returns a product of at most 32 bits.
+///
+/// # Errors
+///
+/// - `InvalidTypeInfo`: the product needs more than 32 bits.
 fn times(m: u32, n: u32) -> Result<u32, BtfError>
     ensures { result ≡ times m n }
 {
@@ -70,10 +75,12 @@ fn times(m: u32, n: u32) -> Result<u32, BtfError>
 }
 
 impl Btf {
-    /// The id of the first type from `type_id` on that is no TYPEDEF, VOLATILE, CONST, RESTRICT or TYPE_TAG.
+    /// Returns the id of the first type from `type_id` on that is no TYPEDEF, VOLATILE, CONST, RESTRICT or TYPE_TAG.
     ///
-    /// `UnknownBtfType` of an id that no type has; `MaximumTypeDepth` of `type_id` where it would be the 33rd
-    /// time to follow.
+    /// # Errors
+    ///
+    /// - `UnknownBtfType`: no type has an id on the way.
+    /// - `MaximumTypeDepth` with `type_id`: more than 32 modifiers follow one another.
     #[tactic(auto, using(crate::proofs::Looks::resolved_unknown, crate::proofs::Looks::resolved_here, crate::proofs::Looks::resolved_next, crate::proofs::Looks::resolved_over))]
     pub fn resolve_type(&self, type_id: u32) -> Result<u32, BtfError>
         ensures { result ≡ resolved self.now.types type_id }
@@ -89,8 +96,11 @@ impl Btf {
         Err(BtfError::MaximumTypeDepth { type_id })
     }
 
-    /// The first type from the one with an id on that is no TYPEDEF, VOLATILE, CONST, RESTRICT or TYPE_TAG. Its
-    /// faults are those of `resolve_type`.
+    /// Returns the first type from the one with an id on that is no TYPEDEF, VOLATILE, CONST, RESTRICT or TYPE_TAG.
+    ///
+    /// # Errors
+    ///
+    /// - The errors of `resolve_type`, in the same cases.
     pub fn resolved_type(&self, type_id: u32) -> Result<BtfType<'_>, BtfError>
         ensures { result ≡ resolved_type self.now.types type_id }
     {
@@ -100,12 +110,17 @@ impl Btf {
         }
     }
 
-    /// The size of a type in bytes: 8 of a PTR, else the size that it states; of a TYPEDEF, VOLATILE, CONST,
-    /// RESTRICT, TYPE_TAG, VAR or FUNC that of the type which it holds; of an ARRAY that of its elements.
+    /// Returns the size of a type in bytes.
     ///
-    /// `UnknownBtfType` of an id that no type has; `UnexpectedBtfType` of the id of a type that has no size;
-    /// `InvalidTypeInfo` where a product of lengths and size, outermost first, is past 32 bits;
-    /// `MaximumTypeDepth` of `type_id` where it would be the 33rd time to follow.
+    /// The size is 8 for a PTR; the size of the inner type for a TYPEDEF, VOLATILE, CONST, RESTRICT, TYPE_TAG, VAR or FUNC;
+    /// the size of all elements for an ARRAY; and the size field for other types.
+    ///
+    /// # Errors
+    ///
+    /// - `UnknownBtfType`: no type has an id on the way.
+    /// - `UnexpectedBtfType`: a type on the way has no size.
+    /// - `InvalidTypeInfo`: a product of lengths and size, outermost first, needs more than 32 bits.
+    /// - `MaximumTypeDepth` with `type_id`: the size needs more than 32 steps to inner types.
     #[tactic(auto, using(crate::proofs::Looks::size_unknown, crate::proofs::Looks::size_here, crate::proofs::Looks::size_missing, crate::proofs::Looks::size_too_large, crate::proofs::Looks::size_next, crate::proofs::Looks::size_over))]
     pub fn type_size(&self, type_id: u32) -> Result<u32, BtfError>
         ensures { result ≡ size_of self.now.types type_id }

@@ -1,4 +1,4 @@
-//! Texts in the strings.
+//! Reads texts in the strings (the kernel's Documentation/bpf/btf.rst, 2.1 "String Encoding").
 
 ghost use Rattle.std.specs.Prelude.{◌≡◌, ◌+◌, ◌==◌, drop, take, IfOk, IfErr, Ok, Err};
 ghost use Rattle.std.specs.List.{position};
@@ -15,14 +15,14 @@ use crate::lossy::reads_as;
 use std::alloc::{AllocError, Global};
 use std::borrow::CowStr;
 
-/// The index of the first zero byte.
+/// Returns the index of the first zero byte.
 pub fn first_zero(bytes: &[u8]) -> Option<usize>
     ensures { result ≡ position (λ b. b == 0) bytes.now }
 {
     bytes.iter().position(|b| *b == 0)
 }
 
-/// The bytes up to the first zero byte.
+/// Returns the bytes before the first zero byte.
 fn before_zero(bytes: &[u8]) -> Option<&[u8]>
     ensures { option_copied result ≡ before_zero bytes.now }
 {
@@ -32,7 +32,7 @@ fn before_zero(bytes: &[u8]) -> Option<&[u8]>
     }
 }
 
-/// The text of some bytes, where each wrong sequence is U+FFFD. It is a copy only where one is wrong.
+/// Returns the text of some bytes, with U+FFFD for each invalid UTF-8 sequence. It copies only bytes with such a sequence.
 #[tactic(auto, using(crate::proofs::LossyTexts::lossy_text))]
 fn lossy(alloc: Global, bytes: &[u8]) -> Result<CowStr<'_, Global>, AllocError>
     ensures { IfOk result (λ text. cow_str_bytes text ≡ utf8_lossy bytes.now) }
@@ -43,7 +43,11 @@ fn lossy(alloc: Global, bytes: &[u8]) -> Result<CowStr<'_, Global>, AllocError>
     }
 }
 
-/// The bytes from an offset of the strings up to the next zero byte.
+/// Returns the bytes from an offset of the strings up to the next zero byte.
+///
+/// # Errors
+///
+/// - `InvalidStringOffset`: the offset is outside the strings, or no zero byte follows.
 #[tactic(auto, unfolding(crate::specs::Strings::text_at))]
 pub fn read_bytes(strings: &[u8], offset: u32) -> Result<&[u8], BtfError>
     ensures text { IfOk result (λ bytes. text_at strings.now offset ≡ Ok (utf8_lossy bytes.now)) }
@@ -60,7 +64,7 @@ pub fn read_bytes(strings: &[u8], offset: u32) -> Result<&[u8], BtfError>
     }
 }
 
-/// The first bytes, so many where there are.
+/// Returns the first `count` bytes, or all where there are fewer.
 fn first_bytes(bytes: &[u8], count: usize) -> &[u8]
     ensures { result.now ≡ take count bytes.now }
 {
@@ -70,7 +74,7 @@ fn first_bytes(bytes: &[u8], count: usize) -> &[u8]
     &bytes[..count]
 }
 
-/// The bytes from an offset of the strings on, one more than a text of a length has.
+/// Returns the bytes from an offset of the strings on, at most `longest` and one.
 #[tactic(auto, using(crate::proofs::LongNames::none_past, crate::proofs::LongNames::all_near))]
 pub fn near_bytes(strings: &[u8], offset: u32, longest: usize) -> &[u8]
     ensures { result.now ≡ take (longest + 1) (drop offset strings.now) }
@@ -86,8 +90,8 @@ pub fn near_bytes(strings: &[u8], offset: u32, longest: usize) -> &[u8]
     &from[..longest + 1]
 }
 
-/// Whether the text at an offset of the strings is this one; one that can't be read is none. One byte more than the
-/// text has is looked at, and no other.
+/// Returns whether the text at an offset of the strings is this text; false where it cannot be read. It reads at most one
+/// byte more than `text` has.
 #[tactic(auto, unfolding(crate::specs::Strings::text_at))]
 pub fn is_text_at(strings: &[u8], offset: u32, text: &str) -> bool
     ensures { result ≡ is_text text.now (text_at strings.now offset) }
@@ -102,7 +106,12 @@ pub fn is_text_at(strings: &[u8], offset: u32, text: &str) -> bool
     }
 }
 
-/// The text at an offset of the strings.
+/// Returns the text at an offset of the strings, with U+FFFD for each invalid UTF-8 sequence.
+///
+/// # Errors
+///
+/// - `InvalidStringOffset`: the offset is outside the strings, or no zero byte follows.
+/// - `OutOfMemory`: out of memory for a copy.
 pub fn read_text(alloc: Global, strings: &[u8], offset: u32) -> Result<CowStr<'_, Global>, BtfError>
     ensures text { IfOk result (λ text. text_at strings.now offset ≡ Ok (cow_str_bytes text)) }
     ensures fault { Refuses is_btf_memory result (fault_of (text_at strings.now offset)) }

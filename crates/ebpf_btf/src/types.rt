@@ -1,4 +1,4 @@
-//! A type.
+//! A type, by its kind.
 
 ghost use Rattle.std.specs.Prelude.{◌≡◌, ◌<◌};
 ghost use Rattle.ebpf_btf.specs.Words.{count_of, flag_of};
@@ -17,8 +17,8 @@ use crate::members::{BtfEnum, BtfEnum64, BtfMember, BtfParam, DataSecEntry};
 pub enum BtfType<'a> {
     /// No type, or `void`.
     Unknown,
-    /// An integer. `int_data` has the encoding in bits 24 to 27 (1: signed), the bit offset in bits 16 to 23
-    /// and the number of bits in bits 0 to 7.
+    /// An integer. `int_data` has the encoding in bits 24 to 27 (1: signed, 2: char, 4: bool), the bit offset in bits 16
+    /// to 23, and the number of bits in bits 0 to 7.
     Int {
         name_offset: u32,
         size: u32,
@@ -88,7 +88,7 @@ pub enum BtfType<'a> {
         name_offset: u32,
         btf_type: u32,
     },
-    /// What a function takes, and in `btf_type` what it gives.
+    /// The prototype of a function: its parameters, and in `btf_type` the type of its result.
     FuncProto {
         name_offset: u32,
         btf_type: u32,
@@ -132,7 +132,7 @@ pub enum BtfType<'a> {
 }
 
 impl<'a> BtfType<'a> {
-    /// The kind.
+    /// Returns the kind of the type.
     #[tactic(auto, unfolding(crate::specs::Types::kind_of))]
     pub fn kind(&self) -> BtfKind
         ensures { result ≡ kind_of self.now }
@@ -161,7 +161,7 @@ impl<'a> BtfType<'a> {
         }
     }
 
-    /// The offset of the name in the strings; 0 of `Unknown`.
+    /// Returns the offset of the type's name in the strings; 0 for a type without a name and for `Unknown`.
     #[tactic(auto, unfolding(crate::specs::Types::name_off))]
     pub fn name_offset(&self) -> u32
         ensures { result ≡ name_off self.now }
@@ -190,7 +190,7 @@ impl<'a> BtfType<'a> {
         }
     }
 
-    /// The size in bytes that an INT, STRUCT, UNION, ENUM, ENUM64, FLOAT or DATASEC states; None of others.
+    /// Returns the size field of an INT, STRUCT, UNION, ENUM, ENUM64, FLOAT or DATASEC, in bytes; none for other kinds.
     #[tactic(auto, unfolding(crate::specs::Types::size_word))]
     pub fn size(&self) -> Option<u32>
         ensures { result ≡ size_word self.now }
@@ -207,8 +207,8 @@ impl<'a> BtfType<'a> {
         }
     }
 
-    /// The id of the type that a PTR, TYPEDEF, VOLATILE, CONST, RESTRICT, TYPE_TAG, DECL_TAG, VAR, FUNC or
-    /// FUNC_PROTO (there what the function gives) holds; None of others.
+    /// Returns the type field of a PTR, TYPEDEF, VOLATILE, CONST, RESTRICT, TYPE_TAG, DECL_TAG, VAR, FUNC or FUNC_PROTO, an
+    /// id; none for other kinds. The type field of a FUNC_PROTO is the type of the result.
     #[tactic(auto, unfolding(crate::specs::Types::type_word))]
     pub fn btf_type(&self) -> Option<u32>
         ensures { result ≡ type_word self.now }
@@ -228,7 +228,7 @@ impl<'a> BtfType<'a> {
         }
     }
 
-    /// The members of a STRUCT or UNION, in order; None of others.
+    /// Returns the members of a STRUCT or UNION, in order; none for other kinds.
     #[tactic(auto, unfolding(crate::specs::Types::members_of))]
     pub fn members(&self) -> Option<Rows<'a, BtfMember>>
         ensures { result ≡ members_of self.now }
@@ -241,7 +241,7 @@ impl<'a> BtfType<'a> {
         }
     }
 
-    /// Whether the `kind_flag` of a STRUCT or UNION is set.
+    /// Returns whether the `kind_flag` of a STRUCT or UNION is set.
     #[tactic(auto, unfolding(crate::specs::Types::has_bit_fields))]
     fn has_bit_fields(&self) -> bool
         ensures { result ≡ has_bit_fields self.now }
@@ -252,8 +252,8 @@ impl<'a> BtfType<'a> {
         }
     }
 
-    /// The bit offset of a member of this type: with `kind_flag` the 24 low bits of its offset, else the
-    /// offset.
+    /// Returns the bit offset of a member of this type: the 24 low bits of its offset field where the type's `kind_flag` is
+    /// set, else the offset field.
     #[tactic(auto, unfolding(crate::specs::Types::bit_offset))]
     pub fn member_bit_offset(&self, member: &BtfMember) -> u32
         ensures { result ≡ bit_offset self.now member.now }
@@ -265,8 +265,8 @@ impl<'a> BtfType<'a> {
         }
     }
 
-    /// The bit field size of a member of this type: with `kind_flag` the 8 high bits of its
-    /// offset, else 0. It is 0 of a member that is no bit field.
+    /// Returns the bit field size of a member of this type, in bits: the 8 high bits of its offset field where the type's
+    /// `kind_flag` is set, else 0. The size is 0 for a member that is no bit field.
     #[tactic(auto, unfolding(crate::specs::Types::bit_field_size))]
     pub fn member_bit_field_size(&self, member: &BtfMember) -> u32
         ensures { result ≡ bit_field_size self.now member.now }
@@ -278,8 +278,8 @@ impl<'a> BtfType<'a> {
         }
     }
 
-    /// Whether values are signed: of an INT where bit 24 of its data is set, of an ENUM or ENUM64 where its
-    /// `kind_flag` is. False of others.
+    /// Returns whether the values of the type are signed: bit 24 of the data of an INT, the `kind_flag` of an ENUM or
+    /// ENUM64; false for other kinds.
     #[tactic(auto, unfolding(crate::specs::Types::is_signed))]
     pub fn is_signed(&self) -> bool
         ensures { result ≡ is_signed self.now }
@@ -291,7 +291,7 @@ impl<'a> BtfType<'a> {
         }
     }
 
-    /// The number of the kind in `.BTF`.
+    /// Returns the number of the kind in `.BTF`, 0 to 19.
     #[tactic(auto, unfolding(crate::specs::Types::kind_of, crate::specs::Types::kind_number))]
     pub(crate) fn kind_number(&self) -> u32
         ensures number { result ≡ kind_number (kind_of self.now) }
@@ -321,7 +321,7 @@ impl<'a> BtfType<'a> {
         }
     }
 
-    /// The flag of the info word, bit 31.
+    /// Returns the flag of the info word, bit 31.
     #[tactic(auto, unfolding(crate::specs::Words::flag_of))]
     pub(crate) fn kind_flag(&self) -> bool
         ensures { result ≡ flag_of self.now }
@@ -336,7 +336,7 @@ impl<'a> BtfType<'a> {
         }
     }
 
-    /// How many members, variants, parameters or entries there are.
+    /// Returns the number of members, variants, parameters or entries.
     #[tactic(auto, unfolding(crate::specs::Words::count_of))]
     pub(crate) fn count(&self) -> usize
         ensures { result ≡ count_of self.now }

@@ -1,4 +1,4 @@
-//! The types of a `Btf` in turn.
+//! An iterator over the types of a `Btf`.
 
 ghost use Rattle.std.specs.Prelude.{◌≡◌, drop};
 ghost use Rattle.std.specs.Iterator.{YieldsFirst, item_count};
@@ -7,7 +7,7 @@ use crate::btf::Btf;
 use crate::types::BtfType;
 use std::marker::Model;
 
-/// The types of a `Btf`, in order of their ids. Contracts see those that are left.
+/// An iterator over the types of a `Btf`, in order of their ids. Contracts see the list of the types left.
 #[derive(Drop)]
 pub struct TypesIter<'a> {
     btf: &'a Btf,
@@ -24,7 +24,7 @@ impl<'a> Model for TypesIter<'a> {
 }
 
 impl<'a> TypesIter<'a> {
-    /// All of them.
+    /// Returns an iterator over all types.
     pub(crate) fn new(btf: &'a Btf) -> TypesIter<'a>
         ensures { result ≡ btf.now.types }
     {

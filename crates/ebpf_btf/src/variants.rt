@@ -8,16 +8,16 @@ use crate::fallback::Enum64Fallback;
 use crate::members::{BtfEnum, BtfEnum64, Enum64VariantFallback};
 use crate::types::BtfType;
 
-/// A variant of an enumeration of whatever kind.
+/// A variant of an ENUM, an ENUM64 or a UNION that replaces a 64-bit enumeration.
 #[derive(Clone, Copy, Debug, PartialEq, Eq)]
 pub struct BtfVariant {
     /// The offset of the variant's name in the strings.
     pub name_offset: u32,
-    /// The value's 64 bits. One of 32 bits has been widened, by its sign where the enumeration is signed.
+    /// The 64 bits of the value. A value of 32 bits is sign-extended in a signed enumeration, else zero-extended.
     pub value: u64,
 }
 
-/// 32 bits as 64, the high ones being those of the sign.
+/// Returns 32 bits as 64: sign-extended where `signed` is true, else zero-extended.
 fn sign_extended(signed: bool, value: u32) -> u64
     ensures { result ≡ sign_extended signed value }
 {
@@ -28,7 +28,7 @@ fn sign_extended(signed: bool, value: u32) -> u64
     }
 }
 
-/// A variant of an ENUM.
+/// Returns the variant of an ENUM.
 fn variant_of_32(signed: bool, variant: BtfEnum) -> BtfVariant
     ensures { result ≡ variant_of_32 signed variant }
 {
@@ -38,7 +38,7 @@ fn variant_of_32(signed: bool, variant: BtfEnum) -> BtfVariant
     }
 }
 
-/// A variant of an ENUM64.
+/// Returns the variant of an ENUM64.
 fn variant_of_64(variant: BtfEnum64) -> BtfVariant
     ensures { result ≡ variant_of_64 variant }
 {
@@ -48,7 +48,7 @@ fn variant_of_64(variant: BtfEnum64) -> BtfVariant
     }
 }
 
-/// A variant of an enumeration that was made a UNION.
+/// Returns the variant of an enumeration that a UNION replaces.
 fn variant_of_fallback(variant: Enum64VariantFallback) -> BtfVariant
     ensures { result ≡ variant_of_fallback variant }
 {
@@ -58,7 +58,7 @@ fn variant_of_fallback(variant: Enum64VariantFallback) -> BtfVariant
     }
 }
 
-/// The variant at an index of an enumeration that was made a UNION.
+/// Returns the variant at an index of an enumeration that a UNION replaces.
 fn fallback_variant(fallback: &Enum64Fallback, index: usize) -> Option<BtfVariant>
     ensures { result ≡ slice_get (map variant_of_fallback fallback.now.variants) index }
 {
@@ -67,7 +67,8 @@ fn fallback_variant(fallback: &Enum64Fallback, index: usize) -> Option<BtfVarian
 }
 
 impl<'a> BtfType<'a> {
-    /// The number of variants of an ENUM, an ENUM64 or a UNION that was an enumeration of 64 bits; None of others.
+    /// Returns the number of variants of an ENUM, an ENUM64 or a UNION that replaces a 64-bit enumeration; none for other
+    /// types.
     #[tactic(auto, unfolding(crate::specs::Variants::variants_of))]
     pub fn variant_count(&self) -> Option<usize>
         ensures { result ≡ option_map length (variants_of self.now) }
@@ -83,8 +84,8 @@ impl<'a> BtfType<'a> {
         }
     }
 
-    /// The variant at an index, from 0, of an ENUM, an ENUM64 or a UNION that was an enumeration of 64 bits. None
-    /// where there are not so many, and of other types.
+    /// Returns the variant at an index, from 0 on, of an ENUM, an ENUM64 or a UNION that replaces a 64-bit enumeration; none
+    /// past the last variant and for other types.
     #[tactic(auto, unfolding(crate::specs::Variants::variants_of))]
     pub fn variant(&self, index: usize) -> Option<BtfVariant>
         ensures { result

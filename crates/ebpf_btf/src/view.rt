@@ -1,4 +1,4 @@
-//! One type, seen in its bytes.
+//! Reads one type from its bytes (the kernel's Documentation/bpf/btf.rst, 2.2 "Type Encoding").
 
 ghost use Rattle.std.specs.Prelude.{◌≡◌, ◌+◌, ◌*◌, ◌≤◌, ◌<◌, ◌^◌, length, Some};
 ghost use Rattle.std.specs.Prelude.{IfSome, option_map};
@@ -14,7 +14,7 @@ use crate::types::BtfType;
 use ebpf_base::Endianness;
 use ebpf_base::numbers::read_u32;
 
-/// The kind that an info word has in bits 24 to 28; None of the number 0 and past 19.
+/// Returns the kind in bits 24 to 28 of an info word; none for the number 0 and numbers past 19.
 #[inline]
 #[tactic(auto, unfolding(crate::specs::Format::info_kind))]
 pub fn info_kind(info: u32) -> Option<BtfKind>
@@ -44,7 +44,7 @@ pub fn info_kind(info: u32) -> Option<BtfKind>
     }
 }
 
-/// The vlen of an info word, bits 0 to 15: how many members, variants, parameters or entries the type has.
+/// Returns the vlen of an info word, bits 0 to 15: the number of members, variants, parameters or entries.
 #[inline]
 #[tactic(auto, unfolding(crate::specs::Format::info_vlen))]
 pub fn info_vlen(info: u32) -> u32
@@ -54,7 +54,7 @@ pub fn info_vlen(info: u32) -> u32
     info & 0xffff
 }
 
-/// The kind_flag of an info word, bit 31.
+/// Returns the kind_flag of an info word, bit 31.
 #[inline]
 #[tactic(auto, unfolding(crate::specs::Format::info_kind_flag))]
 fn info_kind_flag(info: u32) -> bool
@@ -63,7 +63,7 @@ fn info_kind_flag(info: u32) -> bool
     info >> 31 == 1
 }
 
-/// How many words follow the first three.
+/// Returns the number of words after the first three of a type.
 #[tactic(auto, unfolding(crate::specs::Format::further_words))]
 pub fn further_words(kind: BtfKind, count: u32) -> u32
     requires { count ≤ 65535 }
@@ -79,7 +79,7 @@ pub fn further_words(kind: BtfKind, count: u32) -> u32
     }
 }
 
-/// The kind of the type at an offset.
+/// Returns the kind of the type at an offset.
 #[inline]
 #[tactic(auto, unfolding(crate::specs::Offsets::kind_here))]
 pub fn kind_here(order: Endianness, bytes: &[u8], offset: u32) -> BtfKind
@@ -92,7 +92,7 @@ pub fn kind_here(order: Endianness, bytes: &[u8], offset: u32) -> BtfKind
     }
 }
 
-/// The type of a kind that stands at an offset.
+/// Returns the type of a kind at an offset.
 #[inline]
 #[tactic(auto, unfolding(crate::specs::Format::spelled, crate::specs::Format::further_words))]
 pub fn type_at<'a>(order: Endianness, bytes: &'a [u8], offset: u32, kind: BtfKind) -> BtfType<'a>
@@ -202,7 +202,7 @@ pub fn type_at<'a>(order: Endianness, bytes: &'a [u8], offset: u32, kind: BtfKin
     }
 }
 
-/// The type that stands at an offset.
+/// Returns the type at an offset.
 #[inline]
 #[tactic(auto, unfolding(crate::specs::Offsets::type_here, crate::specs::Offsets::end_here))]
 pub fn type_here<'a>(order: Endianness, bytes: &'a [u8], offset: u32) -> BtfType<'a>
@@ -213,16 +213,16 @@ pub fn type_here<'a>(order: Endianness, bytes: &'a [u8], offset: u32) -> BtfType
     type_at(order, bytes, offset, kind_here(order, bytes, offset))
 }
 
-/// The kind and the name of a type, which its first two words have.
+/// The kind and the name offset of a type, which are in its first two words.
 #[derive(Clone, Copy, Debug, PartialEq, Eq)]
 pub struct TypeHead {
-    /// The kind.
+    /// The kind of the type.
     pub kind: BtfKind,
-    /// The offset of the name in the strings; 0 where it has none.
+    /// The offset of the type's name in the strings; 0 for a type without a name.
     pub name_offset: u32,
 }
 
-/// The head of the type that stands at an offset.
+/// Returns the head of the type at an offset.
 #[inline]
 #[tactic(auto, using(crate::proofs::Heads::kind_again, crate::proofs::Heads::name_void, crate::proofs::Heads::name_first), unfolding(crate::specs::Offsets::end_here, crate::specs::Types::kind_number))]
 pub fn head_here(order: Endianness, bytes: &[u8], offset: u32) -> TypeHead
@@ -238,7 +238,7 @@ pub fn head_here(order: Endianness, bytes: &[u8], offset: u32) -> TypeHead
     TypeHead { kind, name_offset }
 }
 
-/// The offset after the type at an offset; None where it goes past the end or has no known kind.
+/// Returns the offset after the type at an offset; none where the type runs past the end or has an unknown kind.
 #[tactic(auto, unfolding(crate::specs::Reading::type_before, crate::specs::Offsets::kind_here, crate::specs::Offsets::type_here, crate::specs::Offsets::end_here))]
 pub fn next_offset(order: Endianness, bytes: &[u8], offset: u32) -> Option<u32>
     requires before { offset ≤ length bytes.now }

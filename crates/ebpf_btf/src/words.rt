@@ -1,4 +1,4 @@
-//! Types as words, and words as bytes.
+//! Writes types as words, and words as bytes.
 
 ghost use Rattle.std.specs.Prelude.{◌≡◌, ◌+◌, ◌*◌, ◌^◌, ◌++◌, ◌<◌, ℕ, flat_map, length, slice_index, OnOk, IfOk};
 ghost use Rattle.ebpf_btf.specs.Words.{count_of, further_of, info_word, word_bytes, words_bytes, words_of};
@@ -22,7 +22,11 @@ fn append_word(order: Endianness, out: &mut Vec<u8>, word: u32) -> Result<(), Al
     }
 }
 
-/// The bytes of some words.
+/// Returns the bytes of some words, in a byte order.
+///
+/// # Errors
+///
+/// - `AllocError`: out of memory.
 #[tactic(auto, using(crate::proofs::Written::bytes_none, crate::proofs::Written::bytes_step))]
 pub fn bytes_of(alloc: Global, order: Endianness, words: &[u32]) -> Result<Vec<u8>, AllocError>
     ensures bytes { IfOk result (λ out. out.items ≡ words_bytes order words.now) }
@@ -45,7 +49,7 @@ fn append_rows<R: ListRow + Drop>(out: &mut Vec<u32>, rows: &Rows<'_, R>) -> Res
     Ok(())
 }
 
-/// Appends the words of a kind.
+/// Appends the words after the first three of a type.
 #[tactic(auto, unfolding(crate::specs::Words::further_of))]
 fn append_further(out: &mut Vec<u32>, ty: &BtfType<'_>) -> Result<(), AllocError>
     ensures { OnOk result (out.new.items ≡ out.old.items ++ further_of ty.now) }
@@ -73,7 +77,7 @@ fn append_further(out: &mut Vec<u32>, ty: &BtfType<'_>) -> Result<(), AllocError
     }
 }
 
-/// The info word of a kind, a flag and a count.
+/// Returns the info word of a kind, a flag and a count.
 fn info_word(kind: u32, flag: bool, count: u32) -> u32
     requires kind { kind < 32 }
     requires few { count < 65536 }
@@ -83,7 +87,11 @@ fn info_word(kind: u32, flag: bool, count: u32) -> u32
     if flag { low + 0x8000_0000 } else { low }
 }
 
-/// The words of a type.
+/// Returns the words of a type.
+///
+/// # Errors
+///
+/// - `AllocError`: out of memory.
 #[tactic(auto, unfolding(crate::specs::Words::words_of), using(crate::proofs::Written::with_header))]
 pub fn words_of(alloc: Global, ty: &BtfType<'_>) -> Result<Vec<u32>, AllocError>
     requires few { count_of ty.now < 65536 }
@@ -99,8 +107,12 @@ pub fn words_of(alloc: Global, ty: &BtfType<'_>) -> Result<Vec<u32>, AllocError>
     Ok(words)
 }
 
-/// The bytes of a type in an order. None of void, which has no words, and of a type with more than 65,535 members,
-/// variants, parameters or entries.
+/// Returns the bytes of a type in a byte order; no bytes for `void`, and for a type with more than 65,535 members, variants,
+/// parameters or entries.
+///
+/// # Errors
+///
+/// - `AllocError`: out of memory.
 pub fn type_bytes(alloc: Global, order: Endianness, ty: &BtfType<'_>) -> Result<Vec<u8>, AllocError>
     requires some { 0 < kind_number (kind_of ty.now) }
     requires few { count_of ty.now < 65536 }

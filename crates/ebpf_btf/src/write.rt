@@ -1,4 +1,4 @@
-//! `.BTF`, written.
+//! Writes `.BTF`.
 
 ghost use Rattle.std.specs.Prelude.{◌≡◌, ◌++◌, ◌<◌, ◌^◌, length, IfOk, Ok};
 ghost use Rattle.ebpf_btf.specs.Header.{first_word, header_bytes};
@@ -7,7 +7,7 @@ use crate::words::bytes_of;
 use ebpf_base::Endianness;
 use std::alloc::{AllocError, Global};
 
-/// The magic, the version 1 and no flags, as a word of an order.
+/// Returns the magic, the version 1 and no flags, as a word in a byte order.
 #[tactic(auto, unfolding(crate::specs::Header::first_word))]
 fn first_word(order: Endianness) -> u32
     ensures { result ≡ first_word order }
@@ -18,7 +18,7 @@ fn first_word(order: Endianness) -> u32
     }
 }
 
-/// The header before types of a length, and strings of a length behind them.
+/// Returns the header of types with a length in bytes, followed by strings with a length in bytes.
 #[tactic(auto, unfolding(crate::specs::Header::header_bytes))]
 fn header(alloc: Global, order: Endianness, types: u32, strings: u32) -> Result<Vec<u8>, AllocError>
     ensures { IfOk result (λ out. out.items ≡ header_bytes order types strings) }
@@ -31,7 +31,11 @@ fn header(alloc: Global, order: Endianness, types: u32, strings: u32) -> Result<
     Ok(out)
 }
 
-/// The header, some types and strings.
+/// Returns `.BTF` of some types and strings: the header, the types and the strings.
+///
+/// # Errors
+///
+/// - `AllocError`: out of memory.
 pub fn with_header(
     alloc: Global,
     order: Endianness,
