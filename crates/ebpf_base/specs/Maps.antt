@@ -1,4 +1,5 @@
--- Finite maps: the orders of their keys, their entries, copies and changes.
+-- Finite maps by number, by text and by section and address: the orders of their keys, their
+-- entries, copies and changes.
 use Rattle.std.specs.Prelude.{◌≡◌, ℕ, List, map, string_bytes, Bool, ◌&&◌, nat_le, fold, Option}
 use Rattle.std.specs.Prelude.{Some, if◌then◌else◌}
 use Rattle.std.specs.declared.string.String.{String}
@@ -43,7 +44,7 @@ coded_key = coded× coded_ℕ coded_ℕ
 abbrev pub by_bytes : {X Y : Type 0} → List (String Y × X) → List (List ℕ × X)
 by_bytes = map (λ e. (string_bytes e.0, e.1))
 
--- the bytes of texts that are lent
+-- the bytes of borrowed texts
 abbrev pub lent_bytes : List (Bor (List ℕ)) → List (List ℕ)
 lent_bytes = map (λ text. text.now)
 
@@ -91,19 +92,19 @@ abbrev pub last_at : {K X : Type 0} → (K → K → Ordering) → K → Option 
 last_at R q before entries =
     fold (λ found e. if eq_by_cmp R q e.0 then Some e.1 else found) before entries
 
--- of the entries put into a map, the last one with a key stands there
+-- of the entries put into a map, the last one with a key is the entry of the map
 abbrev pub LaterStands : {K : Type 0} → (K → K → Ordering) → Type 0 → Type 0
 LaterStands {K} R X =
     (m : FinMap R X) (entries : List (K × X)) (q : K)
     → get (put_all m entries) q ≡ last_at R q (get m q) entries
 
--- ---- values made anew, and calls that write a value in place
+-- ---- mapped values, and calls that write a value in place
 
--- the entries, each with its value made anew
+-- the entries, each with its value mapped
 abbrev pub mapped_entries : {K V W : Type 0} → (V → W) → List (K × V) → List (K × W)
 mapped_entries f entries = map (λ e. (e.0, f e.1)) entries
 
--- the map with the same keys, each with its value made anew
+-- the map with the same keys, each with its value mapped
 unfoldable pub map_values : {K V W : Type 0} {R : K → K → Ordering}
     → (V → W)
     → FinMap R V

@@ -1,4 +1,4 @@
--- Numbers at offsets of a list of bytes.
+-- The number in the n bytes from an offset on, in either byte order.
 use Rattle.std.specs.Prelude.{ℕ, List, drop}
 use Rattle.byteorder.specs.Endian.{little_number, big_number}
 use Rattle.ebpf_base.specs.declared.endianness.Endianness.{Endianness}

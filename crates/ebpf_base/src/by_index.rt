@@ -1,4 +1,4 @@
-//! Values by index, seen as a finite map.
+//! A finite map from indices to values.
 #![tactic(auto, using(crate::proofs::Maps::hashed))]
 
 ghost use Rattle.std.specs.Prelude.{◌≡◌, ◌<◌, ◌^◌, ◌↔◌, length, OnOk, OnErr, OnSome, IfOk, IsTrue, MatchOption, Ok, Err, nat_eq};
@@ -18,8 +18,8 @@ use std::collections::{HashMap, hash_map};
 use std::marker::Model;
 use std::mem;
 
-/// Values by index. Contracts see the finite map alone, which says nothing of the order
-/// in which the `HashMap` holds its entries.
+/// A map from indices to values. Contracts see the finite map alone, which says nothing of the order of the entries in the
+/// `HashMap`.
 #[derive(Debug, Drop)]
 pub struct ByIndex<V> {
     entries: HashMap<usize, V>,
@@ -38,7 +38,7 @@ impl<V> Model for ByIndex<V> {
 }
 
 impl<V> ByIndex<V> {
-    /// The empty map, without memory.
+    /// Returns the empty map. The call allocates nothing.
     pub fn new(alloc: Global) -> Self
         ensures { result ≡ map.empty }
     {
@@ -47,56 +47,57 @@ impl<V> ByIndex<V> {
         }
     }
 
-    /// The map that a `HashMap` holds, without memory.
+    /// Returns the map with the entries of a `HashMap`. The call allocates nothing.
     pub fn from_map(entries: HashMap<usize, V>) -> Self
         ensures { result ≡ map.from_entries entries.entries }
     {
         ByIndex { entries }
     }
 
-    /// The map as a `HashMap`, without memory.
+    /// Returns the map as a `HashMap`. The call allocates nothing.
     pub fn into_map(self) -> HashMap<usize, V>
         ensures { map.from_entries result.entries ≡ self }
     {
         self.entries
     }
 
-    /// The map, lent.
+    /// Returns the `HashMap`, borrowed.
     pub fn as_map(&self) -> &HashMap<usize, V>
         ensures { map.from_entries result.now.entries ≡ self.now }
     {
         &self.entries
     }
 
-    /// The number of keys.
+    /// Returns the number of keys.
     pub fn len(&self) -> usize
         ensures { result ≡ map.len self.now }
     {
         self.entries.len()
     }
 
-    /// Whether no key is there.
+    /// Returns whether the map is empty.
     pub fn is_empty(&self) -> bool
         ensures { IsTrue result ↔ (self.now ≡ map.empty) }
     {
         self.entries.is_empty()
     }
 
-    /// Whether a key is there.
+    /// Returns whether the map has an index.
     pub fn contains_key(&self, index: usize) -> bool
         ensures { result ≡ map.contains_key self.now index }
     {
         self.entries.contains_key(&index)
     }
 
-    /// The value at an index.
+    /// Returns the value of an index, borrowed; none where the map lacks the index.
     pub fn get(&self, index: usize) -> Option<&V>
         ensures { option_copied result ≡ map.get self.now index }
     {
         self.entries.get(&index)
     }
 
-    /// The value at an index, to be written. What is left there when the borrow ends is the value there.
+    /// Returns the value of an index, borrowed mutably; none where the map lacks it. The value at the end of the borrow is
+    /// the value in the map.
     pub fn get_mut(&mut self, index: usize) -> Option<&mut V>
         ensures* writes_back { sem 𝓛
             (LendsSo (the_row V.row) V.row self.entry result
@@ -106,8 +107,7 @@ impl<V> ByIndex<V> {
         self.entries.get_mut(&index)
     }
 
-    /// The entries, each once, in the order in which the `HashMap` holds them, of which nothing is said. `indices` is in
-    /// order.
+    /// Returns an iterator over the entries, each once, in no stated order. `indices` returns the indices in order.
     pub fn iter(&self) -> hash_map::Iter<'_, usize, V>
         ensures all { map.from_entries result ≡ self.now }
         ensures once { IsDistinct nat_eq (keys_of result) }
@@ -116,8 +116,11 @@ impl<V> ByIndex<V> {
         self.entries.iter()
     }
 
-    /// Replaces the value at an index, which comes back. `Err` gives the value back
-    /// where none is there. No memory is taken.
+    /// Replaces the value of an index, and returns the value before. The call allocates nothing.
+    ///
+    /// # Errors
+    ///
+    /// - The new value, given back: the map lacks the index.
     pub fn replace(&mut self, index: usize, value: V) -> Result<V, V>
         ensures { MatchOption (map.get self.old index)
             ((result ≡ Err value) × (self.new ≡ self.old)) (λ before.
@@ -129,7 +132,7 @@ impl<V> ByIndex<V> {
         Ok(mem::replace(stored, value))
     }
 
-    /// Takes an index out, and gives the value that was there.
+    /// Removes an index, and returns the value before; none where the map lacked it.
     pub fn remove(&mut self, index: usize) -> Option<V>
         ensures value { result ≡ map.get self.old index }
         ensures others { self.new ≡ map.remove self.old index }
@@ -137,7 +140,11 @@ impl<V> ByIndex<V> {
         self.entries.remove(&index)
     }
 
-    /// The indices in increasing order.
+    /// Returns the indices in increasing order.
+    ///
+    /// # Errors
+    ///
+    /// - `AllocError`: out of memory.
     pub fn indices(&self, alloc: Global) -> Result<Vec<usize>, AllocError>
         ensures { IfOk result (λ indices. indices.items ≡ keys_of (map.entries self.now)) }
     {
@@ -160,7 +167,11 @@ fn indices_of<V>(alloc: Global, entries: &HashMap<usize, V>) -> Result<Vec<usize
 }
 
 impl<V: Drop> ByIndex<V> {
-    /// Puts a value at an index, and gives the one that was there. Where no memory is found the map stays.
+    /// Inserts the value of an index, and returns the value before; none where the map lacked it.
+    ///
+    /// # Errors
+    ///
+    /// - `AllocError`: out of memory; the map is unchanged.
     pub fn insert(&mut self, index: usize, value: V) -> Result<Option<V>, AllocError>
         ensures before { IfOk result (λ before. before ≡ map.get self.old index) }
         ensures ok { OnOk result (self.new ≡ map.insert self.old index value) }

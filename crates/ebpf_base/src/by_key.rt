@@ -1,4 +1,4 @@
-//! Values by the index of a section and an address in it, in bytes, in order, seen as a finite map.
+//! A finite map from positions to values; a position is the index of a section and an address in it, in bytes.
 #![tactic(auto, using(crate::proofs::Maps::keyed))]
 
 ghost use Rattle.std.specs.Prelude.{◌≡◌, ◌<◌, ◌^◌, ◌↔◌, length, OnOk, OnErr, OnSome, IfOk, IsTrue, MatchOption, Ok, Err, true};
@@ -15,7 +15,8 @@ use std::collections::{BTreeMap, btree_map};
 use std::marker::Model;
 use std::mem;
 
-/// Values by the index of a section and an address in it, in bytes. Contracts see the finite map alone.
+/// A map from keys to values; a key is the index of a section and an address in the section, in bytes. Contracts see the
+/// finite map alone.
 #[derive(Debug, Drop)]
 pub struct ByKey<V> {
     entries: BTreeMap<(usize, u64), V>,
@@ -33,7 +34,7 @@ impl<V> Model for ByKey<V> {
 }
 
 impl<V> ByKey<V> {
-    /// The empty map, without memory.
+    /// Returns the empty map. The call allocates nothing.
     pub fn new(alloc: Global) -> Self
         ensures { result ≡ map.empty }
     {
@@ -42,56 +43,57 @@ impl<V> ByKey<V> {
         }
     }
 
-    /// The map that a `BTreeMap` holds, without memory.
+    /// Returns the map with the entries of a `BTreeMap`. The call allocates nothing.
     pub fn from_map(entries: BTreeMap<(usize, u64), V>) -> Self
         ensures { result ≡ map.from_entries entries.entries }
     {
         ByKey { entries }
     }
 
-    /// The map as a `BTreeMap`, without memory.
+    /// Returns the map as a `BTreeMap`. The call allocates nothing.
     pub fn into_map(self) -> BTreeMap<(usize, u64), V>
         ensures { map.from_entries result.entries ≡ self }
     {
         self.entries
     }
 
-    /// The map, lent.
+    /// Returns the `BTreeMap`, borrowed.
     pub fn as_map(&self) -> &BTreeMap<(usize, u64), V>
         ensures { map.from_entries result.now.entries ≡ self.now }
     {
         &self.entries
     }
 
-    /// The number of keys.
+    /// Returns the number of keys.
     pub fn len(&self) -> usize
         ensures { result ≡ map.len self.now }
     {
         self.entries.len()
     }
 
-    /// Whether no key is there.
+    /// Returns whether the map is empty.
     pub fn is_empty(&self) -> bool
         ensures { IsTrue result ↔ (self.now ≡ map.empty) }
     {
         self.entries.is_empty()
     }
 
-    /// Whether a key is there.
+    /// Returns whether the map has a key.
     pub fn contains_key(&self, key: (usize, u64)) -> bool
         ensures { result ≡ map.contains_key self.now key }
     {
         self.entries.contains_key(&key)
     }
 
-    /// The value at a key.
+    /// Returns the value of a key, borrowed; none where the map lacks the key.
     pub fn get(&self, key: (usize, u64)) -> Option<&V>
         ensures { option_copied result ≡ map.get self.now key }
     {
         self.entries.get(&key)
     }
 
-    /// The value at a key, to be written. What is left there when the borrow ends is the value at the key.
+    /// Returns the value of a key, borrowed mutably; none where the map lacks it. The value at the end of the borrow is the
+    /// value in the map.
     pub fn get_mut(&mut self, key: (usize, u64)) -> Option<&mut V>
         ensures* writes_back { sem 𝓛
             (LendsSo (the_row V.row) V.row self.entry result
@@ -101,7 +103,7 @@ impl<V> ByKey<V> {
         self.entries.get_mut(&key)
     }
 
-    /// The entries in the order of the sections, then of the addresses.
+    /// Returns an iterator over the entries, in order of the sections, then of the addresses.
     pub fn iter(&self) -> btree_map::Iter<'_, (usize, u64), V>
         ensures all { result ≡ map.entries self.now }
         ensures rising { IsStrictlySortedBy key_cmp (keys_of result) }
@@ -110,8 +112,11 @@ impl<V> ByKey<V> {
         self.entries.iter()
     }
 
-    /// Replaces the value at a key, which comes back. `Err` gives the value back
-    /// where the key is not there. No memory is taken.
+    /// Replaces the value of a key, and returns the value before. The call allocates nothing.
+    ///
+    /// # Errors
+    ///
+    /// - The new value, given back: the map lacks the key.
     pub fn replace(&mut self, key: (usize, u64), value: V) -> Result<V, V>
         ensures { MatchOption (map.get self.old key) ((result ≡ Err value) × (self.new ≡ self.old))
             (λ before. (result ≡ Ok before) × (self.new ≡ map.insert self.old key value)) }
@@ -122,7 +127,7 @@ impl<V> ByKey<V> {
         Ok(mem::replace(stored, value))
     }
 
-    /// Takes a key out, and gives the value that was there.
+    /// Removes a key, and returns the value before; none where the map lacked it.
     pub fn remove(&mut self, key: (usize, u64)) -> Option<V>
         ensures value { result ≡ map.get self.old key }
         ensures others { self.new ≡ map.remove self.old key }
@@ -132,7 +137,11 @@ impl<V> ByKey<V> {
 }
 
 impl<V: Drop> ByKey<V> {
-    /// Puts a value at a key, and gives the one that was there. Where no memory is found the map stays.
+    /// Inserts the value of a key, and returns the value before; none where the map lacked it.
+    ///
+    /// # Errors
+    ///
+    /// - `AllocError`: out of memory; the map is unchanged.
     pub fn insert(&mut self, key: (usize, u64), value: V) -> Result<Option<V>, AllocError>
         ensures before { IfOk result (λ before. before ≡ map.get self.old key) }
         ensures ok { OnOk result (self.new ≡ map.insert self.old key value) }
@@ -141,7 +150,7 @@ impl<V: Drop> ByKey<V> {
         Ok(self.entries.insert(key, value)?)
     }
 
-    /// Writes each value in place, in the order of the keys. No memory is taken.
+    /// Calls `write` on each value in place, in order of the keys. The call allocates nothing.
     pub fn write_values<F: Fn(&mut V) + Drop>(&mut self, write: F)
         requires { F.IsAlwaysCallable write }
         ensures { (f : V → V) → WritesBy F.Fn write f → self.new ≡ map_values f self.old }

@@ -1,4 +1,4 @@
-//! Values by name, seen as a finite map.
+//! A finite map from names to values.
 #![tactic(auto, using(crate::proofs::TextMaps::named))]
 
 ghost use Rattle.std.specs.Prelude.{◌≡◌, ◌<◌, ◌^◌, ◌↔◌, length, OnOk, OnErr, OnSome, IfOk, IsTrue, MatchOption, Ok, Err, string_bytes};
@@ -15,8 +15,9 @@ use std::collections::{BTreeMap, btree_map};
 use std::marker::Model;
 use std::mem;
 
-/// Values by name, in the order of the names' bytes. Contracts see the finite map alone. Nothing is
-/// hashed: names come from files, and names made to collide would cost time.
+/// A map from names to values, in order of the names' bytes. Contracts see the finite map alone.
+///
+/// The map hashes nothing: names come from files, and names made to collide would cost time.
 #[derive(Debug, Drop)]
 pub struct ByName<V> {
     entries: BTreeMap<String, V>,
@@ -34,7 +35,7 @@ impl<V> Model for ByName<V> {
 }
 
 impl<V> ByName<V> {
-    /// The empty map, without memory.
+    /// Returns the empty map. The call allocates nothing.
     pub fn new(alloc: Global) -> Self
         ensures { result ≡ map.empty }
     {
@@ -43,56 +44,57 @@ impl<V> ByName<V> {
         }
     }
 
-    /// The map that a `BTreeMap` holds, without memory.
+    /// Returns the map with the entries of a `BTreeMap`. The call allocates nothing.
     pub fn from_map(entries: BTreeMap<String, V>) -> Self
         ensures { result ≡ map.from_entries (by_bytes entries.entries) }
     {
         ByName { entries }
     }
 
-    /// The map as a `BTreeMap`, without memory.
+    /// Returns the map as a `BTreeMap`. The call allocates nothing.
     pub fn into_map(self) -> BTreeMap<String, V>
         ensures { map.from_entries (by_bytes result.entries) ≡ self }
     {
         self.entries
     }
 
-    /// The map, lent.
+    /// Returns the `BTreeMap`, borrowed.
     pub fn as_map(&self) -> &BTreeMap<String, V>
         ensures { map.from_entries (by_bytes result.now.entries) ≡ self.now }
     {
         &self.entries
     }
 
-    /// The number of keys.
+    /// Returns the number of keys.
     pub fn len(&self) -> usize
         ensures { result ≡ map.len self.now }
     {
         self.entries.len()
     }
 
-    /// Whether no key is there.
+    /// Returns whether the map is empty.
     pub fn is_empty(&self) -> bool
         ensures { IsTrue result ↔ (self.now ≡ map.empty) }
     {
         self.entries.is_empty()
     }
 
-    /// Whether a key is there.
+    /// Returns whether the map has a name.
     pub fn contains_key(&self, name: &str) -> bool
         ensures { result ≡ map.contains_key self.now name.now }
     {
         self.entries.contains_key(name)
     }
 
-    /// The value at a name.
+    /// Returns the value of a name, borrowed; none where the map lacks the name.
     pub fn get(&self, name: &str) -> Option<&V>
         ensures { option_copied result ≡ map.get self.now name.now }
     {
         self.entries.get(name)
     }
 
-    /// The value at a name, to be written. What is left there when the borrow ends is the value there.
+    /// Returns the value of a name, borrowed mutably; none where the map lacks it. The value at the end of the borrow is the
+    /// value in the map.
     pub fn get_mut(&mut self, name: &str) -> Option<&mut V>
         ensures* writes_back { sem 𝓛
             (LendsSo (the_row V.row) V.row self.entry result
@@ -103,7 +105,7 @@ impl<V> ByName<V> {
         self.entries.get_mut(name)
     }
 
-    /// The entries in the order of the bytes of their names.
+    /// Returns an iterator over the entries, in order of the bytes of their names.
     pub fn iter(&self) -> btree_map::Iter<'_, String, V>
         ensures all { by_bytes result ≡ map.entries self.now }
         ensures rising { IsStrictlySortedBy text_cmp (keys_of (by_bytes result)) }
@@ -112,7 +114,7 @@ impl<V> ByName<V> {
         self.entries.iter()
     }
 
-    /// The values, in byte order of their names.
+    /// Returns an iterator over the values, in order of the bytes of their names.
     pub fn values(&self) -> btree_map::Values<'_, String, V>
         ensures all { result ≡ values_of (map.entries self.now) }
         ensures fits { length result < 2 ^ 63 }
@@ -120,8 +122,11 @@ impl<V> ByName<V> {
         self.entries.values()
     }
 
-    /// Replaces the value at a name, which comes back. `Err` gives the value back
-    /// where none is there. No memory is taken.
+    /// Replaces the value of a name, and returns the value before. The call allocates nothing.
+    ///
+    /// # Errors
+    ///
+    /// - The new value, given back: the map lacks the name.
     pub fn replace(&mut self, name: &str, value: V) -> Result<V, V>
         ensures { MatchOption (map.get self.old name.now)
             ((result ≡ Err value) × (self.new ≡ self.old)) (λ before.
@@ -133,7 +138,7 @@ impl<V> ByName<V> {
         Ok(mem::replace(stored, value))
     }
 
-    /// Takes a name out, and gives the value that was there.
+    /// Removes a name, and returns the value before; none where the map lacked it.
     pub fn remove(&mut self, name: &str) -> Option<V>
         ensures value { result ≡ map.get self.old name.now }
         ensures others { self.new ≡ map.remove self.old name.now }
@@ -141,7 +146,11 @@ impl<V> ByName<V> {
         self.entries.remove(name)
     }
 
-    /// The names in the order of their bytes.
+    /// Returns the names, borrowed, in order of their bytes.
+    ///
+    /// # Errors
+    ///
+    /// - `AllocError`: out of memory.
     pub fn names(&self, alloc: Global) -> Result<Vec<&str>, AllocError>
         ensures { IfOk result (λ names. lent_bytes names.items ≡ keys_of (map.entries self.now)) }
     {
@@ -154,7 +163,11 @@ impl<V> ByName<V> {
 }
 
 impl<V: Drop> ByName<V> {
-    /// Puts a value at a name, and gives the one that was there. Where no memory is found the map stays.
+    /// Inserts the value of a name, and returns the value before; none where the map lacked it.
+    ///
+    /// # Errors
+    ///
+    /// - `AllocError`: out of memory; the map is unchanged.
     pub fn insert(&mut self, name: String, value: V) -> Result<Option<V>, AllocError>
         ensures before { IfOk result (λ before. before ≡ map.get self.old (string_bytes name)) }
         ensures ok { OnOk result (self.new ≡ map.insert self.old (string_bytes name) value) }

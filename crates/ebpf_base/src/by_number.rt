@@ -1,4 +1,4 @@
-//! Values by number, in order, seen as a finite map.
+//! A finite map from numbers to values, in order.
 #![tactic(auto, using(crate::proofs::Maps::numbered))]
 
 ghost use Rattle.std.specs.Prelude.{◌≡◌, ◌<◌, ◌^◌, ◌↔◌, length, OnOk, OnErr, OnSome, IfOk, IsTrue, MatchOption, Ok, Err};
@@ -18,16 +18,16 @@ use std::collections::{BTreeMap, btree_map};
 use std::marker::Model;
 use std::mem;
 
-/// Values by number. Contracts see the finite map alone.
+/// A map from numbers to values. Contracts see the finite map alone.
 #[derive(Debug, Drop)]
 pub struct ByNumber<V> {
     entries: BTreeMap<u64, V>,
 }
 
-/// Values by a section's index.
+/// A map from the indices of sections to values.
 pub type BySection<V> = ByNumber<V>;
 
-/// Values by an offset in bytes.
+/// A map from offsets in bytes to values.
 pub type ByOffset<V> = ByNumber<V>;
 
 impl<V> Model for ByNumber<V> {
@@ -43,7 +43,7 @@ impl<V> Model for ByNumber<V> {
 }
 
 impl<V> ByNumber<V> {
-    /// The empty map, without memory.
+    /// Returns the empty map. The call allocates nothing.
     pub fn new(alloc: Global) -> Self
         ensures { result ≡ map.empty }
     {
@@ -52,56 +52,57 @@ impl<V> ByNumber<V> {
         }
     }
 
-    /// The map that a `BTreeMap` holds, without memory.
+    /// Returns the map with the entries of a `BTreeMap`. The call allocates nothing.
     pub fn from_map(entries: BTreeMap<u64, V>) -> Self
         ensures { result ≡ map.from_entries entries.entries }
     {
         ByNumber { entries }
     }
 
-    /// The map as a `BTreeMap`, without memory.
+    /// Returns the map as a `BTreeMap`. The call allocates nothing.
     pub fn into_map(self) -> BTreeMap<u64, V>
         ensures { map.from_entries result.entries ≡ self }
     {
         self.entries
     }
 
-    /// The map, lent.
+    /// Returns the `BTreeMap`, borrowed.
     pub fn as_map(&self) -> &BTreeMap<u64, V>
         ensures { map.from_entries result.now.entries ≡ self.now }
     {
         &self.entries
     }
 
-    /// The number of keys.
+    /// Returns the number of keys.
     pub fn len(&self) -> usize
         ensures { result ≡ map.len self.now }
     {
         self.entries.len()
     }
 
-    /// Whether no key is there.
+    /// Returns whether the map is empty.
     pub fn is_empty(&self) -> bool
         ensures { IsTrue result ↔ (self.now ≡ map.empty) }
     {
         self.entries.is_empty()
     }
 
-    /// Whether a key is there.
+    /// Returns whether the map has a key.
     pub fn contains_key(&self, key: u64) -> bool
         ensures { result ≡ map.contains_key self.now key }
     {
         self.entries.contains_key(&key)
     }
 
-    /// The value at a key.
+    /// Returns the value of a key, borrowed; none where the map lacks the key.
     pub fn get(&self, key: u64) -> Option<&V>
         ensures { option_copied result ≡ map.get self.now key }
     {
         self.entries.get(&key)
     }
 
-    /// The value at a key, to be written. What is left there when the borrow ends is the value at the key.
+    /// Returns the value of a key, borrowed mutably; none where the map lacks it. The value at the end of the borrow is the
+    /// value in the map.
     pub fn get_mut(&mut self, key: u64) -> Option<&mut V>
         ensures* writes_back { sem 𝓛
             (LendsSo (the_row V.row) V.row self.entry result
@@ -111,7 +112,7 @@ impl<V> ByNumber<V> {
         self.entries.get_mut(&key)
     }
 
-    /// The entries in the order of the numbers.
+    /// Returns an iterator over the entries, in order of the numbers.
     pub fn iter(&self) -> btree_map::Iter<'_, u64, V>
         ensures all { result ≡ map.entries self.now }
         ensures rising { IsStrictlySortedBy nat_cmp (keys_of result) }
@@ -120,7 +121,7 @@ impl<V> ByNumber<V> {
         self.entries.iter()
     }
 
-    /// The entries of the numbers from `from` on, in order.
+    /// Returns an iterator over the entries of the numbers from `from` on, in order.
     pub fn from_number(&self, from: u64) -> btree_map::Range<'_, u64, V>
         ensures part { result ≡ entries_from from (map.entries self.now) }
         ensures fits { length result < 2 ^ 63 }
@@ -128,8 +129,11 @@ impl<V> ByNumber<V> {
         self.entries.range(from..)
     }
 
-    /// Replaces the value at a key, which comes back. `Err` gives the value back
-    /// where the key is not there. No memory is taken.
+    /// Replaces the value of a key, and returns the value before. The call allocates nothing.
+    ///
+    /// # Errors
+    ///
+    /// - The new value, given back: the map lacks the key.
     pub fn replace(&mut self, key: u64, value: V) -> Result<V, V>
         ensures { MatchOption (map.get self.old key) ((result ≡ Err value) × (self.new ≡ self.old))
             (λ before. (result ≡ Ok before) × (self.new ≡ map.insert self.old key value)) }
@@ -140,7 +144,7 @@ impl<V> ByNumber<V> {
         Ok(mem::replace(stored, value))
     }
 
-    /// Takes a key out, and gives the value that was there.
+    /// Removes a key, and returns the value before; none where the map lacked it.
     pub fn remove(&mut self, key: u64) -> Option<V>
         ensures value { result ≡ map.get self.old key }
         ensures others { self.new ≡ map.remove self.old key }
@@ -150,7 +154,11 @@ impl<V> ByNumber<V> {
 }
 
 impl<V: Drop> ByNumber<V> {
-    /// Puts a value at a key, and gives the one that was there. Where no memory is found the map stays.
+    /// Inserts the value of a key, and returns the value before; none where the map lacked it.
+    ///
+    /// # Errors
+    ///
+    /// - `AllocError`: out of memory; the map is unchanged.
     pub fn insert(&mut self, key: u64, value: V) -> Result<Option<V>, AllocError>
         ensures before { IfOk result (λ before. before ≡ map.get self.old key) }
         ensures ok { OnOk result (self.new ≡ map.insert self.old key value) }

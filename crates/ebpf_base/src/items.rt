@@ -1,4 +1,4 @@
-//! A list of values, seen as that list.
+//! A list of values.
 
 ghost use Rattle.std.specs.Prelude.{◌≡◌, ◌<◌, ◌^◌, ◌↔◌, List, [], ◌∷◌, ◌++◌, length, OnOk, OnErr, IfOk, IsTrue, MatchOption, Ok, Err, slice_get, slice_set};
 ghost use Rattle.std.specs.Option.{option_copied, option_copied_mut};
@@ -16,7 +16,7 @@ use std::alloc::{AllocError, AllocFailed, Allocator, Global};
 use std::marker::Model;
 use std::{fmt, mem, slice};
 
-/// A list of values. Contracts see the list alone.
+/// A list of values. Contracts see the list alone, without its capacity.
 #[derive(Drop)]
 pub struct Items<T> {
     items: Vec<T>,
@@ -31,7 +31,7 @@ impl<T> Model for Items<T> {
 }
 
 impl<T> Items<T> {
-    /// The empty list, without memory.
+    /// Returns the empty list. The call allocates nothing.
     pub fn new(alloc: Global) -> Self
         ensures { result ≡ [] }
     {
@@ -40,42 +40,42 @@ impl<T> Items<T> {
         }
     }
 
-    /// The list that a `Vec` holds, without memory.
+    /// Returns the list with the values of a `Vec`. The call allocates nothing.
     pub fn from_vec(items: Vec<T>) -> Self
         ensures { result ≡ items.items }
     {
         Items { items }
     }
 
-    /// The list as a `Vec`, without memory.
+    /// Returns the list as a `Vec`. The call allocates nothing.
     pub fn into_vec(self) -> Vec<T>
         ensures { result.items ≡ self }
     {
         self.items
     }
 
-    /// The list, lent.
+    /// Returns the list as a slice.
     pub fn as_slice(&self) -> &[T]
         ensures { result.now ≡ self.now }
     {
         self.items.as_slice()
     }
 
-    /// The number of values.
+    /// Returns the number of values.
     pub fn len(&self) -> usize
         ensures { result ≡ length self.now }
     {
         self.items.len()
     }
 
-    /// Whether no value is there.
+    /// Returns whether the list is empty.
     pub fn is_empty(&self) -> bool
         ensures { IsTrue result ↔ (self.now ≡ []) }
     {
         self.items.is_empty()
     }
 
-    /// The values in order.
+    /// Returns an iterator over the values, in order.
     pub fn iter(&self) -> slice::Iter<'_, T>
         ensures rest { iter_rest result ≡ self.now }
         ensures fits { length (iter_rest result) < 2 ^ 64 }
@@ -85,14 +85,15 @@ impl<T> Items<T> {
         self.items.iter()
     }
 
-    /// The value at an index from 0 on.
+    /// Returns the value at an index from 0 on, borrowed; none past the last value.
     pub fn get(&self, at: usize) -> Option<&T>
         ensures { option_copied result ≡ slice_get self.now at }
     {
         self.items.get(at)
     }
 
-    /// The value at an index from 0 on, to be written. What is left there when the borrow ends is the value there.
+    /// Returns the value at an index from 0 on, borrowed mutably; none past the last value. The value at the end of the
+    /// borrow is the value in the list.
     pub fn get_mut(&mut self, at: usize) -> Option<&mut T>
         ensures* writes_back { sem 𝓛
             (LendsIf (the_row T.row) T.row self.entry result (slice_set self.old at) self.old) }
@@ -101,8 +102,11 @@ impl<T> Items<T> {
         self.items.get_mut(at)
     }
 
-    /// Replaces the value at an index from 0 on, which comes back. `Err` gives the value back
-    /// where none is there.
+    /// Replaces the value at an index from 0 on, and returns the value before.
+    ///
+    /// # Errors
+    ///
+    /// - The new value, given back: the index is past the last value.
     pub fn replace(&mut self, at: usize, value: T) -> Result<T, T>
         ensures { MatchOption (slice_get self.old at) ((result ≡ Err value) × (self.new ≡ self.old))
             (λ before. (result ≡ Ok before) × (self.new ≡ slice_set self.old at value)) }
@@ -113,14 +117,14 @@ impl<T> Items<T> {
         Ok(mem::replace(stored, value))
     }
 
-    /// The `Vec`, lent.
+    /// Returns the `Vec`, borrowed.
     pub fn as_vec(&self) -> &Vec<T>
         ensures { result.now.items ≡ self.now }
     {
         &self.items
     }
 
-    /// The `Vec`, to be written. What it holds when the borrow ends is the list.
+    /// Returns the `Vec`, borrowed mutably. Its values at the end of the borrow are the list.
     pub fn as_vec_mut(&mut self) -> &mut Vec<T>
         ensures* writes_back { sem 𝓛
             (Lends (the_row T.row) (vec_row T.row global_row ⟦<Global as Allocator>⟧) self.entry
@@ -130,7 +134,11 @@ impl<T> Items<T> {
         &mut self.items
     }
 
-    /// Adds a value at the end. A refused one comes back, and the list stays.
+    /// Adds a value at the end.
+    ///
+    /// # Errors
+    ///
+    /// - `AllocFailed` with the value: out of memory; the list is unchanged.
     pub fn push(&mut self, item: T) -> Result<(), AllocFailed<T>>
         ensures ok { OnOk result (self.new ≡ self.old ++ item ∷ []) }
         ensures err { OnErr result (self.new ≡ self.old) }
@@ -140,7 +148,11 @@ impl<T> Items<T> {
 }
 
 impl<T: Copy> Items<T> {
-    /// Adds values at the end. Where no memory is found the list stays.
+    /// Adds values at the end.
+    ///
+    /// # Errors
+    ///
+    /// - `AllocError`: out of memory; the list is unchanged.
     pub fn extend_from_slice(&mut self, more: &[T]) -> Result<(), AllocError>
         ensures ok { OnOk result (self.new ≡ self.old ++ more.now) }
         ensures err { OnErr result (self.new ≡ self.old) }
@@ -148,7 +160,11 @@ impl<T: Copy> Items<T> {
         self.items.extend_from_slice(more)
     }
 
-    /// A copy of the list.
+    /// Returns a copy of the list.
+    ///
+    /// # Errors
+    ///
+    /// - `AllocError`: out of memory.
     pub fn copied(&self) -> Result<Items<T>, AllocError>
         ensures { IfOk result (λ copy. copy ≡ self.now) }
     {

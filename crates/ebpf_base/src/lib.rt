@@ -1,4 +1,4 @@
-//! Small types that contracts see as texts, lists and finite maps, and the words on faults.
+//! Texts, lists, finite maps and numbers in either byte order, and the definitions about faults.
 //!
 //! Each kind of key has a map type of its own: a model cannot use the members of a type parameter, such as its order.
 #![tactic(auto)]

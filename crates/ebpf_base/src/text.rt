@@ -1,4 +1,4 @@
-//! A text, seen as its bytes.
+//! A UTF-8 text.
 
 ghost use Rattle.std.specs.Prelude.{◌≡◌, ℕ, List, [], length, IfOk, IsTrue, ◌↔◌, string_bytes, Some};
 ghost use Rattle.std.specs.Fmt.{debug_str};
@@ -23,7 +23,11 @@ impl Model for Text {
 }
 
 impl Text {
-    /// A copy of a text.
+    /// Returns a copy of a text.
+    ///
+    /// # Errors
+    ///
+    /// - `AllocError`: out of memory.
     pub fn from_str(alloc: Global, text: &str) -> Result<Text, AllocError>
         ensures { IfOk result (λ copy. copy ≡ text.now) }
     {
@@ -32,7 +36,7 @@ impl Text {
         })
     }
 
-    /// The empty text, without memory.
+    /// Returns the empty text. The call allocates nothing.
     pub fn empty(alloc: Global) -> Text
         ensures { result ≡ [] }
     {
@@ -41,42 +45,42 @@ impl Text {
         }
     }
 
-    /// The text that a `String` holds, without memory.
+    /// Returns the text of a `String`. The call allocates nothing.
     pub fn from_string(text: String) -> Text
         ensures { result ≡ string_bytes text }
     {
         Text { text }
     }
 
-    /// The text as a `String`, without memory.
+    /// Returns the text as a `String`. The call allocates nothing.
     pub fn into_string(self) -> String
         ensures { string_bytes result ≡ self }
     {
         self.text
     }
 
-    /// The text, lent.
+    /// Returns the text as a `&str`.
     pub fn as_str(&self) -> &str
         ensures { result.now ≡ self.now }
     {
         self.text.as_str()
     }
 
-    /// The length in bytes.
+    /// Returns the length in bytes.
     pub fn len(&self) -> usize
         ensures { result ≡ length self.now }
     {
         self.text.len()
     }
 
-    /// Whether no byte is there.
+    /// Returns whether the text is empty.
     pub fn is_empty(&self) -> bool
         ensures { IsTrue result ↔ (self.now ≡ []) }
     {
         self.text.is_empty()
     }
 
-    /// Whether this is the given text.
+    /// Returns whether this text equals `text`.
     pub fn is(&self, text: &str) -> bool
         ensures { IsTrue result ↔ (self.now ≡ text.now) }
     {
