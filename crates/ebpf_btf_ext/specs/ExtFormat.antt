@@ -1,4 +1,4 @@
--- The bytes of `.BTF.ext` (the kernel's Documentation/bpf/btf.rst, 4.2 ".BTF.ext section"; struct
+-- The fields of `.BTF.ext` in its bytes (the kernel's Documentation/bpf/btf.rst, 4.2; struct
 -- btf_ext_header, struct btf_ext_info_sec, and in include/uapi/linux/bpf.h struct bpf_core_relo).
 use Rattle.std.specs.Prelude.{ℕ, ◌+◌, ◌*◌, ◌/◌, List, [], ◌∷◌, map, length, Option, None, Result}
 use Rattle.std.specs.Prelude.{Ok, Err, nat_lt, not, ◌&&◌, ◌==◌, if◌then◌else◌}
@@ -30,7 +30,7 @@ ext_header_fault o bytes = first_of (
     ∷ (nat_lt (length bytes) (header_length o bytes), InvalidHeader)
     ∷ [])
 
--- where the header has the offset and length of func info, of line info, and of the CO-RE
+-- the offset in the header of the offset and length of func info, of line info, and of the CO-RE
 -- relocations
 abbrev pub func_part : ℕ
 func_part = 8
@@ -78,7 +78,7 @@ sec_name_off_at o bytes offset = word o bytes offset
 abbrev pub num_info_at : Endianness → List ℕ → ℕ → ℕ
 num_info_at o bytes offset = word o bytes (offset + 4)
 
--- where a section with records of a size ends
+-- the end of a section with entries of a size
 abbrev pub section_end : Endianness → List ℕ → ℕ → ℕ → ℕ
 section_end o bytes size offset = offset + 8 + size * num_info_at o bytes offset
 
@@ -136,7 +136,7 @@ core_relo_at bytes size offset number =
     }))
     (Err (InvalidRelocationKind (word Little bytes (offset + size * number + 12))))
 
--- all answers where none is a fault, else the first fault
+-- all values where no result is a fault, else the first fault
 abbrev pub all_ok : {X : Type 0} → List (Result X BtfError) → Result (List X) BtfError
 all_ok [] = Ok []
 all_ok (r ∷ rs) = if_ok r (λ x. if_ok (all_ok rs) (λ xs. Ok (x ∷ xs)))

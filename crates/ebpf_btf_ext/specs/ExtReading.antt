@@ -1,4 +1,6 @@
--- Func info and line info of `.BTF.ext`, by the names of sections.
+-- The contents of `.BTF.ext`, or the first fault of its bytes: func info and line info by section
+-- name, and the CO-RE relocations in order (the kernel's Documentation/bpf/btf.rst, 4.2 ".BTF.ext
+-- section").
 use Rattle.std.specs.Prelude.{ℕ, List, [], unwrap_or, zero, suc, ◌+◌, ◌-◌, ◌∷◌, Result, Ok, Err}
 use Rattle.std.specs.Prelude.{◌==◌, if◌then◌else◌, ◌≡◌, None}
 use Rattle.std.specs.FinMap.{FinMap, get, empty}
@@ -24,14 +26,14 @@ no_func_info = record { sec_name_offset = 0; num_info = 0; func_info = [] }
 abbrev pub no_line_info : LineSecInfo
 no_line_info = record { sec_name_offset = 0; num_info = 0; line_info = [] }
 
--- the func info or line info of a section, nothing where it is not named
+-- the func info or line info of a section, empty for a name without a section
 abbrev pub func_info_at : FinMap text_cmp FuncSecInfo → List ℕ → FuncSecInfo
 func_info_at sections name = unwrap_or (get sections name) no_func_info
 
 abbrev pub line_info_at : FinMap text_cmp LineSecInfo → List ℕ → LineSecInfo
 line_info_at sections name = unwrap_or (get sections name) no_line_info
 
--- ---- what the bytes of `.BTF.ext` give, and their first fault: part by part, and in a part
+-- ---- the contents of the bytes of `.BTF.ext`, and their first fault: part by part, and in a part
 -- section by section
 
 -- ---- one section, and the offset after it; its own faults come first, then those of its records
@@ -110,7 +112,7 @@ part_sections o bytes at read =
 
 -- ---- the three parts
 
--- of sections with equal names the later stands
+-- of sections with equal names the last one counts
 abbrev pub by_names : {S : Type 0} → Result (List (List ℕ × S)) BtfError
     → Result (FinMap text_cmp S) BtfError
 by_names sections = if_ok sections (λ all. Ok (put_all empty all))
@@ -146,9 +148,8 @@ core_relo_sections o bytes =
     (core_relo_section o bytes (record_size o bytes core_relo_part)
     (sections_end o bytes core_relo_part)))
 
--- what is read: func info and line info by the names of sections, the relocations of sections in
--- order, each after the offset of its section's name, and the sizes of the records of func info and
--- line info
+-- the contents: func info and line info by section name, the relocations of sections in order, each
+-- after the offset of its section's name, and the sizes of the entries of func info and line info
 pub record ExtInfo : Type 0 where
   pub func_info : FinMap text_cmp FuncSecInfo
   pub line_info : FinMap text_cmp LineSecInfo
@@ -169,11 +170,11 @@ read_ext o bytes strings =
       line_record_size = record_size o bytes line_part;
     })))))
 
--- ---- what the bytes of `.BTF.ext` spell (the kernel's Documentation/bpf/btf.rst, 4.2 ".BTF.ext
--- section"): three parts, each of sections one after the other
+-- ---- the contents as a relation (the kernel's Documentation/bpf/btf.rst, 4.2 ".BTF.ext section"):
+-- three parts, each of sections one after the other
 
--- A section stands from an offset up to the next one, inside its part, and has these records. They
--- have a size that is not below a least one.
+-- A section is from an offset up to the next one, inside its part, and has these entries. Their
+-- size is not below a minimum.
 pub record IsSectionAt {S : Type 0} (o : Endianness) (bytes : List ℕ) (least size end : ℕ)
     (records : ℕ → Result S BtfError) (offset next : ℕ) (s : S)
     : Type 0 where
@@ -199,7 +200,7 @@ pub record IsPart {S : Type 0} (o : Endianness) (bytes : List ℕ) (at least : �
       (records (record_size o bytes at)) (sections_start o bytes at) sections
 
 -- The header is sound, and the parts are these func info, line info and relocations; of sections of
--- func info or line info with equal names the later stands.
+-- func info or line info with equal names the last one counts.
 pub record SpellsExt (o : Endianness) (bytes strings : List ℕ) (ext : ExtInfo) : Type 0 where
   pub header : ext_header_fault o bytes ≡ None
   pub funcs : (sections : List (List ℕ × FuncSecInfo))

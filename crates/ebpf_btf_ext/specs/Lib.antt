@@ -1,6 +1,7 @@
 pub mod ExtFormat
 pub mod ExtReading
+pub mod Numbers
 pub mod RelocationKinds
 pub mod SectionNames
--- What only private contracts and proofs name.
+-- Definitions of private contracts and proofs.
 pub mod PrivateContracts

@@ -1,4 +1,4 @@
--- What contracts of private functions name and no public one.
+-- Definitions that only contracts of private functions name.
 use Rattle.std.specs.Prelude.{◌+◌, List, ◌++◌, Result, Ok, ◌≡◌, ◌≤◌, ℕ, length, ⊤, Option, Some}
 use Rattle.std.specs.Prelude.{None, Err, option_map, slice_get, if◌then◌else◌}
 use Rattle.ebpf_btf.specs.declared.error.BtfError.{BtfError}
@@ -19,8 +19,8 @@ use Rattle.ebpf_btf_ext.specs.SectionNames.{by_offsets}
 abbrev pub prepended : {X : Type 0} → List X → Result (List X) BtfError → Result (List X) BtfError
 prepended front more = if_ok more (λ xs. Ok (front ++ xs))
 
--- what a section's reading gives, with the offset of the name instead of the name; want of memory
--- aside
+-- the result of reading a section, with the offset of the name instead of the name; errors of
+-- memory aside
 abbrev pub GivesByOffset : {S : Type 0} → List ℕ → Result ((ℕ × S) × ℕ) BtfError
     → Result ((List ℕ × S) × ℕ) BtfError → Type 0
 GivesByOffset strings (Ok found) stated =
@@ -34,7 +34,7 @@ abbrev pub section_at : {S : Type 0} → List (ℕ × S) → Option ℕ → Opti
 section_at sections None = None
 section_at sections (Some index) = option_map (λ s. s.1) (slice_get sections index)
 
--- the index of each of these names is that of its section
+-- the index of each of these names is the index of its section
 pub record AreLastIndices {S : Type 0} (strings : List ℕ) (sections : List (ℕ × S))
     (indices : FinMap text_cmp (Option ℕ))
     : Type 0 where

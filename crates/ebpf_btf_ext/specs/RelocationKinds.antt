@@ -44,15 +44,15 @@ relocation_kind n =
     (if n == 10 then Some EnumVariantExists else
     (if n == 11 then Some EnumVariantValue else None)))))))))))
 
--- ---- the two tables beside each other
+-- ---- the two tables compared with each other
 
--- the kind of a relocation that a number has is the one of the number
+-- the relocation kind of a number has this number
 abbrev pub RelocationKindsByNumber : Type 0
 RelocationKindsByNumber =
     (n : ℕ) (kind : RelocationKind) → relocation_kind n ≡ Some kind
     → relocation_kind_number kind ≡ n
 
--- each of them is found by its number
+-- each kind is the kind of its number
 abbrev pub NumbersOfRelocationKinds : Type 0
 NumbersOfRelocationKinds =
     (kind : RelocationKind) → relocation_kind (relocation_kind_number kind) ≡ Some kind

@@ -1,4 +1,4 @@
--- Names of sections in .BTF.ext, and copies of them.
+-- The sections of `.BTF.ext` by the names at their offsets in the strings, and copies of the names.
 use Rattle.std.specs.Prelude.{ℕ, List, [], ◌∷◌, Result, Ok, Err, ◌≡◌}
 use Rattle.std.specs.FinMap.{FinMap, empty}
 use Rattle.std.specs.List.{flat_map, AllZip}
@@ -19,21 +19,21 @@ abbrev pub sections_with_names : {S : Type 0} → List ℕ → List (ℕ × S) �
 sections_with_names strings sections =
     flat_map (λ s. section_with_name s.1 (text_at strings s.0)) sections
 
--- of sections with equal names the later stands
+-- of sections with equal names the last one counts
 unfoldable pub by_offsets : {S : Type 0} → List ℕ → List (ℕ × S) → FinMap text_cmp S
 by_offsets strings sections = put_all empty (sections_with_names strings sections)
 
 -- ---- the indices of the last sections of some names
 
--- ---- names of sections that are copied out of the strings that they stand in
+-- ---- copies of section names out of the strings
 
--- the text at an offset of the strings stands at another one of the names
+-- the text at an offset of the strings is at another offset of the names
 pub record IsCopied (strings names : List ℕ) (offset copied : ℕ) : Type 0 where
   pub text : List ℕ
   pub was : text_at strings offset ≡ Ok text
   pub is : text_at names copied ≡ Ok text
 
--- the names of the sections stand at these offsets of the names
+-- the names of the sections are at these offsets of the names
 abbrev pub AreCopied : {S : Type 0} → List ℕ → List ℕ → List (ℕ × S) → List ℕ → Type 0
 AreCopied strings names sections offsets =
     AllZip (λ s copied. IsCopied strings names s.0 copied) sections offsets

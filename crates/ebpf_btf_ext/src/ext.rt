@@ -1,4 +1,4 @@
-//! `.BTF.ext`, read.
+//! Reads `.BTF.ext`.
 
 ghost use Rattle.std.specs.Prelude.{◌≡◌, length, IfOk, Ok};
 ghost use Rattle.ebpf_base.specs.Faults.{Gives};
@@ -27,12 +27,12 @@ const RELOCATION_PART: usize = 24;
 
 /// The func info and line info of `.BTF.ext`, and its CO-RE relocations.
 ///
-/// Contracts see a record: two finite maps, by the names of sections, a list of relocations, and two sizes.
+/// Contracts see a record: two finite maps by section name, a list of relocations, and two sizes.
 #[derive(Debug, Drop)]
 pub struct BtfExt {
-    /// Func info, by the names of their sections.
+    /// Func info by section name.
     pub func_info: FuncInfo,
-    /// Line info, by the names of their sections.
+    /// Line info by section name.
     pub line_info: LineInfo,
     pub(crate) relocations: Items<(u32, Items<Relocation>)>,
     pub(crate) func_info_rec_size: u32,
@@ -65,7 +65,7 @@ impl Model for BtfExt {
     } };
 }
 
-/// The three parts, read.
+/// Reads the three parts.
 #[tactic(auto, unfolding(crate::specs::ExtReading::read_ext, crate::specs::ExtReading::func_sections, crate::specs::ExtReading::line_sections, crate::specs::ExtReading::core_relo_sections))]
 fn read_parts(
     alloc: Global,
@@ -92,18 +92,25 @@ fn read_parts(
 }
 
 impl BtfExt {
-    /// What `.BTF.ext` has: three parts, of func info, of line info and of CO-RE relocations. Each has the size of
-    /// its records and then sections, each with the offset of its name, the number of its records and the records.
-    /// A record may be longer than what is read of it. Numbers are read in the order that is given, but those of
-    /// CO-RE relocations, which are little endian in each file. Names of sections are read in the strings of `btf`;
-    /// of sections with equal names the later stands.
+    /// Reads the three parts of `.BTF.ext`: func info, line info and CO-RE relocations.
     ///
-    /// Faults come part by part in this order, and in a part section by section. `InvalidHeader`: another magic
-    /// than 0xeb9f, a header length below 24, or fewer bytes than it says. `InvalidInfo`: a part of 1 to 3 bytes,
-    /// a part that goes past the end of the bytes, a section that goes past the end of its part, or records
-    /// shorter than 8 bytes (functions) or 16 bytes (lines, relocations) in a section that has some.
-    /// `InvalidStringOffset`: a section's name of func info or line info can't be read. `InvalidRelocationKind`: a
-    /// relocation whose kind is past 11. `OutOfMemory` where memory is refused.
+    /// A part has the size of its entries and then sections, each with the offset of its name, the number of its entries
+    /// and the entries. An entry may be longer than the fields that are read. Numbers are read in the given byte order,
+    /// except for CO-RE relocations, which are little-endian in each file. Section names are in the strings of `btf`; the
+    /// last of several sections with one name counts.
+    ///
+    /// # Errors
+    ///
+    /// The parts are checked in this order, and each part section by section. The first fault is the error:
+    ///
+    /// - `InvalidHeader`: the bytes are fewer than 24 or than the header length, the magic is not 0xeb9f, or the header
+    ///   length is below 24.
+    /// - `InvalidInfo`: a part has 1 to 3 bytes or runs past the end of the bytes; a section runs past the end of its part;
+    ///   or the entries of a section with entries are shorter than 8 bytes (func info) or 16 bytes (line info,
+    ///   relocations).
+    /// - `InvalidStringOffset`: the name of a section of func info or line info cannot be read.
+    /// - `InvalidRelocationKind`: the kind of a relocation is past 11.
+    /// - `OutOfMemory`: out of memory.
     #[tactic(auto, using(crate::proofs::ExtSections::ext_found, crate::proofs::ExtSections::ext_only))]
     pub fn parse(
         alloc: Global,
@@ -121,22 +128,22 @@ impl BtfExt {
         read_parts(alloc, endianness, data, btf)
     }
 
-    /// The CO-RE relocations of the sections in order, each list after the offset of its section's name in the
-    /// strings.
+    /// Returns the CO-RE relocations by section, in order: for each section the offset of its name in the strings, and the
+    /// list of its relocations.
     pub fn relocations(&self) -> &[(u32, Items<Relocation>)]
         ensures { result.now ≡ self.now.relocations }
     {
         self.relocations.as_slice()
     }
 
-    /// The size of a func info record in bytes, 0 where the part is empty.
+    /// Returns the size of a func info entry in bytes; 0 where the part is empty.
     pub fn func_info_rec_size(&self) -> u32
         ensures { result ≡ self.now.func_record_size }
     {
         self.func_info_rec_size
     }
 
-    /// The size of a line info record in bytes, 0 where the part is empty.
+    /// Returns the size of a line info entry in bytes; 0 where the part is empty.
     pub fn line_info_rec_size(&self) -> u32
         ensures { result ≡ self.now.line_record_size }
     {
@@ -144,7 +151,7 @@ impl BtfExt {
     }
 }
 
-/// A copy of the relocations of all sections.
+/// Returns a copy of the relocations of all sections.
 #[tactic(auto, using(ebpf_btf::proofs::Copies::same_list))]
 fn copy_relocations(
     sections: &Items<(u32, Items<Relocation>)>,

@@ -1,4 +1,4 @@
-//! Func info and line info of `.BTF.ext`, and copies of them.
+//! Func info and line info of `.BTF.ext`, and their copies.
 
 ghost use Rattle.std.specs.Prelude.{◌≡◌, ℕ, List};
 
@@ -7,29 +7,29 @@ use ebpf_base::Items;
 use ebpf_btf::rows::Row;
 use std::alloc::AllocError;
 
-/// A func info record. It lies in memory as the kernel's `struct bpf_func_info`.
+/// A func info entry, with the memory layout of the kernel's `struct bpf_func_info`.
 #[repr(C)]
 #[allow(non_camel_case_types)]
 #[derive(Clone, Copy, Debug, PartialEq, Eq)]
 pub struct bpf_func_info {
-    /// The index of the function's first slot of 8 bytes in its section.
+    /// The index of the function's first slot in its section; a slot has 8 bytes.
     pub insn_off: u32,
     /// The id of the function's type.
     pub type_id: u32,
 }
 
-/// A line info record. It lies in memory as the kernel's `struct bpf_line_info`.
+/// A line info entry, with the memory layout of the kernel's `struct bpf_line_info`.
 #[repr(C)]
 #[allow(non_camel_case_types)]
 #[derive(Clone, Copy, Debug, PartialEq, Eq)]
 pub struct bpf_line_info {
-    /// The index of the line's first slot of 8 bytes in its section.
+    /// The index of the line's first slot in its section; a slot has 8 bytes.
     pub insn_off: u32,
     /// The offset of the file's name in the strings.
     pub file_name_off: u32,
     /// The offset of the line's text in the strings.
     pub line_off: u32,
-    /// The number of the line in bits 10 to 31, that of the column in bits 0 to 9.
+    /// The line number in bits 10 to 31, and the column number in bits 0 to 9.
     pub line_col: u32,
 }
 
@@ -79,25 +79,25 @@ impl Clone for LineSecInfo {
     }
 }
 
-/// Func info, by the names of their sections. Contracts see a finite map.
+/// Func info by section name. Contracts see a finite map.
 pub type FuncInfo = SectionsByName<FuncSecInfo>;
 
-/// Line info, by the names of their sections. Contracts see a finite map.
+/// Line info by section name. Contracts see a finite map.
 pub type LineInfo = SectionsByName<LineSecInfo>;
 
-/// What a section has in a part of `.BTF.ext`: its func info or its line info.
+/// The info of a section in a part of `.BTF.ext`: its func info or its line info.
 pub trait SectionInfo: Clone + Drop {
-    /// One of its records.
+    /// An info entry.
     type Record: Row + Drop;
 
-    /// What a section has with the offset of its name, the number of its records and the records.
+    /// The info of a section with the offset of its name, the number of its entries and the entries.
     ghost info_with: { ℕ → ℕ → List Self.Record → Self };
 
-    /// What a section has with the offset of its name, the number of its records and the records.
+    /// Returns the info of a section with the offset of its name, the number of its entries and the entries.
     fn with(sec_name_offset: u32, num_info: u32, records: Items<Self::Record>) -> Self
         ensures { result ≡ info_with sec_name_offset num_info records };
 
-    /// A copy is the same.
+    /// The law that a copy equals the original.
     ghost same_copy: { (info copy : Self) → Self.is_clone info copy → copy ≡ info };
 }
 

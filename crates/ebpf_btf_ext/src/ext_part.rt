@@ -1,4 +1,4 @@
-//! The header of `.BTF.ext`, its parts, and their sections, read from bytes.
+//! Reads the header of `.BTF.ext`, its parts, and their sections.
 
 ghost use Rattle.std.specs.Prelude.{◌≡◌, ◌+◌, ◌-◌, ◌*◌, ◌≤◌, ◌<◌, length, IfOk};
 ghost use Rattle.ebpf_base.specs.Faults.{fault_of, Gives};
@@ -17,16 +17,16 @@ use ebpf_btf::rows::{Row, read_rows};
 use ebpf_btf::{Btf, BtfError, Endianness};
 use std::alloc::Global;
 
-/// What `.BTF.ext` begins with.
+/// The magic of `.BTF.ext`, its first two bytes (BTF_MAGIC).
 const MAGIC: u16 = 0xeb9f;
 
-/// The least length of the header in bytes.
+/// The minimum length of the header in bytes.
 const HEADER_LENGTH: usize = 24;
 
-/// The length in bytes of what a section begins with: the offset of its name and the number of its records.
+/// The length of the head of a section in bytes: the offset of its name and the number of its entries.
 const SECTION_HEAD: usize = 8;
 
-/// Where a part's sections begin and end, and the size of their records in bytes.
+/// The start and end of the sections of a part, and the size of their entries, in bytes.
 #[derive(Clone, Copy)]
 pub struct Part {
     pub offset: usize,
@@ -34,7 +34,7 @@ pub struct Part {
     pub record_size: u32,
 }
 
-/// What a section begins with, and the offset after the section.
+/// The head of a section, and the offset after the section.
 #[derive(Clone, Copy)]
 struct SectionHead {
     name_offset: u32,
@@ -42,7 +42,11 @@ struct SectionHead {
     next: usize,
 }
 
-/// The length of the header, which is inside the bytes.
+/// Returns the length of the header in bytes; the header is inside `bytes`.
+///
+/// # Errors
+///
+/// - `InvalidHeader`: the header is cut, or has another magic than 0xeb9f or a length below 24.
 #[tactic(auto, unfolding(crate::specs::ExtFormat::ext_header_fault, ebpf_btf::specs::Reading::header_length, ebpf_btf::specs::Reading::magic))]
 pub fn read_header_length(order: Endianness, bytes: &[u8]) -> Result<usize, BtfError>
     ensures fault { fault_of result ≡ ext_header_fault order bytes.now }
@@ -59,7 +63,11 @@ pub fn read_header_length(order: Endianness, bytes: &[u8]) -> Result<usize, BtfE
     Ok(header_length)
 }
 
-/// The part whose offset and length stand at an offset of the header.
+/// Returns the part whose offset and length are at an offset of the header.
+///
+/// # Errors
+///
+/// - `InvalidInfo`: the part has 1 to 3 bytes, or runs past the end of the bytes.
 #[tactic(auto, unfolding(crate::specs::ExtFormat::part_fault, crate::specs::ExtFormat::part_length, crate::specs::ExtFormat::part_start, crate::specs::ExtFormat::record_size, crate::specs::ExtFormat::sections_start, crate::specs::ExtFormat::sections_end))]
 pub fn read_part(
     order: Endianness,
@@ -99,8 +107,11 @@ pub fn read_part(
     })
 }
 
-/// What the section at an offset begins with. `InvalidInfo` where the section goes past the end of its part, or has
-/// records that are shorter than `least` bytes.
+/// Returns the head of the section at an offset.
+///
+/// # Errors
+///
+/// - `InvalidInfo`: the section runs past the end of its part, or has entries that are shorter than `least` bytes.
 #[tactic(auto, unfolding(crate::specs::ExtFormat::info_sec_fault))]
 fn read_section_head(
     order: Endianness,
@@ -139,7 +150,7 @@ fn read_section_head(
     })
 }
 
-/// The length of an instruction slot in bytes; `bpf_insn::SIZE` lies in a crate above this one.
+/// The length of a slot in bytes; `bpf_insn::SIZE` is in a crate above this one.
 const INSN_SIZE: u32 = 8;
 
 impl Row for bpf_func_info {
@@ -172,7 +183,8 @@ impl Row for bpf_line_info {
     }
 }
 
-/// The relocation with a number, of those of a size from `offset` on. Its numbers are little endian in each file.
+/// Returns the relocation with an index, of the relocations of a size from `offset` on. Relocations are little-endian in
+/// each file.
 #[tactic(auto, unfolding(crate::specs::ExtFormat::core_relo_at))]
 fn read_relocation(
     bytes: &[u8],
@@ -194,8 +206,12 @@ fn read_relocation(
     })
 }
 
-/// The relocations, `count` of them of a size from `offset` on. `InvalidRelocationKind` where the kind of one is
-/// none, of the first such.
+/// Returns `count` relocations of a size from `offset` on.
+///
+/// # Errors
+///
+/// - `InvalidRelocationKind`: the kind of a relocation is past 11; the first such kind.
+/// - `OutOfMemory`: out of memory.
 #[tactic(auto, using(ebpf_btf::proofs::InOrder::record_inside))]
 fn read_relocations(
     alloc: Global,
@@ -215,16 +231,16 @@ fn read_relocations(
     Ok(Items::from_vec(items))
 }
 
-/// The least length of a func info record in bytes.
+/// The minimum length of a func info entry in bytes.
 const FUNC_RECORD: u32 = 8;
 
-/// The least length of a line info record in bytes.
+/// The minimum length of a line info entry in bytes.
 const LINE_RECORD: u32 = 16;
 
-/// The least length of a relocation in bytes.
+/// The minimum length of a relocation in bytes.
 const RELOCATION: u32 = 16;
 
-/// The offset of the name of the section at an offset, its func info or line info, and the offset after it.
+/// Returns the name offset and the func info or line info of the section at an offset, and the offset after the section.
 #[tactic(auto, unfolding(crate::specs::ExtReading::checked_section))]
 fn read_info_section<S: SectionInfo>(
     alloc: Global,
@@ -251,8 +267,8 @@ fn read_info_section<S: SectionInfo>(
     Ok(((head.name_offset, info), head.next))
 }
 
-/// The func info or line info of a part, whose records have at least so many bytes, by the names of its sections; of those
-/// with equal names the later.
+/// Returns the func info or line info of a part by section name; the last of several sections with one name counts. Entries
+/// have at least `least` bytes.
 fn read_info_sections<S: SectionInfo>(
     alloc: Global,
     order: Endianness,
@@ -280,7 +296,7 @@ fn read_info_sections<S: SectionInfo>(
     Ok(SectionsByName::new(alloc, btf.strings(), sections)?)
 }
 
-/// The func info of a part, by the names of its sections; of those with equal names the later.
+/// Returns the func info of a part by section name; the last of several sections with one name counts.
 #[tactic(auto, unfolding(crate::specs::ExtReading::named_func_info, crate::specs::ExtFormat::func_infos))]
 pub fn read_func_sections(
     alloc: Global,
@@ -300,7 +316,7 @@ pub fn read_func_sections(
     read_info_sections(alloc, order, bytes, btf, part, FUNC_RECORD)
 }
 
-/// The line info of a part, by the names of its sections; of those with equal names the later.
+/// Returns the line info of a part by section name; the last of several sections with one name counts.
 #[tactic(auto, unfolding(crate::specs::ExtReading::named_line_info, crate::specs::ExtFormat::line_infos))]
 pub fn read_line_sections(
     alloc: Global,
@@ -320,7 +336,7 @@ pub fn read_line_sections(
     read_info_sections(alloc, order, bytes, btf, part, LINE_RECORD)
 }
 
-/// The offset of a section's name, its relocations, and the offset after the section.
+/// Returns the name offset and the relocations of a section, and the offset after the section.
 #[tactic(auto, unfolding(crate::specs::ExtReading::checked_section, crate::specs::ExtReading::section_core_relos))]
 fn read_relocation_section(
     alloc: Global,
@@ -341,7 +357,7 @@ fn read_relocation_section(
     Ok(((head.name_offset, relocations), head.next))
 }
 
-/// The sections of a part, in order.
+/// Returns the sections of relocations of a part, in order.
 pub fn read_relocation_sections(
     alloc: Global,
     order: Endianness,

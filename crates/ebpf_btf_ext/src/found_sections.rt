@@ -1,4 +1,4 @@
-//! Sections by their names: those of some names found before, and the names copied out of the strings that they stand in.
+//! Sections by name: an index of some names, and copies of the section names.
 
 ghost use Rattle.std.specs.Prelude.{◌≡◌, ◌++◌, length, false, IfOk, IfSome, OnOk, [], unwrap_or};
 ghost use Rattle.std.specs.Option.{option_copied};
@@ -14,7 +14,7 @@ use ebpf_btf::strings::{first_zero, is_text_at, near_bytes, read_text};
 use std::alloc::{AllocError, Global};
 use std::marker::Model;
 
-/// These names, each without an index, and the length of the longest.
+/// Returns the names, each without an index, and the length of the longest name.
 fn unset_indices(
     alloc: Global,
     names: &[&str],
@@ -30,7 +30,7 @@ fn unset_indices(
     Ok((indices, longest))
 }
 
-/// Sets the index of a name, where the name is among these.
+/// Sets the index of a name, where the name is one of the map's.
 #[tactic(auto, unfolding(crate::specs::PrivateContracts::with_index))]
 fn set_index(indices: &mut ByName<Option<usize>>, name: &str, index: usize)
     ensures { indices.new ≡ with_index indices.old name.now index }
@@ -38,7 +38,7 @@ fn set_index(indices: &mut ByName<Option<usize>>, name: &str, index: usize)
     let _ = indices.replace(name, Some(index));
 }
 
-/// Refuses where memory was refused, and for no other fault.
+/// Returns an error where memory is out, and ignores other errors.
 fn unless_memory(error: BtfError) -> Result<(), AllocError>
     ensures { OnOk result (is_btf_memory error ≡ false) }
 {
@@ -48,8 +48,8 @@ fn unless_memory(error: BtfError) -> Result<(), AllocError>
     }
 }
 
-/// Sets the index of the section whose name is at an offset, where the name is among these. Of one that is none of
-/// these no more is looked at than the longest of them has.
+/// Sets the index of the section whose name is at an offset, where the name is one of the map's. It reads no more of
+/// another name than the longest of these names has.
 fn look_at(
     alloc: Global,
     indices: &mut ByName<Option<usize>>,
@@ -71,7 +71,7 @@ fn look_at(
     Ok(())
 }
 
-/// The indices of the last sections of these names.
+/// Returns the index of the last section of each name.
 fn find_indices<S>(
     alloc: Global,
     strings: &[u8],
@@ -87,7 +87,7 @@ fn find_indices<S>(
     Ok(indices)
 }
 
-/// The section at an index.
+/// Returns the section at an index.
 fn section_at<S>(sections: &[(u32, S)], index: Option<usize>) -> Option<&S>
     ensures { option_copied result ≡ section_at sections.now index }
 {
@@ -96,8 +96,7 @@ fn section_at<S>(sections: &[(u32, S)], index: Option<usize>) -> Option<&S>
     Some(section)
 }
 
-/// Sections, each with the offset of its name in some strings, of which those of some names were found before.
-/// Contracts see a finite map, by their names.
+/// Sections by name, with an index of some names. Contracts see a finite map by section name.
 #[derive(Drop)]
 pub struct FoundSections<'e, S> {
     strings: &'e [u8],
@@ -119,7 +118,7 @@ impl<'e, S> Model for FoundSections<'e, S> {
 }
 
 impl<'e, S> FoundSections<'e, S> {
-    /// Sections whose names are at offsets of the strings; of those with equal names the later stands.
+    /// Returns the sections whose names are at offsets of the strings; the last of several sections with one name counts.
     pub(crate) fn gather(
         alloc: Global,
         strings: &'e [u8],
@@ -136,7 +135,7 @@ impl<'e, S> FoundSections<'e, S> {
         })
     }
 
-    /// The section with a name. Where the name is none of those that were given, it is looked for anew.
+    /// Returns the section with a name; none where no section has it. A name outside the index costs a search.
     pub fn get(&self, name: &str) -> Option<&'e S>
         ensures { option_copied result ≡ map.get self.now name.now }
     {
@@ -147,8 +146,7 @@ impl<'e, S> FoundSections<'e, S> {
     }
 }
 
-/// The last of some sections with a name. Of each section's name at most as many bytes are looked at as this one has,
-/// and one.
+/// Returns the last section with a name. It reads at most one byte more of each section's name than `name` has.
 pub fn last_named<'s, S>(strings: &[u8], sections: &'s [(u32, S)], name: &str) -> Option<&'s S>
     ensures { option_copied result ≡ map.get (by_offsets strings.now sections.now) name.now }
 {
@@ -162,7 +160,7 @@ pub fn last_named<'s, S>(strings: &[u8], sections: &'s [(u32, S)], name: &str) -
     last
 }
 
-/// What is reserved for the name of a section in bytes.
+/// The number of bytes that are reserved for the name of a section.
 const NAME: usize = 32;
 
 /// The names of sections, each with a zero byte after it, and the offset of each.
@@ -172,9 +170,8 @@ struct CopiedNames {
     offsets: Vec<u32>,
 }
 
-/// The offset that the name at an offset of the strings gets behind the names so far, and its bytes with the zero
-/// byte. `None` where it can't be read, or where the names would be longer than the strings; no more of it is looked at
-/// than would fit.
+/// Returns the new offset of the name at an offset of the strings, and its bytes with the zero byte; none where the name
+/// cannot be read, or the names become longer than the strings. It reads no more of the name than fits.
 #[tactic(auto, using(crate::proofs::SectionNames::one_copied))]
 fn next_name<'s>(strings: &'s [u8], names: &[u8], offset: u32) -> Option<(u32, &'s [u8])>
     ensures { IfSome result (λ n. IsCopied strings.now (names.now ++ n.1.now) offset n.0) }
@@ -188,7 +185,7 @@ fn next_name<'s>(strings: &'s [u8], names: &[u8], offset: u32) -> Option<(u32, &
     Some((copied, &near[..end + 1]))
 }
 
-/// The names of these sections. `None` where one can't be read, or where they are longer than the strings.
+/// Returns the names of the sections; none where a name cannot be read, or the names are longer than the strings.
 fn copy_names<S>(
     alloc: Global,
     strings: &[u8],
@@ -210,7 +207,7 @@ fn copy_names<S>(
     Ok(Some(CopiedNames { names, offsets }))
 }
 
-/// The sections with these offsets instead of theirs.
+/// Returns the sections with these name offsets.
 fn with_offsets<S>(sections: Items<(u32, S)>, offsets: &[u32]) -> Items<(u32, S)>
     requires { length offsets.now ≡ length sections }
     ensures { result ≡ with_offsets offsets.now sections }
@@ -222,12 +219,12 @@ fn with_offsets<S>(sections: Items<(u32, S)>, offsets: &[u32]) -> Items<(u32, S)
     Items::from_vec(sections)
 }
 
-/// Sections, each with the offset of its name in strings that they share. Contracts see a finite map, by their names.
+/// Sections by name. Contracts see a finite map by section name.
 #[derive(Debug, Drop)]
 pub struct SectionsByName<S> {
     strings: Items<u8>,
     sections: Items<(u32, S)>,
-    /// The memory that empty lists name.
+    /// The allocator of empty lists.
     alloc: Global,
 }
 
@@ -244,8 +241,8 @@ impl<S> Model for SectionsByName<S> {
 }
 
 impl<S: Drop> SectionsByName<S> {
-    /// Sections whose names are at offsets of these strings. Of the strings the names alone are copied; all of them
-    /// where the names together would be longer, or where one can't be read.
+    /// Returns the sections whose names are at offsets of these strings. It copies the names alone, or all strings where the
+    /// names together are longer or one cannot be read.
     #[tactic(auto, using(crate::proofs::SectionNames::same_sections))]
     pub(crate) fn new(
         alloc: Global,
@@ -271,7 +268,11 @@ impl<S: Drop> SectionsByName<S> {
 }
 
 impl<S: SectionInfo> SectionsByName<S> {
-    /// A copy of what a section has; where there is none an empty list, with the count and the offset 0.
+    /// Returns a copy of the info of a section; for a name without a section an empty list, with count 0 and offset 0.
+    ///
+    /// # Errors
+    ///
+    /// - `AllocError`: out of memory.
     pub fn get(&self, name: &str) -> Result<S, AllocError>
         ensures { IfOk result (λ info.
             info ≡ unwrap_or (map.get self.now name.now) (S.info_with 0 0 [])) }
@@ -284,15 +285,19 @@ impl<S: SectionInfo> SectionsByName<S> {
 }
 
 impl<S> SectionsByName<S> {
-    /// What a section has, lent.
+    /// Returns the info of a section, borrowed; none where no section has the name.
     pub fn section(&self, name: &str) -> Option<&S>
         ensures { option_copied result ≡ map.get self.now name.now }
     {
         last_named(self.strings.as_slice(), self.sections.as_slice(), name)
     }
 
-    /// What all sections have, where the sections of these names are found in one pass, in which of each section's name
-    /// no more is looked at than the longest of them has. `Err` where memory is refused.
+    /// Returns the sections with an index of these names, which one pass makes. The pass reads no more of each section's
+    /// name than the longest of these names has.
+    ///
+    /// # Errors
+    ///
+    /// - `AllocError`: out of memory.
     pub fn with_found(
         &self,
         alloc: Global,
@@ -309,7 +314,7 @@ impl<S> SectionsByName<S> {
     }
 }
 
-/// A copy of sections.
+/// Returns a copy of sections.
 #[tactic(auto, using(ebpf_btf::proofs::Copies::same_list))]
 fn copy_sections<S: SectionInfo>(sections: &Items<(u32, S)>) -> Result<Items<(u32, S)>, AllocError>
     ensures { IfOk result (λ copy. copy ≡ sections.now) }

@@ -1,8 +1,8 @@
-//! What holds of CO-RE relocations.
+//! Laws about CO-RE relocations.
 
 ghost use Rattle.ebpf_btf_ext.specs.RelocationKinds.{NumbersOfRelocationKinds, RelocationKindsByNumber};
 
-/// The table of kinds by their numbers and that of numbers by their kinds are one.
+/// Proves that the table of relocation kinds by number and the table of numbers by kind agree.
 pub fn relocation_kinds_have_numbers()
     ensures kinds { RelocationKindsByNumber }
     ensures numbers { NumbersOfRelocationKinds }

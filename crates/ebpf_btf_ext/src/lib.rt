@@ -1,4 +1,5 @@
-//! `.BTF.ext` of an eBPF object file: func info, line info and the CO-RE relocations.
+//! Reads `.BTF.ext` of an eBPF object: func info, line info and the CO-RE relocations (the kernel's
+//! Documentation/bpf/btf.rst, 4.2 ".BTF.ext section").
 #![tactic(auto)]
 
 mod ext;

@@ -7,38 +7,40 @@ ghost use Rattle.ebpf_btf.specs.declared.error.BtfError.TheVariants.{InvalidRelo
 
 use ebpf_btf::BtfError;
 
-/// The kind of a CO-RE relocation, by what it takes of its type, field or variant, in the order of the numbers that `.BTF.ext` gives
-/// them (`enum bpf_core_relo_kind`): `FieldByteOffset` is 0, `EnumVariantValue` is 11.
+/// The kind of a CO-RE relocation: the value that it takes from its type, field or variant.
+///
+/// The kinds are in the order of their numbers in `.BTF.ext` (`enum bpf_core_relo_kind`): `FieldByteOffset` is 0,
+/// `EnumVariantValue` is 11.
 #[derive(Clone, Copy, Debug, PartialEq, Eq)]
 pub enum RelocationKind {
     /// The offset of a field in bytes.
     FieldByteOffset,
     /// The size of a field in bytes.
     FieldByteSize,
-    /// Whether a field is there.
+    /// Whether the field exists (1) or not (0).
     FieldExists,
-    /// Whether a field is signed.
+    /// Whether the field is signed (1) or not (0).
     FieldSigned,
-    /// By how much a field in 64 bits is shifted left, so that its highest bit is the highest.
+    /// The left shift, in bits, that moves the field's highest bit to bit 63.
     FieldLShift64,
-    /// By how much it is then shifted right.
+    /// The right shift, in bits, that follows the left shift.
     FieldRShift64,
-    /// The id of the type itself.
+    /// The id of the local type.
     TypeIdLocal,
-    /// The id of the type that is found.
+    /// The id of the kernel's type.
     TypeIdTarget,
-    /// Whether a type is there.
+    /// Whether the type exists (1) or not (0).
     TypeExists,
     /// The size of a type in bytes.
     TypeSize,
-    /// Whether a variant of an enumeration is there.
+    /// Whether the variant of an enumeration exists (1) or not (0).
     EnumVariantExists,
     /// The value of a variant of an enumeration.
     EnumVariantValue,
 }
 
 impl RelocationKind {
-    /// The number in `.BTF.ext`.
+    /// Returns the number of the kind in `.BTF.ext`, 0 to 11.
     #[tactic(auto, unfolding(crate::specs::RelocationKinds::relocation_kind_number))]
     pub fn number(self) -> u32
         ensures { result ≡ relocation_kind_number self }
@@ -53,7 +55,11 @@ impl TryFrom<u32> for RelocationKind {
     ghost try_from_gives = { λ number result.
         result ≡ ok_or (relocation_kind number) (InvalidRelocationKind number) };
 
-    /// The kind of a number. `InvalidRelocationKind` past 11.
+    /// Returns the kind with a number.
+    ///
+    /// # Errors
+    ///
+    /// - `InvalidRelocationKind`: the number is past 11.
     #[tactic(auto, unfolding(crate::specs::RelocationKinds::relocation_kind))]
     fn try_from(value: u32) -> Result<RelocationKind, BtfError> {
         Ok(match value {
@@ -81,10 +87,10 @@ pub struct Relocation {
     pub insn_off: u32,
     /// The id of the local type.
     pub type_id: u32,
-    /// The offset in the strings of the access string.
+    /// The offset of the access string in the strings.
     pub access_str_off: u32,
-    /// The kind.
+    /// The kind of the relocation.
     pub kind: RelocationKind,
-    /// The index among the relocations of its section, from 0 on.
+    /// The index of the relocation in its section of `.BTF.ext`, from 0 on.
     pub number: usize,
 }
