@@ -1,6 +1,5 @@
--- The types that a local type may stand for, by kind and name (CO-RE, "Compile Once, Run
--- Everywhere": the kernel's tools/lib/bpf, bpf_core_find_cands), and what an index of types was
--- made for.
+-- The candidates of a local type are the kernel's types of its kind with its essential name (CO-RE,
+-- "Compile Once, Run Everywhere": the kernel's tools/lib/bpf, bpf_core_find_cands).
 use Rattle.std.specs.Prelude.{◌≡◌, ℕ, ◌<◌, Bool, true, false, All, List, length, map, filter}
 use Rattle.std.specs.Prelude.{slice_get, Option, Some, None, Result, Ok, Err, ◌&&◌, ◌||◌}
 use Rattle.std.specs.Prelude.{if◌then◌else◌, ◌/◌, ◌%◌, ◌^◌, slice_index_or, ◌==◌}
@@ -90,8 +89,7 @@ CandidatesOfBothIncrease =
 abbrev pub is_among_kinds : List BtfKind → BtfKind → Bool
 is_among_kinds kinds kind = list_any (λ k. kind_number k == kind_number kind) kinds
 
--- the same of kinds that are given as a list which tells, at each kind's number, whether it is one
--- of them
+-- whether a kind is in a set, a list that says at each kind's number whether the kind is in it
 abbrev pub has_kind : List Bool → BtfKind → Bool
 has_kind kinds kind = slice_index_or kinds (kind_number kind) false
 
@@ -101,8 +99,8 @@ has_kind kinds kind = slice_index_or kinds (kind_number kind) false
 unfoldable pub name_hash : List ℕ → ℕ
 name_hash name = fold_hasher.finish (fold_hasher.write fold_hasher.initial name) / 2 ^ 32
 
--- whether a hash is marked: its mark stands at its remainder by 16384, so that hashes of one
--- remainder share it, and past the end all are marked
+-- whether a hash is marked: its mark is at its remainder by 16384, so that hashes of one remainder
+-- share it, and past the end all are marked
 abbrev pub is_hash_marked : List Bool → ℕ → Bool
 is_hash_marked marks hash = slice_index_or marks (hash % 16384) true
 
@@ -110,7 +108,7 @@ is_hash_marked marks hash = slice_index_or marks (hash % 16384) true
 abbrev pub is_name_marked : List Bool → List ℕ → Bool
 is_name_marked marks name = is_hash_marked marks (name_hash (essential_name name))
 
--- so are those of the types of some kinds that have ids below a number
+-- the essential names of the types of some kinds with ids below a number are marked
 abbrev pub NamesBelowAreMarked : List Bool → List Bool → TypeInfo → ℕ → Type 0
 NamesBelowAreMarked marks kinds info n =
     (id : ℕ) (t : BtfType) (name : List ℕ) → id < n → slice_get info.types id ≡ Some t

@@ -1,6 +1,5 @@
--- Which types of an object fit which of a kernel. These are definitions of this library, after what
--- bpf_core_fields_are_compat and bpf_core_types_are_compat of the kernel's
--- tools/lib/bpf/relo_core.c decide.
+-- Whether a field or type of an object is compatible with a field or type of a kernel, as in the
+-- kernel's tools/lib/bpf/relo_core.c (bpf_core_fields_are_compat, bpf_core_types_are_compat).
 use Rattle.std.specs.Prelude.{ℕ, zero, suc, ◌/◌, ◌%◌, ◌^◌, Bool, true, false, List, [], ◌∷◌, ◌++◌}
 use Rattle.std.specs.Prelude.{length, map, take, drop, unwrap_or, Option, Some, None, Result, Ok}
 use Rattle.std.specs.Prelude.{Err, ◌==◌, ◌&&◌, ◌||◌, if◌then◌else◌}
@@ -200,8 +199,8 @@ unfoldable pub first_end : ℕ → BtfError → List (Result Bool BtfError) → 
 first_end pairs past found =
     unwrap_or (first_some ends (take pairs found)) (all_alike past (drop pairs found))
 
--- whether a type stands for another: their kinds, as they stand, are the same, and all below them
--- is alike
+-- whether a type is compatible with another: their kinds before resolution are the same, and all
+-- pairs below them are alike
 abbrev pub types_compatible : TypeInfo → ℕ → TypeInfo → ℕ → Result Bool BtfError
 types_compatible local id target other =
     if_ok (type_at local.types id) (λ a. if_ok (type_at target.types other) (λ b.
@@ -210,10 +209,9 @@ types_compatible local id target other =
     (found_from type_levels local.types target.types id (pair_of id other))
     else Ok false))
 
--- ---- a comparison of types as it goes, pair by pair. What it comes to is stated in
--- `Compatibility.antt`
+-- ---- a comparison of types step by step, pair by pair; its result is `types_compatible`
 
--- what follows where types are alike, with the number of pairs that may still be met
+-- the next step where types are alike, with the number of pairs that may still be met
 abbrev pub if_alike : Result Verdict BtfError → (ℕ → Result Verdict BtfError)
     → Result Verdict BtfError
 if_alike (Ok (Alike left)) next = next left

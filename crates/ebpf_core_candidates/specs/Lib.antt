@@ -2,4 +2,4 @@ pub mod Candidates
 pub mod Compatibility
 pub mod TypeRows
 
--- What only private contracts and proofs name.
+-- Definitions of private contracts and proofs.

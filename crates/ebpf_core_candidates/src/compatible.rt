@@ -1,4 +1,4 @@
-//! Whether a field or a type of an object fits one of a kernel.
+//! Compares fields and types of an object with fields and types of a kernel.
 
 ghost use Rattle.std.specs.Prelude.{◌≡◌, Ok};
 ghost use Rattle.ebpf_core_candidates.specs.Compatibility.{both, both_begin_at_0, first_bit, same_kind, are_named_alike, element, fields_compatible, is_composite, names_fit, types_fit, compared_from, is_alike, shallow_alike, first_end, found_from, inner_type_id, is_compared, params_of, type_levels, type_pairs, types_compatible};
@@ -10,14 +10,14 @@ ghost use Rattle.ebpf_btf.specs.declared.error.BtfError.TheVariants.{MaximumType
 
 use ebpf_btf::{Btf, BtfError, BtfKind, BtfParam, BtfType, Rows, essential_name};
 
-/// The ids of a type of an object and of one of a kernel.
+/// The ids of a type of an object and of a type of a kernel.
 #[derive(Clone, Copy)]
 pub struct Pair {
     pub local: u32,
     pub target: u32,
 }
 
-/// A pair where there is a type on both sides.
+/// Returns the pair of two types; none where a side has no type.
 pub fn both(local: Option<u32>, target: Option<u32>) -> Option<Pair>
     ensures { result ≡ both local target }
 {
@@ -27,7 +27,7 @@ pub fn both(local: Option<u32>, target: Option<u32>) -> Option<Pair>
     }
 }
 
-/// Whether two types are of one kind.
+/// Returns whether two types have the same kind.
 #[tactic(auto, unfolding(ebpf_btf::specs::Types::kind_number))]
 pub fn same_kind(local: &BtfType<'_>, target: &BtfType<'_>) -> bool
     ensures { result ≡ same_kind local.now target.now }
@@ -35,7 +35,7 @@ pub fn same_kind(local: &BtfType<'_>, target: &BtfType<'_>) -> bool
     local.kind() as u8 == target.kind() as u8
 }
 
-/// The bit of its bytes at which an INT begins; others begin at 0.
+/// Returns the bit offset of an INT in its bytes; 0 for other types.
 #[tactic(auto, unfolding(crate::specs::Compatibility::first_bit))]
 fn first_bit(ty: &BtfType<'_>) -> u32
     ensures { result ≡ first_bit ty.now }
@@ -46,24 +46,24 @@ fn first_bit(ty: &BtfType<'_>) -> u32
     }
 }
 
-/// Whether two types begin at bit 0 of their bytes.
+/// Returns whether two types begin at bit 0 of their bytes.
 pub fn both_begin_at_0(local: &BtfType<'_>, target: &BtfType<'_>) -> bool
     ensures { result ≡ both_begin_at_0 local.now target.now }
 {
     first_bit(local) == 0 && first_bit(target) == 0
 }
 
-/// How many pairs of fields may be met: the one given, and 32 of elements.
+/// The maximum number of pairs of fields: the given pair, and 32 pairs of elements.
 const FIELD_LEVELS: u32 = 33;
 
-/// Whether a kind is STRUCT or UNION.
+/// Returns whether a kind is STRUCT or UNION.
 fn is_composite(kind: BtfKind) -> bool
     ensures { result ≡ is_composite kind }
 {
     matches!(kind, BtfKind::Struct | BtfKind::Union)
 }
 
-/// The type of the elements of an ARRAY.
+/// Returns the type of the elements of an ARRAY; none for other types.
 #[tactic(auto, unfolding(crate::specs::Compatibility::element))]
 fn element(ty: &BtfType<'_>) -> Option<u32>
     ensures { result ≡ element ty.now }
@@ -74,7 +74,7 @@ fn element(ty: &BtfType<'_>) -> Option<u32>
     }
 }
 
-/// Whether the name of a type, its flavor aside, is a text, its flavor aside, or one of the two is empty.
+/// Returns whether the essential name of a type equals the essential part of a text, or one of the two is empty.
 #[tactic(auto, using(crate::proofs::Comparisons::no_flavor))]
 fn is_named_alike(btf: &Btf, ty: &BtfType<'_>, name: &str) -> Result<bool, BtfError>
     ensures { result
@@ -88,7 +88,7 @@ fn is_named_alike(btf: &Btf, ty: &BtfType<'_>, name: &str) -> Result<bool, BtfEr
     Ok(essential_name(name.as_bytes()) == b"".as_slice())
 }
 
-/// Whether two types have names that are equal, their flavors aside, or of which one is empty.
+/// Returns whether the essential names of two types are equal, or one of the two is empty.
 fn are_named_alike(
     local: &Btf,
     local_type: &BtfType<'_>,
@@ -102,7 +102,7 @@ fn are_named_alike(
     is_named_alike(target, target_type, name.as_str())
 }
 
-/// Whether two types fit that are not both ARRAYs.
+/// Returns whether two types fit that are not both ARRAYs.
 #[tactic(auto, unfolding(crate::specs::Compatibility::decided_by))]
 fn types_fit(
     local: &Btf,
@@ -129,9 +129,10 @@ fn types_fit(
     }
 }
 
-/// Whether a field of the type `local_id` of an object is found in a field of the type `target_id` of a kernel.
+/// Returns whether a field of the type `local_id` of an object fits a field of the type `target_id` of a kernel (the
+/// kernel's tools/lib/bpf/relo_core.c, `bpf_core_fields_are_compat`).
 ///
-/// Both are resolved first. A STRUCT or UNION fits a STRUCT or UNION. Else the kinds have to be the same: a PTR fits
+/// Both types are resolved first. A STRUCT or UNION fits a STRUCT or UNION. Else the kinds have to be the same: a PTR fits
 /// a PTR and a FLOAT a FLOAT, of whatever sizes; INTs fit where both begin at bit 0; an ENUM, ENUM64 or FWD fits
 /// where the names up to the first `___` are equal or one is empty; an ARRAY where its elements do. Nothing else fits.
 ///
@@ -140,9 +141,9 @@ fn types_fit(
 /// A fault of the local side comes first.
 ///
 /// - `UnknownBtfType`, `MaximumTypeDepth`: as in `resolve_type`.
-/// - `MaximumTypeDepth` of `local_id`: ARRAYs lead to their elements for the 33rd time.
-/// - `InvalidStringOffset`: a name can't be read.
-/// - `OutOfMemory`: the local name is not UTF-8, and memory for a copy is refused.
+/// - `MaximumTypeDepth` of `local_id`: more than 32 ARRAYs are inside one another.
+/// - `InvalidStringOffset`: a name cannot be read.
+/// - `OutOfMemory`: the local name is not UTF-8, and there is no memory for a copy.
 #[tactic(auto, using(crate::proofs::Comparisons::fields_local_fault, crate::proofs::Comparisons::fields_target_fault, crate::proofs::Comparisons::fields_here, crate::proofs::Comparisons::fields_next, crate::proofs::Comparisons::fields_over))]
 pub fn fields_are_compatible(
     local: &Btf,
@@ -168,22 +169,22 @@ pub fn fields_are_compatible(
     Err(BtfError::MaximumTypeDepth { type_id: local_id })
 }
 
-/// How many levels of pairs there may be: the one of the pair given, and 32 below it.
+/// The maximum number of levels of pairs: the level of the given pair, and 32 below it.
 const TYPE_LEVELS: u32 = 33;
 
-/// How many pairs may be met, the one given among them.
+/// The maximum number of pairs of a comparison, the given pair included.
 const TYPE_PAIRS: u32 = 1_048_576;
 
 /// The result of a comparison of two types.
 #[derive(Clone, Copy)]
 pub enum Verdict {
-    /// The types are alike, and so many pairs may still be met.
+    /// The types are alike; the number is the number of pairs that the comparison may still meet.
     Alike { left: u32 },
     /// The types differ.
     Different,
 }
 
-/// The two sides of a comparison, and the local type that it began with.
+/// The two sides of a comparison, and the local type at its start.
 #[derive(Clone, Copy)]
 struct Sides<'a> {
     local: &'a Btf,
@@ -191,7 +192,7 @@ struct Sides<'a> {
     root: u32,
 }
 
-/// Whether types of a kind may be alike.
+/// Returns whether types of a kind can be alike.
 #[tactic(auto, unfolding(crate::specs::Compatibility::is_compared))]
 fn is_compared(kind: BtfKind) -> bool
     ensures { result ≡ is_compared kind }
@@ -210,7 +211,7 @@ fn is_compared(kind: BtfKind) -> bool
     )
 }
 
-/// The parameters of a FUNC_PROTO; other types have none.
+/// Returns the parameters of a FUNC_PROTO; no parameters for other types.
 #[tactic(auto, unfolding(crate::specs::Compatibility::params_of))]
 fn params_of<'a>(ty: &BtfType<'a>) -> Rows<'a, BtfParam>
     ensures { result ≡ params_of ty.now }
@@ -221,7 +222,8 @@ fn params_of<'a>(ty: &BtfType<'a>) -> Rows<'a, BtfParam>
     }
 }
 
-/// The inner type of a PTR, an ARRAY or a FUNC_PROTO: what it points to, its elements, its result.
+/// Returns the inner type of a PTR (its target), an ARRAY (its elements) or a FUNC_PROTO (its result); none for other
+/// types.
 #[tactic(auto, unfolding(crate::specs::Compatibility::inner_type_id))]
 fn inner_type_id(ty: &BtfType<'_>) -> Option<u32>
     ensures { result ≡ inner_type_id ty.now }
@@ -232,7 +234,7 @@ fn inner_type_id(ty: &BtfType<'_>) -> Option<u32>
     }
 }
 
-/// Whether two types are alike, their inner types aside.
+/// Returns whether two types are alike without their inner types.
 fn shallow_alike(local: &BtfType<'_>, target: &BtfType<'_>) -> bool
     ensures { result ≡ shallow_alike local.now target.now }
 {
@@ -242,8 +244,8 @@ fn shallow_alike(local: &BtfType<'_>, target: &BtfType<'_>) -> bool
         && params_of(local).len() == params_of(target).len()
 }
 
-/// Compares a pair and all below it, depth first, up to the first that differs. So many levels there may be, and so
-/// many pairs be met.
+/// Compares a pair and all pairs below it, depth first, up to the first pair that differs. `levels` and `left` are the
+/// maximum numbers of levels and of pairs.
 fn compare(sides: Sides<'_>, levels: u32, left: u32, pair: Pair) -> Result<Verdict, BtfError>
     ensures { result
         ≡ compared_from levels sides.entry.local.now.types sides.entry.target.now.types
@@ -277,7 +279,7 @@ fn compare(sides: Sides<'_>, levels: u32, left: u32, pair: Pair) -> Result<Verdi
     }
 }
 
-/// Whether a comparison found no difference.
+/// Returns whether a comparison found no difference.
 fn is_alike(found: Result<Verdict, BtfError>) -> Result<bool, BtfError>
     ensures { result ≡ is_alike found }
 {
@@ -288,7 +290,7 @@ fn is_alike(found: Result<Verdict, BtfError>) -> Result<bool, BtfError>
     }
 }
 
-/// Whether the types of a pair and all below them are alike.
+/// Returns whether the types of a pair and all types below them are alike.
 #[tactic(auto, using(crate::proofs::Comparisons::compared_found))]
 fn all_alike(sides: Sides<'_>, pair: Pair) -> Result<bool, BtfError>
     ensures { result
@@ -299,17 +301,22 @@ fn all_alike(sides: Sides<'_>, pair: Pair) -> Result<bool, BtfError>
     is_alike(compare(sides, TYPE_LEVELS, TYPE_PAIRS, pair))
 }
 
-/// Whether the type `local_id` of an object stands for the type `target_id` of a kernel.
+/// Returns whether the type `local_id` of an object is compatible with the type `target_id` of a kernel (the kernel's
+/// tools/lib/bpf/relo_core.c, `bpf_core_types_are_compat`).
 ///
-/// Their kinds, as they stand, have to be the same. Then pairs of types are compared, depth first, up to the first
-/// that differs. Of each pair both are resolved, and their kinds have to be the same. `void`, STRUCT, UNION, ENUM,
-/// ENUM64, FWD and FLOAT are alike; INTs where both begin at bit 0; PTRs and ARRAYs where what they hold is;
-/// FUNC_PROTOs where they have as many parameters, each pair of parameters is alike in order, and then the results
-/// are. Nothing else is alike.
+/// The kinds of the two types before resolution have to be the same. Then pairs of types are compared, depth first, up to
+/// the first pair that differs. Both types of a pair are resolved, and their kinds have to be the same.
+///
+/// - `void`, STRUCT, UNION, ENUM, ENUM64, FWD and FLOAT: alike.
+/// - INT: alike where both begin at bit 0.
+/// - PTR and ARRAY: alike where the inner types are alike.
+/// - FUNC_PROTO: alike where the numbers of parameters are equal, then each pair of parameters is alike, then the results
+///   are alike.
+/// - Other kinds: not alike.
 ///
 /// # Errors
 ///
-/// - `UnknownBtfType`, `MaximumTypeDepth`: as in `resolve_type`, where a pair is met, and of the local side first.
+/// - `UnknownBtfType`, `MaximumTypeDepth`: as in `resolve_type`, when a pair is met; the error of the local side first.
 /// - `MaximumTypeDepth` of `local_id`: a pair is more than 32 levels below the two types, or is pair 1,048,577, the two
 ///   types being the first.
 pub fn types_are_compatible(

@@ -1,4 +1,4 @@
-//! The kinds of types by their numbers, and what is kept by kind.
+//! Sets of kinds, and tables by kind.
 
 ghost use Rattle.std.specs.Prelude.{◌≡◌, ◌<◌, length, true, ◌++◌, ◌==◌, ◌∷◌, [], IfOk, OnOk, slice_index_or, if◌then◌else◌, None, Some};
 ghost use Rattle.ebpf_btf.specs.Types.{kind_number};
@@ -12,10 +12,10 @@ use ebpf_base::Items;
 use ebpf_btf::{BtfError, BtfKind};
 use std::alloc::{AllocError, Global};
 
-/// How many kinds there are.
+/// The number of kinds, 0 to 19.
 pub const KINDS: usize = 20;
 
-/// The number of a kind in `.BTF`.
+/// Returns the number of a kind in `.BTF`.
 #[tactic(auto, unfolding(ebpf_btf::specs::Types::kind_number))]
 pub fn kind_number(kind: BtfKind) -> u8
     ensures number { result ≡ kind_number kind }
@@ -24,10 +24,10 @@ pub fn kind_number(kind: BtfKind) -> u8
     kind as u8
 }
 
-/// Some kinds: for each, at its number, whether it is one of them.
+/// A set of kinds: for each kind, at its number, whether it is in the set.
 pub type SomeKinds = [bool; KINDS];
 
-/// Every kind.
+/// Returns the set of all kinds.
 pub fn every_kind() -> SomeKinds
     ensures few { length result ≡ 20 }
     ensures all { (kind : BtfKind) → has_kind result kind ≡ true }
@@ -35,7 +35,7 @@ pub fn every_kind() -> SomeKinds
     [true; KINDS]
 }
 
-/// The kinds of a list.
+/// Returns the set of the kinds of a list.
 pub fn kinds_of(list: &[BtfKind]) -> SomeKinds
     ensures few { length result ≡ 20 }
     ensures listed { (kind : BtfKind) → has_kind result kind ≡ is_among_kinds list.now kind }
@@ -47,7 +47,7 @@ pub fn kinds_of(list: &[BtfKind]) -> SomeKinds
     kinds
 }
 
-/// Whether a kind is among some kinds.
+/// Returns whether a kind is in a set.
 pub fn has_kind(kinds: &SomeKinds, kind: BtfKind) -> bool
     requires { length kinds.now ≡ 20 }
     ensures { result ≡ has_kind kinds.now kind }
@@ -55,10 +55,14 @@ pub fn has_kind(kinds: &SomeKinds, kind: BtfKind) -> bool
     kinds[kind_number(kind) as usize]
 }
 
-/// For each kind, at its number, the ids of the types that have no name.
+/// For each kind, at its number, the ids of the types without a name.
 pub type AnonymousTypes = Vec<Items<u32>>;
 
-/// The empty lists of anonymous types.
+/// Returns an empty list of anonymous types for each kind.
+///
+/// # Errors
+///
+/// - `AllocError`: out of memory.
 pub fn no_anonymous_types(alloc: Global) -> Result<AnonymousTypes, AllocError>
     ensures kinds { IfOk result (λ lists. length lists.items ≡ 20) }
     ensures empty { IfOk result (λ lists.
@@ -71,7 +75,11 @@ pub fn no_anonymous_types(alloc: Global) -> Result<AnonymousTypes, AllocError>
     Ok(lists)
 }
 
-/// Adds the id of a type of a kind.
+/// Adds the id of a type to the list of its kind.
+///
+/// # Errors
+///
+/// - `AllocError`: out of memory.
 pub fn add_anonymous(lists: &mut AnonymousTypes, kind: BtfKind, id: u32) -> Result<(), AllocError>
     requires { length lists.old.items ≡ 20 }
     ensures kinds { OnOk result (length lists.new.items ≡ 20) }
@@ -85,17 +93,17 @@ pub fn add_anonymous(lists: &mut AnonymousTypes, kind: BtfKind, id: u32) -> Resu
     Ok(())
 }
 
-/// A type whose name can't be read.
+/// A type whose name cannot be read.
 #[derive(Clone, Copy)]
 pub struct UnreadableName {
     /// The type's id.
     pub id: u32,
-    /// The offset of its name.
+    /// The offset of the type's name in the strings.
     pub offset: u32,
 }
 
 impl UnreadableName {
-    /// Why the name can't be read.
+    /// Returns the error of the name: `InvalidStringOffset` with its offset.
     pub fn fault(&self) -> BtfError
         ensures { result ≡ InvalidStringOffset self.now.offset }
     {
@@ -105,10 +113,10 @@ impl UnreadableName {
     }
 }
 
-/// For each kind, at its number, the first type whose name can't be read.
+/// For each kind, at its number, the first type whose name cannot be read.
 pub type UnreadableNames = [Option<UnreadableName>; KINDS];
 
-/// Keeps an unreadable name, where its type is the first of its kind.
+/// Stores an unreadable name, unless its kind has one before.
 pub fn keep_first(names: &mut UnreadableNames, kind: BtfKind, name: UnreadableName)
     requires { length names.old ≡ 20 }
     ensures kinds { length names.new ≡ 20 }
@@ -123,7 +131,7 @@ pub fn keep_first(names: &mut UnreadableNames, kind: BtfKind, name: UnreadableNa
     }
 }
 
-/// The unreadable name of the type with the lower id.
+/// Returns the unreadable name of the type with the lower id.
 pub fn lower(
     first: Option<UnreadableName>,
     second: Option<UnreadableName>,

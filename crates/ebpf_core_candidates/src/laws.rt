@@ -1,9 +1,10 @@
-//! What holds of candidates.
+//! Laws about candidates.
 
 ghost use Rattle.ebpf_core_candidates.specs.Candidates.{CandidatesAreOfKind, CandidatesIncrease, CandidatesAreOfEither, CandidatesOfBothIncrease};
 
-/// Each id that `TypeIndex::candidates` gives is that of a type, which is of the kind; the ids increase. So it is of
-/// two kinds, where each type is of either.
+/// Proves that each id of `TypeIndex::candidates` is the id of a type of the kind, and that the ids increase.
+///
+/// The same holds for `TypeIndex::candidates_of_both`, whose types are of either kind.
 pub fn candidates_are_types()
     ensures of_kind { CandidatesAreOfKind }
     ensures increasing { CandidatesIncrease }

@@ -1,4 +1,5 @@
-//! The types of a kernel that may stand for one of an object: those of its name, and whether they are compatible.
+//! Finds the types of a kernel that match a type of an object: the candidates by name, and whether two types are compatible
+//! (CO-RE; the kernel's tools/lib/bpf/relo_core.c).
 #![tactic(auto)]
 
 mod compatible;

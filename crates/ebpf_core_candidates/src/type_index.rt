@@ -1,4 +1,4 @@
-//! Types by kind and name.
+//! An index of types by kind and name.
 
 ghost use Rattle.std.specs.Prelude.{◌≡◌, ◌<◌, ◌&&◌, ℕ, List, [], length, IfOk, IfErr, OnOk, None, Some, Ok, is_some, map, slice_get, slice_index_or, true};
 ghost use Rattle.std.specs.List.Sorted.{IsSortedBy, IsStableBy};
@@ -24,7 +24,7 @@ use ebpf_btf::{Btf, BtfError, BtfKind, essential_name};
 use std::alloc::{AllocError, Global};
 use std::marker::Model;
 
-/// The types of some kinds that one pass finds: rows of those with marked names, anonymous types, and unreadable names.
+/// The types of some kinds that one pass finds: the rows of types with marked names, anonymous types, and unreadable names.
 #[derive(Drop)]
 struct FoundTypes {
     rows: Vec<TypeRow>,
@@ -32,8 +32,8 @@ struct FoundTypes {
     unreadable: UnreadableNames,
 }
 
-/// Of the types of some kinds: the rows of those that have marked names, by id, the ids of those that have none, and the
-/// offsets of the first names that can't be read. Names of other kinds aren't looked at.
+/// Reads the types of some kinds: the rows of types with marked names, in order of ids, the ids of types without names, and
+/// the first unreadable name of each kind. It reads no names of other kinds.
 fn read_rows(
     alloc: Global,
     names: &TypeNames<'_>,
@@ -93,8 +93,8 @@ fn read_rows(
     })
 }
 
-/// Sorts rows by hash, kind and name; those that have the same stay in order of their ids. Sorted by hashes alone they
-/// are in order but for collisions, so that the second sort is one pass.
+/// Sorts rows by hash, kind and name; equal rows stay in order of their ids. Rows in order of hashes alone are in order but
+/// for collisions, so that the second sort is one pass.
 fn sort_rows(names: &TypeNames<'_>, rows: &mut Vec<TypeRow>) -> Result<(), AllocError>
     ensures sorted { OnOk result (IsSortedBy (is_before names.now) rows.new.items) }
     ensures stable { OnOk result (IsStableBy (is_before names.now) rows.old.items rows.new.items) }
@@ -104,7 +104,7 @@ fn sort_rows(names: &TypeNames<'_>, rows: &mut Vec<TypeRow>) -> Result<(), Alloc
     Ok(())
 }
 
-/// The ids of rows, in order.
+/// Returns the ids of rows, in order.
 fn ids_of_rows(alloc: Global, rows: &[TypeRow]) -> Result<Vec<u32>, AllocError>
     ensures { IfOk result (λ ids. ids.items ≡ map (λ r. r.id) rows.now) }
 {
@@ -115,8 +115,9 @@ fn ids_of_rows(alloc: Global, rows: &[TypeRow]) -> Result<Vec<u32>, AllocError>
     Ok(ids)
 }
 
-/// Types of some kinds by kind and name, the names without what follows three underscores: of all names, or of those
-/// that an object's types have.
+/// An index of types of some kinds by kind and essential name, the name up to the first three underscores.
+///
+/// The index has all names, or the names of an object's types alone.
 ///
 /// Contracts see the type information that it was made for, the kinds, and the marks of the names.
 #[derive(Drop)]
@@ -144,14 +145,14 @@ impl<'a> Model for KindsIndex<'a> {
 }
 
 impl<'a> KindsIndex<'a> {
-    /// The types that the index was made for.
+    /// Returns the types of the index.
     pub fn btf(&self) -> &'a Btf
         ensures { result.now ≡ self.now.info }
     {
         self.names.btf()
     }
 
-    /// Whether the index has the types of a kind and of a name.
+    /// Returns whether the index has the types of a kind with a name.
     pub fn has(&self, kind: BtfKind, name: &str) -> bool
         ensures { result ≡ has_named self.now kind name.now }
     {
@@ -159,7 +160,7 @@ impl<'a> KindsIndex<'a> {
         has_kind(&self.kinds, kind) && is_hash_marked(&self.marks, name_hash(name))
     }
 
-    /// The first type of a kind whose name can't be read.
+    /// Returns the first type of a kind whose name cannot be read.
     fn unreadable_of(&self, kind: BtfKind) -> Option<UnreadableName>
         requires { has_kind self.now.kinds kind ≡ true }
         ensures { result ≡ unreadable_from self.now.info kind 0 self.now.info.types }
@@ -167,7 +168,7 @@ impl<'a> KindsIndex<'a> {
         self.unreadable[kind_number(kind) as usize]
     }
 
-    /// The ids of the types of a kind and name, names that can't be read aside.
+    /// Returns the ids of the types of a kind with a name, without unreadable names.
     fn ids_of(&self, kind: BtfKind, name: &str) -> &[u32]
         requires { has_named self.now kind name.now ≡ true }
         ensures { result.now ≡ candidates self.now.info kind name.now }
@@ -181,7 +182,7 @@ impl<'a> KindsIndex<'a> {
         &self.ids[start..end]
     }
 
-    /// The candidates of a kind and a name that the index has.
+    /// Returns the candidates of a kind and a name that the index has.
     #[tactic(auto, using(crate::proofs::Unnamed::fault_of_kind))]
     fn candidates_of(&self, kind: BtfKind, name: &str) -> Result<&[u32], BtfError>
         requires { has_named self.now kind name.now ≡ true }
@@ -194,7 +195,7 @@ impl<'a> KindsIndex<'a> {
         }
     }
 
-    /// The candidates of a name and either of two kinds that the index has.
+    /// Returns the candidates of a name and either of two kinds that the index has.
     #[tactic(auto, using(crate::proofs::Unnamed::fault_of_kinds, crate::proofs::CandidateLaws::union_candidates))]
     fn candidates_of_two(
         &self,
@@ -216,7 +217,11 @@ impl<'a> KindsIndex<'a> {
         }
     }
 
-    /// As `TypeIndex::candidates`. None of a kind or a name that the index lacks.
+    /// Returns the candidates as `TypeIndex::candidates` does; none for a kind or a name that the index lacks.
+    ///
+    /// # Errors
+    ///
+    /// - `InvalidStringOffset`: the name of a type of this kind cannot be read.
     pub fn candidates(&self, kind: BtfKind, name: &str) -> Option<Result<&[u32], BtfError>>
         ensures has { is_some result ≡ has_named self.now kind name.now }
         ensures ids { ForSome result (λ found.
@@ -230,7 +235,12 @@ impl<'a> KindsIndex<'a> {
         Some(self.candidates_of(kind, name))
     }
 
-    /// As `TypeIndex::candidates_of_both`. None where the index lacks a kind or the name.
+    /// Returns the candidates as `TypeIndex::candidates_of_both` does; none where the index lacks a kind or the name.
+    ///
+    /// # Errors
+    ///
+    /// - `InvalidStringOffset`: the name of a type of either kind cannot be read.
+    /// - `OutOfMemory`: out of memory for the list.
     pub fn candidates_of_both(
         &self,
         alloc: Global,
@@ -253,7 +263,7 @@ impl<'a> KindsIndex<'a> {
     }
 }
 
-/// The index of types of some kinds that have marked names.
+/// Returns the index of the types of some kinds with marked names.
 fn index_of<'a>(
     alloc: Global,
     btf: &'a Btf,
@@ -285,7 +295,7 @@ fn index_of<'a>(
     })
 }
 
-/// Types by kind and name, the names without what follows three underscores.
+/// An index of types by kind and essential name, the name up to the first three underscores.
 ///
 /// Contracts see the type information that it was made for.
 #[derive(Drop)]
@@ -308,11 +318,11 @@ impl<'a> Model for TypeIndex<'a> {
 }
 
 impl<'a> TypeIndex<'a> {
-    /// The index of some types: one pass over them, a sort, and a copy of each name that is not UTF-8.
+    /// Returns the index of all types. It makes one pass over the types, a sort, and a copy of each name that is not UTF-8.
     ///
     /// # Errors
     ///
-    /// - `OutOfMemory`: memory is refused.
+    /// - `OutOfMemory`: out of memory.
     pub fn new(alloc: Global, btf: &'a Btf) -> Result<TypeIndex<'a>, BtfError>
         ensures types { IfOk result (λ index. index ≡ btf.now) }
         ensures memory { IfErr result (λ e. e ≡ OutOfMemory) }
@@ -321,9 +331,13 @@ impl<'a> TypeIndex<'a> {
         Ok(TypeIndex { index })
     }
 
-    /// The index of the types of some kinds that may stand for those of `local`: as `new`, but types of other kinds are
-    /// passed over, and types of other names than those that types of `local` of these kinds have may be. One pass over
-    /// the types of both, and a sort of those that are kept.
+    /// Returns the index of the types of some kinds that can match types of `local`. It leaves out types of other kinds, and
+    /// may leave out types whose names no type of `local` of these kinds has. It makes one pass over the types of both, and
+    /// a sort.
+    ///
+    /// # Errors
+    ///
+    /// - `OutOfMemory`: out of memory.
     pub fn of_names(
         alloc: Global,
         btf: &'a Btf,
@@ -348,14 +362,16 @@ impl<'a> TypeIndex<'a> {
         index_of(alloc, btf, kinds, marks)
     }
 
-    /// The ids, in increasing order, of the types of a kind whose name before the first three underscores equals
-    /// that of `name`. Names are compared as `Btf::string_at` gives them. No memory is taken, and the cost grows
-    /// by the logarithm of the number of types.
+    /// Returns the ids, in increasing order, of the types of a kind with the essential name of `name`: the part before the
+    /// first three underscores.
+    ///
+    /// Names are compared as `Btf::string_at` returns them. The call allocates nothing; its time is logarithmic in the number
+    /// of types.
     ///
     /// # Errors
     ///
-    /// - `InvalidStringOffset`: the name of a type of this kind can't be read. The offset is that of the type with the
-    ///   lowest id; names of other kinds play no part.
+    /// - `InvalidStringOffset`: the name of a type of this kind cannot be read. The offset is the name offset of the first
+    ///   such type.
     pub fn candidates(&self, kind: BtfKind, name: &str) -> Result<&[u32], BtfError>
         ensures ids { IfOk result (λ ids. ids.now ≡ candidates self.now kind name.now) }
         ensures fault { fault_of result ≡ candidates_fault self.now kind }
@@ -363,14 +379,14 @@ impl<'a> TypeIndex<'a> {
         self.index.candidates_of(kind, name)
     }
 
-    /// The ids of the types of either of two kinds with a name's essential part, lowest first: an enumeration of 64 bits
-    /// may stand for an ENUM64 or a UNION.
+    /// Returns the ids, in increasing order, of the types of either of two kinds with the essential name of `name`. A 64-bit
+    /// enumeration matches ENUM64 and UNION types.
     ///
     /// # Errors
     ///
-    /// - `InvalidStringOffset`: the name of a type of either kind can't be read. The offset is that of the type with
-    ///   the lowest id.
-    /// - `OutOfMemory`: memory for the list is refused.
+    /// - `InvalidStringOffset`: the name of a type of either kind cannot be read. The offset is the name offset of the first
+    ///   such type.
+    /// - `OutOfMemory`: out of memory for the list.
     pub fn candidates_of_both(
         &self,
         alloc: Global,

@@ -1,4 +1,4 @@
-//! The names of types without their flavor, and marks of those of some kinds.
+//! The essential names of types, and a filter of the names of some kinds.
 
 ghost use Rattle.std.specs.Prelude.{◌≡◌, ◌<◌, ℕ, All, Some, IfOk, option_map, slice_get, true, ◌+◌, ◌-◌, ◌≤◌, ◌==◌, drop, length, take, if◌then◌else◌, ◌%◌};
 ghost use Rattle.std.specs.Bool.{OnTrue};
@@ -19,7 +19,7 @@ use ebpf_btf::{Btf, essential_name};
 use std::alloc::{AllocError, Global};
 use std::marker::Model;
 
-/// Whether all bytes are below 128. The greatest is looked for, which takes less time than a test of each.
+/// Returns whether all bytes are below 128. It computes the maximum, which takes less time than a test of each byte.
 fn is_ascii(bytes: &[u8]) -> bool
     ensures { OnTrue result (All (λ b. b < 128) bytes.now) }
 {
@@ -32,7 +32,7 @@ fn is_ascii(bytes: &[u8]) -> bool
     greatest < 128
 }
 
-/// The text that the name at an offset is read as, where it is not UTF-8.
+/// Returns the decoded text of the name at an offset; none where the name is UTF-8 or cannot be read.
 #[tactic(auto, using(crate::proofs::Names::odd_utf8, crate::proofs::Names::odd_other))]
 fn odd_text_at(alloc: Global, btf: &Btf, offset: u32) -> Result<Option<Text>, AllocError>
     ensures { IfOk result (λ name. name ≡ odd_text_at btf.now.strings offset) }
@@ -49,7 +49,7 @@ fn odd_text_at(alloc: Global, btf: &Btf, offset: u32) -> Result<Option<Text>, Al
     }
 }
 
-/// The text that the name of the type with an id is read as, where the name is not UTF-8.
+/// Returns the decoded text of the name of the type with an id; none where the name is UTF-8 or cannot be read.
 #[tactic(auto, using(crate::proofs::Names::odd_headed, crate::proofs::Names::odd_headless))]
 fn odd_at(alloc: Global, btf: &Btf, id: usize) -> Result<Option<Text>, AllocError>
     ensures { IfOk result (λ name. name ≡ odd_at btf.now id) }
@@ -60,7 +60,7 @@ fn odd_at(alloc: Global, btf: &Btf, id: usize) -> Result<Option<Text>, AllocErro
     }
 }
 
-/// The texts of the names that are not UTF-8, by the types' ids. Each name is looked at.
+/// Returns the decoded texts of the names that are not UTF-8, by type id. It reads each name.
 fn gather_odd_names(alloc: Global, btf: &Btf) -> Result<ByOffset<Text>, AllocError>
     ensures { IfOk result (λ odd. (id : ℕ) → get odd id ≡ odd_at btf.now id) }
 {
@@ -74,7 +74,7 @@ fn gather_odd_names(alloc: Global, btf: &Btf) -> Result<ByOffset<Text>, AllocErr
     Ok(odd)
 }
 
-/// The texts of the names that are not UTF-8, by the types' ids. Where all strings are ASCII no name is looked at.
+/// Returns the decoded texts of the names that are not UTF-8, by type id. It reads no name where all strings are ASCII.
 #[tactic(auto, using(crate::proofs::Names::odd_ascii))]
 fn odd_names(alloc: Global, btf: &Btf) -> Result<ByOffset<Text>, AllocError>
     ensures { IfOk result (λ odd. (id : ℕ) → get odd id ≡ odd_at btf.now id) }
@@ -85,9 +85,9 @@ fn odd_names(alloc: Global, btf: &Btf) -> Result<ByOffset<Text>, AllocError>
     gather_odd_names(alloc, btf)
 }
 
-/// The names of some types without their flavor, copies of those that are not UTF-8.
+/// The essential names of some types, with decoded copies of the names that are not UTF-8.
 ///
-/// Contracts see the type information that it was made for.
+/// Contracts see the type information.
 #[derive(Drop)]
 pub struct TypeNames<'a> {
     btf: &'a Btf,
@@ -108,7 +108,11 @@ impl<'a> Model for TypeNames<'a> {
 }
 
 impl<'a> TypeNames<'a> {
-    /// The names of some types.
+    /// Returns the essential names of some types.
+    ///
+    /// # Errors
+    ///
+    /// - `AllocError`: out of memory.
     pub fn new(alloc: Global, btf: &'a Btf) -> Result<TypeNames<'a>, AllocError>
         ensures { IfOk result (λ names. names ≡ btf.now) }
     {
@@ -116,14 +120,14 @@ impl<'a> TypeNames<'a> {
         Ok(TypeNames { btf, odd })
     }
 
-    /// The types.
+    /// Returns the types.
     pub fn btf(&self) -> &'a Btf
         ensures { result.now ≡ self.now }
     {
         self.btf
     }
 
-    /// The essential name of the type with an id, whose name is at an offset. None where it can't be read.
+    /// Returns the essential name of the type with an id, whose name is at an offset; none where the name cannot be read.
     #[tactic(auto, using(crate::proofs::Names::odd_some, crate::proofs::Names::odd_none, crate::proofs::Names::odd_headed))]
     pub fn name(&self, id: usize, offset: u32) -> Option<&[u8]>
         requires { option_map name_off (slice_get self.now.types id) ≡ Some offset }
@@ -141,7 +145,7 @@ impl<'a> TypeNames<'a> {
         }
     }
 
-    /// The number of the kind and the essential name of the type with an id.
+    /// Returns the number of the kind and the essential name of the type with an id.
     #[tactic(auto, using(crate::proofs::Names::key_headed, crate::proofs::Names::key_headless))]
     pub fn type_key(&self, id: u32) -> (u8, &[u8])
         ensures kind { result.0 ≡ (type_key_at self.now id).kind }
@@ -157,8 +161,8 @@ impl<'a> TypeNames<'a> {
         }
     }
 
-    /// Whether the types with two ids are of one kind and have their names at one offset: then no name need be
-    /// compared.
+    /// Returns whether the types with two ids have the same kind and the same name offset, so that their names need no
+    /// comparison.
     #[tactic(auto, using(crate::proofs::Names::same_key))]
     pub fn is_one_name(&self, left: u32, right: u32) -> bool
         ensures one { OnTrue result (type_key_at self.now left ≡ type_key_at self.now right) }
@@ -177,14 +181,14 @@ impl<'a> TypeNames<'a> {
     }
 }
 
-/// The index of the first zero byte.
+/// Returns the index of the first zero byte.
 fn first_zero(bytes: &[u8]) -> Option<usize>
     ensures { result ≡ position (λ b. b == 0) bytes.now }
 {
     bytes.iter().position(|b| *b == 0)
 }
 
-/// How many underscores the bytes end in, one byte on.
+/// Returns the number of underscores at the end of the bytes, after one byte more.
 fn marks_after(marks: usize, byte: u8) -> usize
     requires { marks ≤ 2 }
     ensures { result ≡ (if byte == 95 then marks + 1 else 0) }
@@ -192,7 +196,7 @@ fn marks_after(marks: usize, byte: u8) -> usize
     if byte == b'_' { marks + 1 } else { 0 }
 }
 
-/// What stands before three underscores, the third of which is at an index, where a zero byte follows.
+/// Returns the bytes before three underscores, the third of which is at an index; none where no zero byte follows.
 fn before_marks(bytes: &[u8], index: usize) -> Option<&[u8]>
     requires third { 2 ≤ index }
     requires inside { index < length bytes.now }
@@ -205,7 +209,7 @@ fn before_marks(bytes: &[u8], index: usize) -> Option<&[u8]>
     }
 }
 
-/// The bytes up to the first zero byte, without what follows three underscores.
+/// Returns the bytes before the first zero byte, up to the first three underscores.
 fn essential_before_zero(bytes: &[u8]) -> Option<&[u8]>
     ensures { option_copied result ≡ option_map essential_name (before_zero bytes.now) }
 {
@@ -223,7 +227,7 @@ fn essential_before_zero(bytes: &[u8]) -> Option<&[u8]>
     None
 }
 
-/// The essential part of the name at an offset of the strings.
+/// Returns the essential part of the name at an offset of the strings; none where the name cannot be read.
 pub fn essential_at(strings: &[u8], offset: u32) -> Option<&[u8]>
     ensures { option_copied result
         ≡ option_map essential_name (before_zero (drop offset strings.now)) }
@@ -235,7 +239,7 @@ pub fn essential_at(strings: &[u8], offset: u32) -> Option<&[u8]>
     essential_before_zero(&strings[index..])
 }
 
-/// How long the name at an offset is, in bytes; 0 where it can't be read.
+/// Returns the length of the name at an offset in bytes; 0 where the name cannot be read.
 fn length_at(btf: &Btf, offset: u32) -> usize {
     let Ok(name) = btf.bytes_at(offset) else {
         return 0;
@@ -243,8 +247,14 @@ fn length_at(btf: &Btf, offset: u32) -> usize {
     name.len()
 }
 
-/// Marks of the names, without their flavor, that types of some kinds have. Where these names together are longer than
-/// the strings that they stand in, all names are marked, so that names which share bytes don't take long.
+/// Returns the filter of the essential names of the types of some kinds.
+///
+/// Where these names together are longer than the strings, the filter has all names, so that names which share bytes take
+/// no long time.
+///
+/// # Errors
+///
+/// - `AllocError`: out of memory.
 pub fn names_of(alloc: Global, btf: &Btf, kinds: &SomeKinds) -> Result<Vec<bool>, AllocError>
     requires { length kinds.now ≡ 20 }
     ensures { IfOk result (λ marks. NamesAreMarked marks.items kinds.now btf.now) }
