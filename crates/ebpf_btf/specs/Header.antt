@@ -5,7 +5,7 @@ use Rattle.ebpf_base.specs.declared.endianness.Endianness.{Endianness}
 use Rattle.ebpf_base.specs.declared.endianness.Endianness.TheVariants.{Little, Big}
 use Rattle.ebpf_btf.specs.Words.{words_bytes}
 
--- the order of bytes that the magic tells: its low byte is the first one of Little
+-- the byte order of the magic: its low byte is the first byte in Little
 unfoldable pub order_of : List ℕ → Endianness
 order_of bytes = if slice_index bytes 0 == 0x9F then Little else Big
 

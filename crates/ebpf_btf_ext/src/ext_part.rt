@@ -29,8 +29,11 @@ const SECTION_HEAD: usize = 8;
 /// The start and end of the sections of a part, and the size of their entries, in bytes.
 #[derive(Clone, Copy)]
 pub struct Part {
+    /// The offset of the first section, in bytes.
     pub offset: usize,
+    /// The offset after the last section, in bytes.
     pub end: usize,
+    /// The size of an entry in bytes.
     pub record_size: u32,
 }
 

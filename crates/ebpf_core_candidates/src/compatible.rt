@@ -13,7 +13,9 @@ use ebpf_btf::{Btf, BtfError, BtfKind, BtfParam, BtfType, Rows, essential_name};
 /// The ids of a type of an object and of a type of a kernel.
 #[derive(Clone, Copy)]
 pub struct Pair {
+    /// The id of the object's type.
     pub local: u32,
+    /// The id of the kernel's type.
     pub target: u32,
 }
 

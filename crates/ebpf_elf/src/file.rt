@@ -57,8 +57,11 @@ fn sound_symbols<'a>(table: SectionTable<'a>, index: usize) -> Result<SymbolTabl
 /// The positions of the parts of a file without faults.
 #[derive(Clone, Copy)]
 pub struct Layout<'a> {
+    /// The section header table.
     pub table: SectionTable<'a>,
+    /// The string table of the section names; empty where there is none.
     pub names: &'a [u8],
+    /// The symbol table; none where the file has none.
     pub symbols: Option<SymbolTable<'a>>,
     ghost strings: { 0 < table.count → names.now ≡ section_names table.bytes.now },
     ghost symtab: { symbol_table_section table.bytes.now ≡ option_map (λ s. s.index) symbols },

@@ -37,22 +37,34 @@ pub fn identify(bytes: &[u8]) -> Result<Endianness, ElfReadError>
 /// A section header (Elf64_Shdr), without sh_addralign and sh_entsize.
 #[derive(Clone, Copy)]
 pub struct SectionHeader {
+    /// The offset of the section's name in the string table of the section names.
     pub sh_name: u32,
+    /// The type of the section.
     pub sh_type: u32,
+    /// The flags of the section.
     pub sh_flags: u64,
+    /// The address of the section's first byte.
     pub sh_addr: u64,
+    /// The offset of the section's data in the file, in bytes.
     pub sh_offset: u64,
+    /// The size of the section in bytes.
     pub sh_size: u64,
+    /// The index of a linked section.
     pub sh_link: u32,
+    /// The index of the target in a section of relocations.
     pub sh_info: u32,
 }
 
 /// The position of the section header table of a file.
 #[derive(Clone, Copy)]
 pub struct SectionTable<'a> {
+    /// The bytes of the file.
     pub bytes: &'a [u8],
+    /// The byte order of the file's numbers.
     pub endianness: Endianness,
+    /// The offset of the table in the file, in bytes; 0 for a file without one.
     pub start: usize,
+    /// The number of section headers.
     pub count: usize,
     ghost order: { endianness ≡ ei_data bytes.now },
     ghost starts: { start ≡ e_shoff bytes.now },

@@ -41,10 +41,15 @@ pub enum SymbolKind {
 /// An entry of a symbol table (Elf64_Sym), without its visibility.
 #[derive(Clone, Copy)]
 pub struct SymbolEntry {
+    /// The offset of the symbol's name in the string table.
     pub st_name: u32,
+    /// The type in the low four bits, the binding in the high four bits.
     pub st_info: u8,
+    /// The section index.
     pub st_shndx: u16,
+    /// The value.
     pub st_value: u64,
+    /// The size in bytes.
     pub st_size: u64,
 }
 
@@ -75,10 +80,15 @@ pub fn find_symbol_table(table: &SectionTable<'_>) -> Option<usize>
 /// The positions of a symbol table and its names.
 #[derive(Clone, Copy)]
 pub struct SymbolTable<'a> {
+    /// The section header table of the file.
     pub table: SectionTable<'a>,
+    /// The index of the section with the symbol table.
     pub index: usize,
+    /// The offset of the first entry in the file, in bytes.
     pub offset: usize,
+    /// The number of entries.
     pub count: usize,
+    /// The string table of the symbol names.
     pub names: &'a [u8],
     ghost offsets: { offset ≡ (section table.bytes.now index).sh_offset },
     ghost counts: { count ≡ symbol_count table.bytes.now index },
