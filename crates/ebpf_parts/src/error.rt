@@ -93,6 +93,10 @@ pub enum ParseError {
     TooLarge {
         most_bytes: u64,
     },
+    #[error("the file is for machine {machine}, and not for eBPF (247)")]
+    OtherMachine {
+        machine: u16,
+    },
 }
 
 impl From<AllocError> for ParseError {

@@ -67,7 +67,7 @@ impl bpf_insn {
     pub fn is_poisoned(&self) -> bool
         ensures { result ≡ is_poisoned self.now }
     {
-        self.code == CALL && self.regs == 0 && self.imm == POISON_CALL
+        self.code == CALL && self.regs == 0 && self.off == 0 && self.imm == POISON_CALL
     }
 
     /// The eight bytes of the slot.
