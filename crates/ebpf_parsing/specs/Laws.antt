@@ -2,7 +2,7 @@
 use Rattle.std.specs.FinMap.{FinMap, get}
 use Rattle.std.specs.List.{flat_map, find}
 use Rattle.std.specs.Ordering.{nat_cmp}
-use Rattle.std.specs.Prelude.{◌≡◌, ◌≢◌, ◌⊎◌, ℕ, false, List, Some, None, slice_get, ◌<◌, ◌^◌}
+use Rattle.std.specs.Prelude.{◌≡◌, ◌≢◌, ◌⊎◌, ℕ, false, true, List, Some, None, slice_get, ◌<◌, ◌^◌}
 use Rattle.std.specs.Prelude.{length, ◌==◌}
 use Rattle.ebpf_base.specs.Maps.{key_cmp}
 use Rattle.ebpf_base.specs.declared.endianness.Endianness.TheVariants.{Little}
@@ -17,7 +17,7 @@ use Rattle.ebpf_parts.specs.Maps.{section_index_of, symbol_index_of}
 use Rattle.ebpf_parts.specs.Sections.{SectionValue}
 use Rattle.ebpf_parts.specs.Slots.{slots_of}
 use Rattle.ebpf_parts.specs.declared.error.ParseError.TheVariants.{InvalidProgramSection}
-use Rattle.ebpf_parts.specs.declared.error.ParseError.TheVariants.{BigEndianCode}
+use Rattle.ebpf_parts.specs.declared.error.ParseError.TheVariants.{BigEndianCode, OtherMachine}
 use Rattle.ebpf_parts.specs.declared.maps.either.Map.{Map}
 use Rattle.ebpf_parts.specs.declared.program_section.ProgramSection.TheVariants.{Other}
 use Rattle.ebpf_parts.specs.declared.parse_mode.ParseMode.{ParseMode}
@@ -32,7 +32,7 @@ use Rattle.ebpf_parsing.specs.Maps.{data_map}
 use Rattle.ebpf_sections.specs.LicenseAndVersion.{license_of, license_as}
 use Rattle.ebpf_sections.specs.Records.{FuncAndLineInfo, func_and_line_info_of}
 use Rattle.ebpf_sections.specs.Relocations.{relocations_by_offset}
-use Rattle.ebpf_sections.specs.Sections.{object_sections}
+use Rattle.ebpf_sections.specs.Sections.{is_for_ebpf, object_sections}
 use Rattle.ebpf_sections.specs.Symbols.{file_symbols, symbol_table, symbol_of, symbol_entry}
 use Rattle.ebpf_sections.specs.Symbols.{SymbolValue}
 use Rattle.ebpf_sections.specs.Texts.{text_functions, text_fault}
@@ -213,19 +213,28 @@ pub record IsReadAlike (bytes : List ℕ) : Type 0 where
   pub programs : programs_as Lenient bytes ≡ programs bytes
   pub sound : parse_fault_as Lenient bytes ≡ None
 
--- so is each little-endian file that strict parsing takes
+-- so is each little-endian file for eBPF or for no machine that strict parsing takes
 abbrev pub ModesAgree : Type 0
 ModesAgree =
-    (bytes : List ℕ) → ei_data bytes ≡ Little → parse_fault bytes ≡ None → IsReadAlike bytes
+    (bytes : List ℕ)
+    → ei_data bytes ≡ Little
+    → is_for_ebpf bytes ≡ true
+    → parse_fault bytes ≡ None
+    → IsReadAlike bytes
 
 -- lenient parsing refuses no file for a section's name
 abbrev pub LenientRefusesNoName : Type 0
 LenientRefusesNoName =
     (bytes name : List ℕ) → parse_fault_as Lenient bytes ≢ Some (InvalidProgramSection name)
 
--- strict parsing refuses no file for the order of its code
+-- strict parsing refuses no file for the order of its code,
 abbrev pub StrictTakesBothOrders : Type 0
 StrictTakesBothOrders = (bytes : List ℕ) → parse_fault bytes ≢ Some BigEndianCode
+
+-- and none for its machine
+abbrev pub StrictTakesEachMachine : Type 0
+StrictTakesEachMachine =
+    (bytes : List ℕ) (machine : ℕ) → parse_fault bytes ≢ Some (OtherMachine machine)
 
 -- in strict parsing each program has a kind of the table
 abbrev pub StrictKindsAreNamed : Type 0

@@ -9,7 +9,7 @@ ghost use Rattle.ebpf_model.specs.declared.function.Function.{Function};
 ghost use Rattle.ebpf_model.specs.declared.function.Program.{Program};
 ghost use Rattle.ebpf_model.specs.declared.symbol.Symbol.{Symbol};
 ghost use Rattle.ebpf_parts.specs.declared.maps.either.Map.{Map};
-ghost use Rattle.ebpf_parsing.specs.Laws.{LenientRefusesNoName, ModesAgree, StrictKindsAreNamed, StrictTakesBothOrders, FunctionsAtTheirKeys, SymbolsAtTheirIndices, RelocationsAtTheirOffsets, TablesOfCode, RelocationsNameSymbols, ProgramsHaveFunctions, MapsHaveTheirSymbols, OtherMapsAreOfData, ExternsAreUnresolved, AtEachAddress, InOrder, SectionsTile, FunctionsTile};
+ghost use Rattle.ebpf_parsing.specs.Laws.{LenientRefusesNoName, ModesAgree, StrictKindsAreNamed, StrictTakesBothOrders, StrictTakesEachMachine, FunctionsAtTheirKeys, SymbolsAtTheirIndices, RelocationsAtTheirOffsets, TablesOfCode, RelocationsNameSymbols, ProgramsHaveFunctions, MapsHaveTheirSymbols, OtherMapsAreOfData, ExternsAreUnresolved, AtEachAddress, InOrder, SectionsTile, FunctionsTile};
 
 /// In each table of an object the last of the entries with one key stands.
 pub fn later_entries_stand()
@@ -78,8 +78,8 @@ pub fn externs_are_unresolved()
     ensures { ExternsAreUnresolved }
 {}
 
-/// A little-endian file that `Object::parse` takes has the same license, maps and programs in lenient parsing, and no
-/// fault there.
+/// A little-endian file for eBPF, or for no machine, that `Object::parse` takes has the same license, maps and programs in
+/// lenient parsing, and no fault there.
 pub fn modes_agree()
     ensures { ModesAgree }
 {}
@@ -89,8 +89,9 @@ pub fn lenient_refuses_no_name()
     ensures { LenientRefusesNoName }
 {}
 
-/// Strict parsing gives no program the kind `Other`, and refuses no file for the order of its code.
+/// Strict parsing gives no program the kind `Other`, and refuses no file for the order of its code or for its machine.
 pub fn strict_gives_nothing_lenient()
     ensures kinds { StrictKindsAreNamed }
     ensures orders { StrictTakesBothOrders }
+    ensures machines { StrictTakesEachMachine }
 {}

@@ -10,12 +10,12 @@ ghost use Rattle.ebpf_elf.specs.Relocations.{relocation_sections, relocated_sect
 ghost use Rattle.ebpf_elf.specs.Sections.{sections};
 ghost use Rattle.ebpf_parts.specs.Memory.{is_parse_memory};
 ghost use Rattle.ebpf_parts.specs.Sections.{section_of, name_or_empty, section_with, section_fault};
-ghost use Rattle.ebpf_sections.specs.Sections.{AreTablesOf, data_row, group_at, has_big_endian_code, has_code, is_index, is_type_information, last_data, object_sections, order_fault_as};
+ghost use Rattle.ebpf_sections.specs.Sections.{AreTablesOf, data_row, group_at, has_big_endian_code, has_code, is_for_ebpf, is_index, is_type_information, last_data, machine_fault_as, object_sections, order_fault_as};
 
 use crate::relocations::{RelocationTable, check_targets};
 use ebpf_base::ByName;
 use ebpf_btf::Endianness;
-use ebpf_elf::constants::SHT_NOBITS;
+use ebpf_elf::constants::{EM_BPF, EM_NONE, SHT_NOBITS};
 use ebpf_elf::{ElfFile, ElfSection};
 use ebpf_parts::{EbpfSectionKind, ParseError, ParseMode, Section};
 use std::alloc::Global;
@@ -148,6 +148,31 @@ impl<'a> SectionNames<'a> {
             names.add(alloc, &section)?;
         }
         Ok(names)
+    }
+}
+
+/// Whether a file is for eBPF, or for no machine.
+#[tactic(auto, unfolding(crate::specs::Sections::is_for_ebpf))]
+fn is_for_ebpf(file: &ElfFile<'_>) -> bool
+    ensures { result ≡ is_for_ebpf file.now }
+{
+    let machine = file.machine();
+    machine == EM_BPF || machine == EM_NONE
+}
+
+/// Refuses a file for another machine than eBPF in lenient parsing, as libbpf does.
+///
+/// # Errors
+///
+/// - `OtherMachine`: the mode is `Lenient`, and `e_machine` is neither EM_BPF nor EM_NONE (ELF-64 gABI, 'ELF Header').
+pub fn check_machine(file: &ElfFile<'_>, mode: ParseMode) -> Result<(), ParseError>
+    ensures { fault_of result ≡ machine_fault_as mode file.now }
+{
+    match mode {
+        ParseMode::Lenient if !is_for_ebpf(file) => Err(ParseError::OtherMachine {
+            machine: file.machine(),
+        }),
+        _ => Ok(()),
     }
 }
 
