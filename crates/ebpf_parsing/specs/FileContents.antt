@@ -1,5 +1,5 @@
--- What a file has: its tables, each put together from the sections in order, so that the later of
--- two entries with one key stands, and its first fault.
+-- The contents of a file: its tables, each put together from the sections in order, so that of two
+-- entries with one key the later one counts; and its first fault, by the parse mode.
 use Rattle.std.specs.FinMap.{FinMap, empty}
 use Rattle.std.specs.List.{flat_map}
 use Rattle.std.specs.Ordering.{nat_cmp}

@@ -1,4 +1,4 @@
--- What holds of the tables of each file.
+-- Laws of the tables of each file.
 use Rattle.std.specs.FinMap.{FinMap, get}
 use Rattle.std.specs.List.{flat_map, find}
 use Rattle.std.specs.Ordering.{nat_cmp}
@@ -37,16 +37,16 @@ use Rattle.ebpf_sections.specs.Symbols.{file_symbols, symbol_table, symbol_of, s
 use Rattle.ebpf_sections.specs.Symbols.{SymbolValue}
 use Rattle.ebpf_sections.specs.Texts.{text_functions, text_fault}
 
--- ---- what stands in the tables of each file
+-- ---- the entries of the tables of each file
 
--- at the key (section, address) stands a function of this section, at this address
+-- the function at the key (section, address) is of this section, at this address
 abbrev pub FunctionsAtTheirKeys : Type 0
 FunctionsAtTheirKeys =
     (bytes : List ℕ) (section address : ℕ) (f : Function)
     → get (functions bytes) (section, address) ≡ Some f
     → (f.section_index.0 ≡ section) × (f.address ≡ address)
 
--- at the index i stands the symbol i of the file's symbol table, with a name
+-- the symbol at the index i is the symbol i of the file's symbol table, with a name
 pub record IsFileSymbol (bytes : List ℕ) (i : ℕ) (y : Symbol) : Type 0 where
   pub table : ℕ
   pub of_file : table_of bytes ≡ Some table
@@ -61,8 +61,8 @@ SymbolsAtTheirIndices =
     → get (symbol_table (file_symbols bytes)) i ≡ Some y
     → IsFileSymbol bytes i y
 
--- at the offset o of a section stands a relocation with this offset, and no section has a table
--- without relocations
+-- the relocation at the offset o of a section has this offset, and no section has a table without
+-- relocations
 abbrev pub RelocationsAtTheirOffsets : Type 0
 RelocationsAtTheirOffsets =
     (bytes : List ℕ) (section : ℕ) (table : FinMap nat_cmp ElfRelocation)
@@ -204,9 +204,9 @@ SectionsTile =
     → AreInOrder (functions bytes) s.index.0 fs
     → flat_map (λ f. f.instructions) fs ≡ slots_of s.bytes
 
--- ---- what the two readings of a file have in common, and what each of them alone answers
+-- ---- the common results of the two parse modes, and the results of one alone
 
--- lenient parsing of a file has no fault, and gives what the stated one gives
+-- lenient parsing of a file has no fault, and the same results as strict parsing
 pub record IsReadAlike (bytes : List ℕ) : Type 0 where
   pub license : license_as Lenient bytes ≡ license_of bytes
   pub maps : maps_as Lenient bytes ≡ maps bytes

@@ -27,18 +27,18 @@ use ebpf_sections::sections::{Groups, check_machine, check_order};
 use ebpf_sections::symbols::{FileSymbols, object_symbols, read_symbols};
 use std::alloc::Global;
 
-/// What an ELF file with eBPF programs holds.
+/// The contents of an ELF file with eBPF programs.
 #[derive(Drop)]
 pub struct FileContents {
     /// The byte order of the file's numbers.
     pub endianness: Endianness,
-    /// What programs and functions carry of their object.
+    /// The properties of the object that its programs and functions share.
     pub metadata: FileMetadata,
     /// The externs by name.
     pub externs: ByName<ExternDesc>,
     /// The symbols by their index.
     pub symbol_table: ByIndex<Symbol>,
-    /// What the sections give.
+    /// The tables that the sections fill.
     pub object_tables: ObjectTables,
 }
 
@@ -189,7 +189,7 @@ fn read_parts(
 }
 
 impl FileContents {
-    /// What the bytes of an ELF64 file hold by a parse mode.
+    /// Reads the contents of an ELF64 file by a parse mode.
     ///
     /// # Errors
     ///

@@ -1,4 +1,4 @@
--- What the names of program sections say (libbpf's section names, as the public crate takes them).
+-- The kind of a program by the name of its section (libbpf's section names, as aya-obj takes them).
 -- A name is split at each slash. Its first piece says the kind, in some rows with its second;
 -- further pieces say nothing.
 use Rattle.std.specs.Prelude.{ℕ, Bool, true, false, List, [], ◌∷◌, Option, Some, None, ◌==◌}

@@ -1,4 +1,4 @@
--- The codes of instructions that definitions tell apart (RFC 9669).
+-- The numbers of the byte code (RFC 9669), and the slots of bytes: a slot is eight of them.
 use Rattle.std.specs.Prelude.{ℕ, ℤ, pos, negsuc, Bool, false, ◌&&◌, ◌+◌, ◌*◌, ◌/◌, ◌%◌, not, ◌==◌}
 use Rattle.std.specs.Prelude.{List, [], ◌∷◌, ◌++◌, length, map, slice_index, ◌≡◌, ◌≤◌, ◌<◌, take}
 use Rattle.std.specs.Prelude.{slice_range}
