@@ -14,7 +14,7 @@ use Rattle.ebpf_btf.specs.TypeInfo.{TypeInfo}
 use Rattle.ebpf_btf_decls.proofs.BothModes.{lenient_declares_as_strict}
 use Rattle.ebpf_btf_decls.specs.Maps.{btf_maps_fault, types_in_mode}
 use Rattle.ebpf_elf.specs.Faults.{faults}
-use Rattle.ebpf_elf.specs.Headers.{ei_data}
+use Rattle.ebpf_elf.specs.Headers.{e_machine, ei_data}
 use Rattle.ebpf_elf.specs.Sections.{SectionOf, sections}
 use Rattle.ebpf_model.specs.declared.function.Program.{Program}
 use Rattle.ebpf_parts.proofs.NamesRead.{lenient_keeps_kinds, no_name_says_other}
