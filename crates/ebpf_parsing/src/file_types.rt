@@ -53,7 +53,11 @@ fn ext_in(alloc: Global, order: Endianness, bytes: &[u8], types: &Btf) -> Result
     }
 }
 
-/// Remembers the index of a section by its name.
+/// Puts the index of a section by its name.
+///
+/// # Errors
+///
+/// - `OutOfMemory`: an allocation fails.
 pub fn remember(
     alloc: Global,
     section_infos: &mut ByName<SectionIndex>,
@@ -145,7 +149,13 @@ pub struct FileTypes {
 }
 
 impl FileTypes {
-    /// Reads the type information of a file.
+    /// Reads the sections `.BTF` and `.BTF.ext` of a file.
+    ///
+    /// # Errors
+    ///
+    /// - `SectionError`, `UnsupportedRelocationTarget`: the section can't be read.
+    /// - `BtfError`: the types, the info entries or the CO-RE relocations can't be read.
+    /// - `OutOfMemory`: an allocation fails.
     #[tactic(auto, unfolding(crate::specs::FileTypes::ext_of, crate::specs::FileTypes::ext_fault, crate::specs::FileTypes::ext_names, crate::specs::FileTypes::type_info_names, crate::specs::FileTypes::file_types_fault))]
     pub fn read(
         alloc: Global,
@@ -179,6 +189,11 @@ pub struct FileExterns {
 
 impl FileExterns {
     /// Reads the externs of a file, whose symbols have names, with its types.
+    ///
+    /// # Errors
+    ///
+    /// - `BtfError`: as in `collect_externs`.
+    /// - `OutOfMemory`: an allocation fails.
     #[tactic(auto, using(crate::proofs::TypeErrors::infos), unfolding(ebpf_btf_decls::specs::Externs::types_with, ebpf_btf_decls::specs::Externs::types_fault))]
     pub fn read(
         alloc: Global,

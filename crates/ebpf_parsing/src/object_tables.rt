@@ -340,7 +340,12 @@ fn read_by_last(
     Ok(object_tables)
 }
 
-/// The tables that the sections of a file fill, each with its relocations and its symbols.
+/// Reads the sections of a file into the tables of an object, each with its relocations and its symbols.
+///
+/// # Errors
+///
+/// The first fault of the sections in the order of their numbers. `OutOfMemory` is returned only if an allocation
+/// fails.
 pub fn read_sections(
     alloc: Global,
     metadata: &FileMetadata,

@@ -92,7 +92,15 @@ fn license_in(alloc: Global, bytes: &[u8], mode: ParseMode) -> Result<Items<u8>,
     }
 }
 
-/// Returns the license of a file, `GPL` if it has no section `license`.
+/// Returns the license of a file, `GPL` if it has no section `license` (libbpf's name).
+///
+/// # Errors
+///
+/// - `SectionError`, `UnsupportedRelocationTarget`: the section can't be read.
+/// - `InvalidLicense`: strict parsing, fewer than two bytes or a zero before the last one; lenient parsing, one byte
+///   that isn't zero.
+/// - `MissingLicenseNullTerminator`: two or more bytes, none of them zero.
+/// - `OutOfMemory`: an allocation fails.
 #[tactic(auto, using(crate::proofs::RelocationTables::found_from), unfolding(ebpf_parts::specs::Sections::section_of, ebpf_parts::specs::Sections::section_with, crate::specs::LicenseAndVersion::license_as, crate::specs::LicenseAndVersion::license_fault_as))]
 pub fn read_license(
     alloc: Global,
@@ -132,7 +140,13 @@ fn version_in(alloc: Global, order: Endianness, bytes: &[u8]) -> Result<Option<u
     Ok(Some(version))
 }
 
-/// Returns the kernel version of a file, `None` if it has no section `version`.
+/// Returns the kernel version of a file, `None` if it has no section `version` (libbpf's name).
+///
+/// # Errors
+///
+/// - `SectionError`, `UnsupportedRelocationTarget`: the section can't be read.
+/// - `InvalidKernelVersion`: the section has not 4 bytes.
+/// - `OutOfMemory`: an allocation fails.
 #[tactic(auto, using(crate::proofs::RelocationTables::found_from), unfolding(ebpf_parts::specs::Sections::section_of, ebpf_parts::specs::Sections::section_with, crate::specs::LicenseAndVersion::kernel_version_of, crate::specs::LicenseAndVersion::version_fault))]
 pub fn read_version(
     alloc: Global,
