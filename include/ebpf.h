@@ -87,6 +87,7 @@ enum ebpf_number {
 	EBPF_PARSE_NO_TYPES = 155,
 	EBPF_PARSE_BIG_ENDIAN_CODE = 156, /* lenient parsing (`ebpf_open_broad`) alone */
 	EBPF_PARSE_TOO_LARGE = 157, /* ebpf_open_within alone */
+	EBPF_PARSE_OTHER_MACHINE = 158, /* lenient parsing (`ebpf_open_broad`) alone: e_machine is not eBPF's */
 
 	/* 200 to 299: types. About the section, from 220 on */
 	EBPF_TYPES_READ = 200,	/* + ebpf_type_fault: the kernel's types can't be read */
@@ -245,7 +246,7 @@ struct ebpf_refusal {
 	uint64_t relocation;	/* the index of an ELF or CO-RE relocation among those of its section */
 	uint64_t index;		/* the number of a member, an element or a variant that is asked for */
 	uint64_t count;		/* how many of them there are, or how many slots */
-	uint64_t kind;		/* the number of a kind of map (enum bpf_map_type) or of CO-RE relocation */
+	uint64_t kind;		/* a map type (enum bpf_map_type), a kind of CO-RE relocation, or a machine (e_machine) */
 	size_t name_len;	/* how many bytes of the name are in `about` */
 };
 
@@ -283,7 +284,8 @@ uint32_t ebpf_open(const uint8_t *file, size_t file_len, struct ebpf_handle *han
  *  - A license ends at its first zero.
  *  - map_extra may be a 64-bit number.
  *  - A big-endian file with code is refused (156).
- * For a little-endian file that `ebpf_open` accepts, both give the same object. Numbers: 2, 100 to 199.
+ *  - A file for another machine is refused (158): e_machine is neither EM_BPF nor EM_NONE.
+ * For any other file that `ebpf_open` accepts, both give the same object. Numbers: 2, 100 to 199.
  */
 uint32_t ebpf_open_broad(const uint8_t *file, size_t file_len, struct ebpf_handle *handle, char *about,
 			 size_t about_room, struct ebpf_refusal *refusal);

@@ -117,6 +117,7 @@ ADVICE = {
     "obj::ParseError::MapSymbolNameNotFound": "nothing: no call returns this error",
     "obj::ParseError::NoSymbolsForSection": "don't strip symbols",
     "obj::ParseError::BigEndianCode": "compile with `-target bpfel`; only lenient parsing (`ParseMode::Lenient`) returns this error",
+    "obj::ParseError::OtherMachine": "compile with `-target bpfel`; only lenient parsing (`ParseMode::Lenient`) returns this error",
     "obj::ParseError::TooLarge": "raise the limit; only `parse_within` returns this error",
     "obj::ParseError::NoBTF": "compile with `-g`, and don't strip `.BTF`",
     "obj::VariableError::NotAVariable": "give a name that `variables` lists; don't strip symbols",

@@ -6,6 +6,7 @@ from c_interface.loader_rows import INNER_SIZE, VALUES, declared_maps, holding
 from c_interface.refusals import DETAILS
 from c_interface.runs import CallsRow
 from rows import values
+from rows.elf import changed
 
 # The type of a map that is a hash of maps.
 HASH_OF_MAPS = 13
@@ -18,6 +19,7 @@ def rows():
     yield CallsRow("a value passes its map", (variables, b"", b""), ["open", "value=past:must:0102"], ["open 0", "value 150 past {size 2 other_size 2}"])
     yield CallsRow("a limit", (variables, b"", b""), ["open_within=1000000"], ["open_within 0"])
     yield CallsRow("a limit that is passed", (variables, b"", b""), ["open_within=100:broad"], ["open_within 157 {size 100}"])
+    yield CallsRow("another machine", (changed(variables, 18, b"\x3e\0"), b"", b""), ["open", "open_broad"], ["open 0", "open_broad 158 {kind 62}"])
     hashed = holding([(INNER_SIZE + VALUES, 1)], declared_maps(kind=HASH_OF_MAPS, key=3)).bytes()
     yield CallsRow("keys of two bytes", (hashed, b"", b""), ["open", "initial"], ["open 0", "initial 824 outer {size 2}"])
 

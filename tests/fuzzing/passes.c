@@ -408,13 +408,21 @@ static const char *broadly(uint64_t *first)
 	return stage;
 }
 
+/* Whether both modes give one object: the file is little-endian, and for eBPF (247) or for no machine. */
+static int modes_agree(void)
+{
+	uint32_t machine = file.at[18] | (uint32_t)file.at[19] << 8;
+
+	return file.at[5] == 1 && (machine == 247 || !machine);
+}
+
 /* Reads the object as stated: of what it takes, lenient parsing gives the same. */
 static void as_stated(const char *stage, uint64_t first)
 {
 	struct ebpf_handle object = EBPF_CLOSED_HANDLE;
 	uint32_t number = ebpf_open(file.at, file.len, &object, ABOUT);
 
-	if (!judged("ebpf_open", number, 100, 199, 100, 199) && file.at[5] == 1) {
+	if (!judged("ebpf_open", number, 100, 199, 100, 199) && modes_agree()) {
 		if (!strcmp(stage, "parse"))
 			say("lenient parsing refuses what the stated one takes");
 		else if (list_all(&object) != first)

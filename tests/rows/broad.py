@@ -3,7 +3,7 @@ from rows.btf import ENUM, ENUM64, array, btf, datasec, pointer, prototype, stru
 from rows.case import Case
 from rows.core_sides import MOVE, TYPE_SIZE, moved, shown, type_parts
 from rows.btf_defined_maps import NUMBERS, declaring, named, unexpected
-from rows.elf import BIG, EXIT, FUNCTION, OBJECT, PROGBITS, SECTION, File
+from rows.elf import BIG, EXIT, FUNCTION, OBJECT, PROGBITS, SECTION, File, changed
 from rows.loaded_names import ROWS
 from rows.names import CGROUPS, NETWORK, PROBES
 from rows.records import table
@@ -198,5 +198,21 @@ def orders():
     ]
 
 
+def machines():
+    """Files for other machines (e_machine, the two bytes at 18): lenient parsing takes eBPF's and none."""
+    little = File().code("kprobe/p", EXIT).symbol("p", FUNCTION, 3, 0, 8).bytes()
+    big = File(BIG).code("kprobe/p", EXIT).symbol("p", FUNCTION, 3, 0, 8).bytes()
+    program_p = "program p KProbe at 3 0"
+    rows = [
+        ("a file for no machine", little, "0000", program_p),
+        ("a file for machine 246", little, "f600", "OtherMachine { machine: 246 }"),
+        ("a file for machine 248", little, "f800", "OtherMachine { machine: 248 }"),
+        ("a file for x86-64", little, "3e00", "OtherMachine { machine: 62 }"),
+        ("a big-endian file for x86-64", big, "003e", "OtherMachine { machine: 62 }"),
+        ("a big-endian file with eBPF's number in the other order", big, "f700", "OtherMachine { machine: 63232 }"),
+    ]
+    return [both(name, changed(file, 18, bytes.fromhex(machine)), "programs", program_p, broadly) for name, file, machine, broadly in rows]
+
+
 def cases():
-    return [*named_programs(), *sections(), *said_of_programs(), *maps(), *extras(), *licenses(), *orders()]
+    return [*named_programs(), *sections(), *said_of_programs(), *maps(), *extras(), *licenses(), *orders(), *machines()]

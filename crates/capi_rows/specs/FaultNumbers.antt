@@ -99,6 +99,7 @@ parse_refusal parse.NoBTF = plain 155
 parse_refusal parse.OutOfMemory = plain MEMORY
 parse_refusal parse.BigEndianCode = plain 156
 parse_refusal (parse.TooLarge most) = refusal_with_details 157 (of_size most no_details)
+parse_refusal (parse.OtherMachine machine) = refusal_with_details 158 (of_kind machine no_details)
 
 -- ---- 300, 500 and 600 on: slots, about the function or the program
 

@@ -82,7 +82,7 @@ const TYPE_FAULTS: [&str; 15] = [
 ];
 
 /// Other faults of parsing.
-const PARSE_FAULTS: [&str; 18] = [
+const PARSE_FAULTS: [&str; 19] = [
     "MissingLicenseNullTerminator",
     "InvalidLicense",
     "InvalidKernelVersion",
@@ -101,6 +101,7 @@ const PARSE_FAULTS: [&str; 18] = [
     "NoBTF",
     "BigEndianCode",
     "TooLarge",
+    "OtherMachine",
 ];
 
 /// Faults of a record on types.

@@ -133,6 +133,10 @@ pub fn parse_refusal(error: ParseError) -> Refusal
         ParseError::OutOfMemory => Refusal::plain(MEMORY),
         ParseError::BigEndianCode => Refusal::plain(156),
         ParseError::TooLarge { most_bytes } => Refusal::with_details(157, none.of_size(most_bytes)),
+        ParseError::OtherMachine { machine } => Refusal::with_details(
+            158,
+            none.of_kind(u32::from(machine)),
+        ),
     }
 }
 

@@ -1,9 +1,6 @@
 //! The machines that ELF files are for (ELF-64 gABI, 'ELF Header': e_machine).
 
-use ebpf_elf::constants::{ELFDATA2MSB, EM_BPF, MAGIC};
-
-/// e_machine of no machine, as clang wrote it of eBPF once.
-const EM_NONE: u16 = 0;
+use ebpf_elf::constants::{ELFDATA2MSB, EM_BPF, EM_NONE, MAGIC};
 
 /// The machine that an ELF file is for, of 32 or 64 bits, where it isn't eBPF.
 pub fn other_machine(file: &[u8]) -> Option<u16> {

@@ -79,7 +79,9 @@ pub fn parse_help(error: &ParseError) -> Option<&'static str> {
             "a map needs 20 bytes or more and pinning 0 or 1; a section of variables fewer than 4 GiB",
         ),
         ParseError::NoBTF => Some("compile with `-g`, and don't strip `.BTF`"),
-        ParseError::BigEndianCode => Some("compile with `-target bpfel`"),
+        ParseError::BigEndianCode | ParseError::OtherMachine { .. } => {
+            Some("compile with `-target bpfel`")
+        }
         ParseError::InvalidGlobalData { .. }
         | ParseError::MapNotFound { .. }
         | ParseError::MapSymbolNameNotFound { .. }

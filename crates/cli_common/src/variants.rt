@@ -23,7 +23,7 @@ pub fn variant_of_parsing(error: &ParseError) -> &'static str {
         ParseError: ElfError BtfError MissingLicenseNullTerminator InvalidLicense InvalidKernelVersion SectionError
             UnsupportedRelocationTarget InvalidProgramSection InvalidProgramCode InvalidMapDefinition SymbolTableConflict
             UnknownSymbol InvalidSymbol InvalidGlobalData SymbolNotFound MapNotFound MapSymbolNameNotFound
-            NoSymbolsForSection NoBTF OutOfMemory BigEndianCode TooLarge
+            NoSymbolsForSection NoBTF OutOfMemory BigEndianCode TooLarge OtherMachine
     )
 }
 

@@ -345,12 +345,6 @@ module _ (symbols : List ℕ → Option ℕ) (section : ℕ) (q : List ℕ) wher
 
 -- ---- entries without a fault
 
--- the fault of an entry that is declared
-pub entry_fault : (mode : ParseMode) (info : TypeInfo) (symbols : List ℕ → Option ℕ) (section : ℕ) (entry : DataSecEntry) (name : List ℕ) (d : MapDefinitions) → declared mode info entry ≡ Ok (name, d)
-    → fault_of (entry_map mode info symbols section entry) ≡ missing symbols name
-unfolding entry_map
-entry_fault mode info symbols section entry name d is = ap (λ r. fault_of (map_with_symbol symbols section r)) is ∙ missing_fault section name d (symbols name)
-
 module _ (mode : ParseMode) (info : TypeInfo) (first : List ℕ → Option ℕ) (symbols : List ℕ → Option ℕ) (section : ℕ) where
   abbrev declarations : List DataSecEntry → List (List ℕ × MapDefinitions)
   declarations entries = flat_map (λ entry. given (declared mode info entry)) entries

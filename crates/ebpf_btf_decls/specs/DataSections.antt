@@ -1,5 +1,5 @@
--- The DATASECs of a name, and what their entries give: the sections that types speak of (the
--- kernel's Documentation/bpf/btf.rst, 2.2.15 "BTF_KIND_DATASEC").
+-- The DATASECs of a name, and the results of their entries (the kernel's
+-- Documentation/bpf/btf.rst, 2.2.15 "BTF_KIND_DATASEC").
 use Rattle.std.specs.Prelude.{ℕ, Bool, true, false, List, [], Option, Some, None, Result, Ok, Err}
 use Rattle.std.specs.Prelude.{◌∷◌}
 use Rattle.ebpf_base.specs.Faults.{if_ok}

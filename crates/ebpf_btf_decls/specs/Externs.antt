@@ -1,5 +1,6 @@
 -- Externs: the kernel's functions and variables that an object names in its DATASEC `.ksyms`, and
--- what stands in for the functions.
+-- the variable that the types have in place of the functions (libbpf's
+-- bpf_object__collect_externs).
 use Rattle.std.specs.FinMap.{FinMap, empty}
 use Rattle.std.specs.List.{position, flat_map}
 use Rattle.std.specs.Prelude.{◌≡◌, length, take, ℕ, Bool, false, List, Option, None, ◌==◌, codes}

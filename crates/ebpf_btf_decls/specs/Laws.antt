@@ -1,4 +1,4 @@
--- What holds of the definitions that members make.
+-- Laws of the definitions that the members of a map's struct make.
 use Rattle.std.specs.Prelude.{◌≡◌, ℕ, List, ◌∷◌, ◌++◌, Option, None}
 use Rattle.ebpf_base.specs.Faults.{fault_of}
 use Rattle.ebpf_btf.specs.Strings.{text_at}

@@ -49,8 +49,13 @@ impl<'b> Model for BtfDefinedMaps<'b> {
 }
 
 impl<'b> BtfDefinedMaps<'b> {
-    /// The BTF-defined maps. The DATASECs of these names are found in one pass, in which of each DATASEC's name no more
-    /// is looked at than the longest of them has. `OutOfMemory` where memory is refused.
+    /// Finds the DATASECs of these names in one pass over the types.
+    ///
+    /// Of each DATASEC's name no more bytes are read than the longest of these names has.
+    ///
+    /// # Errors
+    ///
+    /// - `OutOfMemory`: an allocation fails.
     #[tactic(auto, using(crate::proofs::SectionMaps::none_kept))]
     pub fn gather(
         alloc: Global,
@@ -71,9 +76,16 @@ impl<'b> BtfDefinedMaps<'b> {
         })
     }
 
-    /// Puts the BTF-defined maps of a section by their names, DATASEC by DATASEC of the section's name and of each its
-    /// entries in order; of equal names the later stands. Each name is put once, however many entries declare it. What
-    /// the DATASECs of a name declare is read at the first section of the name, and kept for the others.
+    /// Puts the BTF-defined maps of a section by their names (libbpf's BTF-defined maps).
+    ///
+    /// The DATASECs with the section's name and their entries count in order; of equal names the later one is kept. The
+    /// declarations of a name are read at the first section of the name, and kept for the others.
+    ///
+    /// # Errors
+    ///
+    /// - `BtfError`: a type of a declaration can't be read, or declares no map.
+    /// - `SymbolNotFound`: a map's name is that of no symbol of the section.
+    /// - `OutOfMemory`: an allocation fails.
     pub fn put(
         &mut self,
         alloc: Global,
@@ -240,7 +252,7 @@ fn read_section_maps(
     }
 }
 
-/// The fault of types as a fault of parsing; want of memory stays want of memory.
+/// Returns a fault of types as a fault of parsing; an allocation failure stays one.
 pub fn parse_error(error: BtfError) -> ParseError
     ensures memory { is_parse_memory result ≡ is_btf_memory error }
     ensures other { MatchBool (is_btf_memory error) ⊤ (result ≡ errors.BtfError error) }

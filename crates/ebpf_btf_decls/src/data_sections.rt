@@ -179,7 +179,11 @@ fn gather_into(
 }
 
 impl NamedSections {
-    /// The DATASECs of these names. `OutOfMemory` where memory is refused.
+    /// Finds the DATASECs of these names.
+    ///
+    /// # Errors
+    ///
+    /// - `OutOfMemory`: an allocation fails.
     pub fn gather(alloc: Global, btf: &Btf, names: &[&str]) -> Result<NamedSections, BtfError>
         ensures found { IfOk result (λ found. AreFound btf.now found) }
         ensures memory { IfErr result (λ e. is_btf_memory e ≡ true) }
@@ -188,8 +192,11 @@ impl NamedSections {
         gather_into(alloc, btf, by_name, longest)
     }
 
-    /// Looks for the DATASECs of a name, and of no other then, where it was not looked for. `OutOfMemory` where memory
-    /// is refused.
+    /// Looks for the DATASECs of a name, if it was not looked for; those of other names are then forgotten.
+    ///
+    /// # Errors
+    ///
+    /// - `OutOfMemory`: an allocation fails.
     pub fn look_for(&mut self, alloc: Global, btf: &Btf, name: &str) -> Result<(), BtfError>
         requires { AreFound btf.now self.old }
         ensures found { AreFound btf.now self.new }

@@ -70,7 +70,7 @@ pub fn map_at(
     })
 }
 
-/// Maps, of which the later of equal names stands.
+/// Maps, of equal names only the later one.
 #[derive(Drop)]
 pub struct DistinctMaps {
     /// The names of maps.
@@ -92,8 +92,12 @@ impl DistinctMaps {
         }
     }
 
-    /// Puts the maps by their names, as those of a section with these indices of symbols. `SymbolNotFound` of the
-    /// first name that has no symbol. `OutOfMemory` only where memory was refused.
+    /// Puts the maps by their names, as those of a section with these indices of symbols.
+    ///
+    /// # Errors
+    ///
+    /// - `SymbolNotFound`: the first name that is that of no symbol.
+    /// - `OutOfMemory`: an allocation fails.
     pub fn put(
         &self,
         alloc: Global,

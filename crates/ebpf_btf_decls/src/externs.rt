@@ -1,4 +1,4 @@
-//! The externs of an object, and what stands in the types for functions of the kernel among them.
+//! The externs of an object, and the variable that the types have in place of kernel functions among them.
 
 ghost use Rattle.std.specs.Prelude.{◌≡◌, ℕ, List, Ok, Some, None, IfOk, IfErr, OnOk, OnErr, is_some, slice_get, true, ◌<◌, ◌^◌, IfSome};
 ghost use Rattle.std.specs.List.{AllZip, zip, position};
@@ -219,15 +219,22 @@ pub fn may_declare_externs(btf: &Btf) -> bool
     !matches!(first_entries(btf, EXTERNS), Ok(None))
 }
 
-/// The externs of an object, by name: the entries of the first DATASEC `.ksyms`. `weak` says of each name that a
-/// symbol has whether the first such symbol is weak. Where an entry is a FUNC, a variable is added to the types
-/// that stands in for functions, and first an INT of 4 bytes where there is none.
+/// Returns the externs of an object by name: the entries of the first DATASEC `.ksyms` (libbpf's name).
 ///
-/// Faults in this order: `InvalidStringOffset` of a DATASEC's name up to `.ksyms`; `UnknownBtfType` of an entry up
-/// to the first FUNC; `TooLarge` where the types or strings have no room for the variable; then for each entry
-/// `UnknownBtfType`, `InvalidDatasec` where it is neither FUNC nor VAR, `InvalidStringOffset` of its name,
-/// `InvalidSymbolName` where no symbol has its name, and those of resolving its type. `OutOfMemory` only where
-/// memory was refused. After a refusal the types are as before.
+/// `weak` says of each symbol name whether the first symbol with the name is weak. If an entry is a FUNC, a variable in
+/// place of functions is added to the types, and before it an INT of 4 bytes if they have none.
+///
+/// # Errors
+///
+/// The first of these faults, in this order:
+///
+/// - `InvalidStringOffset`: the name of a DATASEC up to `.ksyms` can't be read.
+/// - `UnknownBtfType`: an entry up to the first FUNC has no type.
+/// - `TooLarge`: the types or strings have no room for the variable.
+/// - Then for each entry `UnknownBtfType`, `InvalidDatasec` (it is neither FUNC nor VAR), `InvalidStringOffset` (of its
+///   name), `InvalidSymbolName` (no symbol has its name), and the errors of resolving its type.
+///
+/// `OutOfMemory` is returned only if an allocation fails. On error the types are unchanged.
 #[tactic(auto, unfolding(crate::specs::Externs::types_with, crate::specs::Externs::types_fault))]
 pub fn collect_externs(
     alloc: Global,

@@ -1,9 +1,8 @@
-//! What holds of BTF-defined maps.
+//! Laws of BTF-defined maps.
 
 ghost use Rattle.ebpf_btf_decls.specs.Laws.{LenientDeclaresAsStrict, LaterMembersStand, LaterInnerMembersStand};
 
-/// Of two members of one name of a struct that declares a map the later stands, also of one that declares the maps
-/// that a map holds.
+/// Of two members of a map's struct with one name the later one counts, also in the struct of an inner map.
 pub fn later_members_stand()
     ensures maps { LaterMembersStand }
     ensures inner_maps { LaterInnerMembersStand }

@@ -13,6 +13,8 @@ pub const ELFDATA2MSB: u8 = 2;
 
 /// The machine of eBPF (e_machine; the kernel's include/uapi/linux/elf-em.h).
 pub const EM_BPF: u16 = 247;
+/// No machine (e_machine; ELF-64 gABI, 'ELF Header'), which old versions of clang write for eBPF.
+pub const EM_NONE: u16 = 0;
 
 /// The first reserved section index (gABI, 'Special Section Indexes').
 pub const SHN_LORESERVE: u16 = 0xff00;

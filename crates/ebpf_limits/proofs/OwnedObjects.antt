@@ -13,7 +13,7 @@ use Rattle.ebpf_limits.proofs.OwnedMaps.{maps_owned}
 use Rattle.ebpf_limits.proofs.OwnedRelocations.{relocations_owned}
 use Rattle.ebpf_object.specs.Objects.{object_as, parse_fault_as}
 use Rattle.ebpf_object.specs.declared.object.Object.{Object}
-use Rattle.ebpf_parsing.specs.Sections.{order_fault_as}
+use Rattle.ebpf_parsing.specs.Sections.{machine_fault_as, order_fault_as}
 use Rattle.ebpf_parsing.specs.FileTypes.{btf_fault, ext_fault, file_types_fault}
 use Rattle.ebpf_parsing.specs.LicenseAndVersion.{license_fault_as, version_fault}
 use Rattle.ebpf_parsing.specs.Symbols.{symbols_fault}
@@ -31,7 +31,8 @@ pub own_what_is_made : ObjectsOwnWhatIsMade
 unfolding type_information_bytes
 own_what_is_made mode file short clear =
     let a = both_None (option_map ElfError (first_in (faults file))) _ clear in
-    let b = both_None (order_fault_as mode file) _ a.1 in
+    let m = both_None (machine_fault_as mode file) _ a.1 in
+    let b = both_None (order_fault_as mode file) _ m.1 in
     let c = both_None (license_fault_as mode file) _ b.1 in
     let d = both_None (version_fault file) _ c.1 in
     let e = both_None (symbols_fault file) _ d.1 in

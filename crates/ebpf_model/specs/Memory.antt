@@ -1,4 +1,4 @@
--- The one answer of relocation that no definition states: want of memory.
+-- The one error of relocation that no definition states: an allocation failure.
 use Rattle.std.specs.Prelude.{◌≡◌, Bool, true, false, [], IsTrue}
 use Rattle.ebpf_model.specs.declared.error.EbpfRelocationError.{EbpfRelocationError}
 use Rattle.ebpf_model.specs.declared.error.RelocationError.{RelocationError}
@@ -8,10 +8,10 @@ abbrev pub is_slot_memory : RelocationError → Bool
 is_slot_memory OutOfMemory = true
 is_slot_memory _ = false
 
--- want of memory, of an error that names a function
+-- an allocation failure, of an error that names a function
 abbrev pub is_memory_at : EbpfRelocationError → Bool
 is_memory_at e = is_slot_memory e.error
 
--- want of memory names no function
+-- an allocation failure names no function
 abbrev pub NamesNoneForMemory : EbpfRelocationError → Type 0
 NamesNoneForMemory e = IsTrue (is_memory_at e) → e.function ≡ []

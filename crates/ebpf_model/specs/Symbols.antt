@@ -1,4 +1,4 @@
--- The keys of functions.
+-- The keys of functions, the symbols of externs, and the sections that have functions.
 use Rattle.std.specs.Prelude.{ℕ, Bool, true, false, not, ◌&&◌, is_none, nat_eq}
 use Rattle.std.specs.HashSet.{HashSet, contains}
 use Rattle.std.specs.declared.hash.FoldHasher.{FoldHasher}

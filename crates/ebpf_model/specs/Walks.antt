@@ -1,4 +1,5 @@
--- What a pass keeps of a function: all of it but the slots, and how many these are.
+-- The shape of a function, which passes keep: all of it but the slots, and the number of these.
+-- Then a walk over the relocations of sections, in step with functions.
 use Rattle.std.specs.Prelude.{◌≡◌, length, Option, Some, None, IsSomeAnd, MatchOption, ◌≤◌, ◌==◌}
 use Rattle.std.specs.Prelude.{◌^◌, ℕ, Bool, false, nat_lt, if◌then◌else◌, List, [], ◌∷◌}
 use Rattle.std.specs.FinMap.{FinMap, get, entries}

@@ -13,7 +13,7 @@ use thiserror::Error;
 #[derive(Debug, Drop, Error)]
 #[error("{}{error}", Within {what: "function", name: .function.as_str()})]
 pub struct EbpfRelocationError {
-    /// The name of the function or the program; empty where memory was refused.
+    /// The name of the function or the program; empty after an allocation failure.
     pub function: Text,
     /// Why.
     pub error: RelocationError,
@@ -34,7 +34,7 @@ pub enum RelocationError {
         symbol_index: usize,
         symbol_name: Option<Text>,
     },
-    /// A function refers to an address where no function stands.
+    /// A function refers to an address where no function begins.
     #[error("{:?} refers to address {address:#x}, where no function begins", .caller_name.as_str())]
     UnknownFunction {
         address: u64,
@@ -45,13 +45,13 @@ pub enum RelocationError {
     FunctionInfoMismatch {
         name: Text,
     },
-    /// No function stands where a program says that its own does.
+    /// No function is at the address of a program.
     #[error("no function is at address {address:#x} of section {section_index}, where the program begins")]
     UnknownProgram {
         section_index: usize,
         address: u64,
     },
-    /// A relocation stands where it can't be applied.
+    /// A relocation is at an offset where no instruction can carry it.
     #[error("relocation {relocation_number} is at offset {offset:#x}, where no instruction can carry it")]
     InvalidRelocationOffset {
         offset: u64,
@@ -87,13 +87,13 @@ pub enum RelocationError {
     MapAddressOverflow {
         offset: u64,
     },
-    /// No memory was found.
+    /// An allocation failed.
     #[error("out of memory")]
     OutOfMemory,
 }
 
 impl EbpfRelocationError {
-    /// Want of memory, with the empty text for the name.
+    /// Returns the error of an allocation failure, with the empty text for the name.
     pub fn memory(alloc: Global) -> EbpfRelocationError
         ensures { result ≡ record { function = []; error = OutOfMemory } }
     {
@@ -103,8 +103,9 @@ impl EbpfRelocationError {
         }
     }
 
-    /// An error of a function or a program with this name. Want of memory, also where it is the name that finds
-    /// none, has the empty text for the name.
+    /// Returns the error of a function or a program with this name.
+    ///
+    /// The name of an allocation failure is the empty text, also where the copy of the name fails.
     pub fn with_name(alloc: Global, name: &str, error: RelocationError) -> EbpfRelocationError
         ensures named { MatchBool (is_memory_at result) ⊤
             (result ≡ record { function = name.now; error = error }) }
@@ -120,7 +121,7 @@ impl EbpfRelocationError {
     }
 }
 
-/// Whether an error is want of memory.
+/// Whether an error is an allocation failure.
 fn is_slot_memory(error: &RelocationError) -> bool
     ensures { result ≡ is_slot_memory error.now }
 {

@@ -16,7 +16,7 @@ pub struct Function {
     pub address: u64,
     /// Its symbol's name.
     pub name: Text,
-    /// The section that it stands in.
+    /// The index of its section.
     pub section_index: SectionIndex,
     /// The offset of the function in the section's data, in bytes.
     pub section_offset: usize,
@@ -33,7 +33,7 @@ pub struct Function {
 }
 
 impl Function {
-    /// The offset of the function's end in its section, in bytes.
+    /// Returns the offset of the function's end in its section, in bytes.
     pub fn end(&self) -> u128
         ensures { result ≡ self.now.section_offset + 8 * length self.now.instructions }
     {
@@ -75,7 +75,7 @@ pub struct Program {
 }
 
 impl Program {
-    /// The key of its function: the index of its section, and its address.
+    /// Returns the key of its function: the index of its section, and its address.
     pub fn function_key(&self) -> (usize, u64)
         ensures { result ≡ (self.now.section_index, self.now.address) }
     {

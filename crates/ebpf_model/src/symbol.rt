@@ -12,7 +12,7 @@ use std::alloc::AllocError;
 pub struct Symbol {
     /// Its index in the table.
     pub index: usize,
-    /// The section that it stands in, where it has one.
+    /// The index of its section, where it has one.
     pub section_index: Option<usize>,
     /// Its name; there is always one after parsing.
     pub name: Option<Text>,

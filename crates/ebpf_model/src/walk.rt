@@ -66,7 +66,7 @@ fn take_first(
     }
 }
 
-/// Whether a relocation stands before an offset.
+/// Whether a relocation is before an offset.
 fn is_passed(next: Option<(u64, Relocation)>, offset: u64) -> bool
     ensures { result ≡ is_passed next offset }
 {
@@ -111,7 +111,7 @@ impl<'a> Walk<'a> {
         }
     }
 
-    /// A walk that is before all functions of the first section.
+    /// Returns a walk that is before all functions of the first section.
     pub fn new(relocations: &'a BySection<ByOffset<Relocation>>) -> Walk<'a>
         ensures { IsWithinFunction relocations.now result }
     {
@@ -133,7 +133,7 @@ impl<'a> Walk<'a> {
         self.next
     }
 
-    /// Passes that relocation.
+    /// Passes the relocation of `peek`.
     pub fn pass(&mut self)
         ensures left { left_in self.new ≡ ahead_in self.old.ahead }
         ensures others { self.new
@@ -197,7 +197,7 @@ impl<'a> Walk<'a> {
         at_offset(self.next, offset)
     }
 
-    /// The relocation of a slot of a function, after those of the slots before it.
+    /// Returns the relocation of a slot of a function, after those of the slots before it.
     #[tactic(auto, using(crate::proofs::InStep::found_past))]
     pub fn relocation_of(&mut self, function: &Function, slot: usize) -> Option<Relocation>
         requires { IsBefore self.old (function.now.section_offset + 8 * slot) }
@@ -234,7 +234,7 @@ impl<'a> Walk<'a> {
         );
     }
 
-    /// Goes on to a function.
+    /// Goes on to a function, forwards or backwards.
     pub fn go_to(&mut self, relocations: &'a BySection<ByOffset<Relocation>>, function: &Function)
         requires { IsWithinFunction relocations.now self.old }
         ensures section_relocations { walked_relocations self.new

@@ -25,8 +25,8 @@ use Rattle.ebpf_parsing.specs.Sections.{is_type_information, section_info_entry,
 use Rattle.ebpf_parts.specs.Sections.{name_or_empty, section_of, section_with}
 
 pub modes_agree : ObjectsAgree
-modes_agree bytes is clear =
-    let alike = tables.modes_agree bytes is clear in
+modes_agree bytes is own clear =
+    let alike = tables.modes_agree bytes is own clear in
     ((λ i. record (object_of bytes) { license = alike.license i; maps = alike.maps i; programs = alike.programs i }), alike.sound)
 
 -- ---- an object has the number of a section `license` exactly where its file has one

@@ -77,8 +77,8 @@ pub fn sanitizing_twice_is_once()
     ensures { TwiceIsOnce }
 {}
 
-/// Of a little-endian file that `Object::parse` takes, `Object::parse_as` gives the same object in both readings, and
-/// refuses it in neither.
+/// Of a little-endian file for eBPF, or for no machine, that `Object::parse` takes, `Object::parse_as` gives the same
+/// object in both modes, and refuses it in neither.
 #[tactic(auto, using(crate::proofs::Modes::modes_agree))]
 pub fn modes_agree()
     ensures { ObjectsAgree }

@@ -88,13 +88,17 @@ impl Object {
     ///   inner map;
     /// - the license is its bytes before the first zero, and empty where its section has none;
     /// - `map_extra` may be an ENUM or ENUM64 of one value: that value, an ENUM's widened by its sign;
+    /// - a file for another machine than eBPF is refused (`e_machine` is neither EM_BPF nor EM_NONE);
     /// - a big-endian file with code is refused.
     ///
     /// # Errors
     ///
-    /// Those of `parse` in its order. With `Lenient` none is `InvalidProgramSection`, and after `ElfError` comes
-    /// `BigEndianCode` where the file is big-endian and has a Text or Program section with bytes; of the license
-    /// `InvalidLicense` and `MissingLicenseNullTerminator` come only where none of its bytes is zero.
+    /// Those of `parse` in its order. With `Lenient` none is `InvalidProgramSection`, and after `ElfError` come, in this
+    /// order:
+    ///
+    /// - `OtherMachine`: `e_machine` is neither EM_BPF nor EM_NONE.
+    /// - `BigEndianCode`: the file is big-endian and has a Text or Program section with bytes.
+    /// - `InvalidLicense`, `MissingLicenseNullTerminator`: none of the license's bytes is zero.
     pub fn parse_as(alloc: Global, bytes: &[u8], mode: ParseMode) -> Result<Object, ParseError>
         ensures object { IfOk result (λ o. o ≡ object_as mode bytes.now) }
         ensures fault { Refuses is_parse_memory result (parse_fault_as mode bytes.now) }

@@ -14,14 +14,14 @@ use Rattle.ebpf_btf.specs.TypeInfo.{TypeInfo}
 use Rattle.ebpf_btf_decls.proofs.BothModes.{lenient_declares_as_strict}
 use Rattle.ebpf_btf_decls.specs.Maps.{btf_maps_fault, types_in_mode}
 use Rattle.ebpf_elf.specs.Faults.{faults}
-use Rattle.ebpf_elf.specs.Headers.{ei_data}
+use Rattle.ebpf_elf.specs.Headers.{e_machine, ei_data}
 use Rattle.ebpf_elf.specs.Sections.{SectionOf, sections}
 use Rattle.ebpf_model.specs.declared.function.Program.{Program}
 use Rattle.ebpf_parts.proofs.NamesRead.{lenient_keeps_kinds, no_name_says_other}
 use Rattle.ebpf_parts.specs.ProgramTypes.{no_section, section_as, section_fault_as}
 use Rattle.ebpf_parts.specs.Sections.{SectionValue, section_of, section_with, section_fault}
 use Rattle.ebpf_parts.specs.declared.error.ParseError.{ParseError}
-use Rattle.ebpf_parts.specs.declared.error.ParseError.TheVariants.{BigEndianCode, ElfError, NoSymbolsForSection}
+use Rattle.ebpf_parts.specs.declared.error.ParseError.TheVariants.{BigEndianCode, ElfError, NoSymbolsForSection, OtherMachine}
 use Rattle.ebpf_parts.specs.declared.program_section.ProgramSection.{ProgramSection}
 use Rattle.ebpf_parts.specs.declared.program_section.ProgramSection.TheVariants.{Other}
 use Rattle.ebpf_parts.specs.declared.parse_mode.ParseMode.TheVariants.{Strict, Lenient}
@@ -34,7 +34,7 @@ use Rattle.ebpf_parsing.specs.Maps.{btf_defined_maps, btf_defined_maps_fault}
 use Rattle.ebpf_parsing.specs.OfSection.{maps_by, maps_in, programs_by, programs_in, fault_by, fault_in, program_section_faults}
 use Rattle.ebpf_sections.specs.LicenseAndVersion.{has_zero, front_of, strict_text_fault, license_text, license_text_fault, license_in, license_fault_in, license_as, license_fault_as, kernel_version_of, version_fault}
 use Rattle.ebpf_sections.specs.Programs.{program_of, programs_of, programs_fault, is_program_symbol}
-use Rattle.ebpf_sections.specs.Sections.{is_big, has_code, has_big_endian_code, order_fault_as, other_sections, object_sections}
+use Rattle.ebpf_sections.specs.Sections.{is_big, is_for_ebpf, has_code, has_big_endian_code, machine_fault_as, order_fault_as, other_sections, object_sections}
 use Rattle.ebpf_sections.specs.Symbols.{file_symbols, symbols_fault, symbol_indices_by_name, SymbolValue, section_symbols}
 use Rattle.ebpf_sections.proofs.Entries.{stands, all_flat_map}
 
@@ -182,12 +182,15 @@ little : (bytes : List ℕ) → ei_data bytes ≡ Little → order_fault_as Leni
 unfolding has_big_endian_code
 little bytes is = ap (λ o. if is_big o && list_any has_code (sections bytes) then Some BigEndianCode else None) is
 
+own_machine : (bytes : List ℕ) → is_for_ebpf bytes ≡ true → machine_fault_as Lenient bytes ≡ None
+own_machine bytes is = ap (λ b. if b then None else Some (OtherMachine (e_machine bytes))) is
+
 both_clear : {E : Type 0} {a b : Option E} → a ≡ None → b ≡ None → or_else a b ≡ None
 both_clear {b = b} first later = ap (λ o. or_else o b) first ∙ later
 
 pub modes_agree : ModesAgree
 unfolding license_as license_fault_as maps_as programs_as
-modes_agree bytes is clear =
+modes_agree bytes is own clear =
     let a = both_None (option_map ElfError (first_in (faults bytes))) _ clear in
     let b = both_None (license_fault_as Strict bytes) _ a.1 in
     let c = both_None (version_fault bytes) _ b.1 in
@@ -200,7 +203,7 @@ modes_agree bytes is clear =
       license = license.0;
       maps = ap (put_all empty) tables.0;
       programs = ap (put_all empty) (ap (λ l. program_entries Lenient l (kernel_version_of bytes) bytes) license.0 ∙ entries_alike bytes (types_of_file bytes) (license_as Strict bytes) (kernel_version_of bytes) f.1);
-      sound = both_clear a.0 (both_clear (little bytes is) (both_clear license.1 (both_clear c.0 (both_clear d.0 (both_clear e.0 (both_clear f.0 tables.1))))));
+      sound = both_clear a.0 (both_clear (own_machine bytes own) (both_clear (little bytes is) (both_clear license.1 (both_clear c.0 (both_clear d.0 (both_clear e.0 (both_clear f.0 tables.1)))))));
     }
 
 -- ---- kinds in strict parsing

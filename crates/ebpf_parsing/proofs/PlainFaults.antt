@@ -1,5 +1,5 @@
--- Which faults of a file the two readings have not in common: a name that says no kind, and big-endian code. None is that
--- of a limit.
+-- Which faults of a file the two modes don't share: a name that says no kind, another machine, and big-endian code. None
+-- is that of a limit.
 use Rattle.std.proofs.Common.{◌≡◌, ◌≢◌, ℕ, Bool, true, false, List, [], ◌∷◌, length, filter, Option, Some, None, Result, Ok, Err, option_map, refl, sym, ap, ◌∙◌}
 use Rattle.std.specs.List.{list_any, AllByRecursion}
 use Rattle.std.specs.Prelude.{◌+◌, ◌^◌, ◌||◌, ◌==◌, not, nat_lt, is_some, if◌then◌else◌}
@@ -13,7 +13,7 @@ use Rattle.ebpf_btf_decls.specs.DataSections.{DatasecMatch, Named, UnreadableNam
 use Rattle.ebpf_btf_decls.specs.Maps.{declared, map_with_symbol, map_at, entry_map, matched_maps_fault as fault_of_entries, type_maps_fault, btf_maps_fault, TypesInMode, types_in_mode}
 use Rattle.ebpf_btf_decls.specs.declared.members.MapDefinitions.{MapDefinitions}
 use Rattle.ebpf_elf.specs.Faults.{faults}
-use Rattle.ebpf_elf.specs.Headers.{ei_data}
+use Rattle.ebpf_elf.specs.Headers.{e_machine, ei_data}
 use Rattle.ebpf_elf.specs.Relocations.{relocations}
 use Rattle.ebpf_elf.specs.Sections.{SectionOf, section_name, data_faults}
 use Rattle.ebpf_elf.specs.Symbols.{SymbolOf, symbol_name, symbols}
@@ -22,7 +22,7 @@ use Rattle.ebpf_parts.specs.ProgramTypes.{no_section, section_as}
 use Rattle.ebpf_parts.specs.Sections.{SectionValue, section_of, section_name_fault, data_fault, section_fault, section_fault_with}
 use Rattle.ebpf_parts.specs.Slots.{code_faults}
 use Rattle.ebpf_parts.specs.declared.error.ParseError.{ParseError}
-use Rattle.ebpf_parts.specs.declared.error.ParseError.TheVariants.{ElfError, BtfError, MissingLicenseNullTerminator, InvalidLicense, InvalidKernelVersion, SectionError, UnsupportedRelocationTarget, InvalidProgramSection, InvalidMapDefinition, InvalidSymbol, SymbolNotFound, NoSymbolsForSection, BigEndianCode, TooLarge}
+use Rattle.ebpf_parts.specs.declared.error.ParseError.TheVariants.{ElfError, BtfError, MissingLicenseNullTerminator, InvalidLicense, InvalidKernelVersion, SectionError, UnsupportedRelocationTarget, InvalidProgramSection, InvalidMapDefinition, InvalidSymbol, SymbolNotFound, NoSymbolsForSection, BigEndianCode, TooLarge, OtherMachine}
 use Rattle.ebpf_parts.specs.declared.maps.either.Map.{Map}
 use Rattle.ebpf_parts.specs.declared.program_section.ProgramSection.{ProgramSection}
 use Rattle.ebpf_parts.specs.declared.parse_mode.ParseMode.{ParseMode}
@@ -31,12 +31,12 @@ use Rattle.ebpf_parts.specs.declared.section.EbpfSectionKind.{EbpfSectionKind}
 use Rattle.ebpf_parts.specs.declared.section.EbpfSectionKind.TheVariants.{Maps, BtfMaps, Data, Rodata, Bss, Text, Program as Programs}
 use Rattle.ebpf_parsing.specs.FileContents.{read_fault, sections_fault, parse_fault_as}
 use Rattle.ebpf_parsing.specs.FileTypes.{types_of_file, externs_fault_beside, file_externs_fault, btf_of, types_fault_in, btf_fault, ext_fault_in, ext_fault_beside, ext_fault, file_types_fault, types_section, ext_section}
-use Rattle.ebpf_parsing.specs.Laws.{LenientRefusesNoName, StrictTakesBothOrders}
+use Rattle.ebpf_parsing.specs.Laws.{LenientRefusesNoName, StrictTakesBothOrders, StrictTakesEachMachine}
 use Rattle.ebpf_parsing.specs.Maps.{data_map_fault, btf_defined_maps_fault, struct_bytes, word_at, legacy_fault, legacy_maps_fault}
 use Rattle.ebpf_parsing.specs.OfSection.{fault_by, fault_in, program_section_faults}
 use Rattle.ebpf_sections.specs.LicenseAndVersion.{strict_text_fault, license_text_fault, license_fault_in, license_fault_as, version_number_fault, version_fault_in, version_fault, has_zero, front_of}
 use Rattle.ebpf_sections.specs.Programs.{is_program_symbol, program_bytes, range_faults, program_fault, programs_fault}
-use Rattle.ebpf_sections.specs.Sections.{has_big_endian_code, order_fault_as, other_sections}
+use Rattle.ebpf_sections.specs.Sections.{has_big_endian_code, is_for_ebpf, machine_fault_as, order_fault_as, other_sections}
 use Rattle.ebpf_sections.specs.Symbols.{file_symbols, symbol_fault, symbols_fault, SymbolValue, section_symbols}
 use Rattle.ebpf_sections.specs.Texts.{text_function_bytes, conflict_fault_at, conflict_fault, repeated, text_fault_of, text_fault_at, symbol_at_offset, offsets, text_fault}
 
@@ -44,6 +44,7 @@ use Rattle.ebpf_sections.specs.Texts.{text_function_bytes, conflict_fault_at, co
 abbrev is_told : ParseError → Bool
 is_told (InvalidProgramSection _) = true
 is_told BigEndianCode = true
+is_told (OtherMachine _) = true
 is_told (TooLarge _) = true
 is_told _ = false
 
@@ -61,6 +62,10 @@ Plain o = told o ≡ false
 abbrev is_big_endian_code : ParseError → Bool
 is_big_endian_code BigEndianCode = true
 is_big_endian_code _ = false
+
+abbrev is_other_machine : ParseError → Bool
+is_other_machine (OtherMachine _) = true
+is_other_machine _ = false
 
 -- ---- faults one after the other
 
@@ -264,18 +269,19 @@ file_plain bytes = made_plain ElfError (λ e. refl) _
 no_name : (name : List ℕ) (o : Option ParseError) → Plain o → o ≢ Some (InvalidProgramSection name)
 no_name name o plain is = let no : true ≡ false = sym (ap told is) ∙ plain in cc
 
-in_order : (name : List ℕ) (a : Option ParseError) (ordered : Bool) (rest : Option ParseError) → Plain a → Plain rest
-    → or_else a (or_else (if ordered then Some BigEndianCode else None) rest) ≢ Some (InvalidProgramSection name)
-in_order name (Some e) ordered rest first later is = no_name name (Some e) first is
-in_order name None true rest first later is = cc
-in_order name None false rest first later is = no_name name rest later is
+in_order : (name : List ℕ) (a : Option ParseError) (own : Bool) (machine : ℕ) (ordered : Bool) (rest : Option ParseError) → Plain a → Plain rest
+    → or_else a (or_else (if own then None else Some (OtherMachine machine)) (or_else (if ordered then Some BigEndianCode else None) rest)) ≢ Some (InvalidProgramSection name)
+in_order name (Some e) own machine ordered rest first later is = no_name name (Some e) first is
+in_order name None false machine ordered rest first later is = cc
+in_order name None true machine true rest first later is = cc
+in_order name None true machine false rest first later is = no_name name rest later is
 
 lenient_name : (name : List ℕ) → Plain (no_section name (section_as Lenient name))
 unfolding section_as
 lenient_name name = refl
 
 pub lenient_refuses_no_name : LenientRefusesNoName
-lenient_refuses_no_name bytes name = in_order name _ (has_big_endian_code bytes) _ (file_plain bytes) (behind_order told (λ o plain. plain) Lenient lenient_name bytes)
+lenient_refuses_no_name bytes name = in_order name _ (is_for_ebpf bytes) (e_machine bytes) (has_big_endian_code bytes) _ (file_plain bytes) (behind_order told (λ o plain. plain) Lenient lenient_name bytes)
 
 -- ---- strict parsing
 
@@ -293,6 +299,18 @@ strict_takes_both_orders bytes is =
     let never : says is_big_endian_code (parse_fault_as Strict bytes) ≡ false =
     either (says is_big_endian_code) _ _ (from_plain _ (file_plain bytes)) (behind_order (says is_big_endian_code) from_plain Strict (λ name. unnamed is_big_endian_code name refl (section_as Strict name)) bytes) in
     let no : true ≡ false = sym (ap (says is_big_endian_code) is) ∙ never in
+    cc
+
+no_machine : (o : Option ParseError) → Plain o → says is_other_machine o ≡ false
+no_machine None plain = refl
+no_machine (Some (OtherMachine _)) plain = absurd (cc)
+no_machine (Some _) plain = refl
+
+pub strict_takes_each_machine : StrictTakesEachMachine
+strict_takes_each_machine bytes machine is =
+    let never : says is_other_machine (parse_fault_as Strict bytes) ≡ false =
+    either (says is_other_machine) _ _ (no_machine _ (file_plain bytes)) (behind_order (says is_other_machine) no_machine Strict (λ name. unnamed is_other_machine name refl (section_as Strict name)) bytes) in
+    let no : true ≡ false = sym (ap (says is_other_machine) is) ∙ never in
     cc
 
 -- ---- the fault of a limit
@@ -313,10 +331,18 @@ small_order Lenient bytes = elim (has_big_endian_code bytes) as (λ b. says is_t
   | false ↦ refl
 ]
 
+small_machine : (mode : ParseMode) (bytes : List ℕ) → says is_too_large (machine_fault_as mode bytes) ≡ false
+small_machine Strict bytes = refl
+small_machine Lenient bytes = elim (is_for_ebpf bytes) as (λ b. says is_too_large (if b then None else Some (OtherMachine (e_machine bytes))) ≡ false) [
+  | true ↦ refl
+  | false ↦ refl
+]
+
 pub never_too_large : (mode : ParseMode) (bytes : List ℕ) (most : ℕ) → parse_fault_as mode bytes ≢ Some (TooLarge most)
 never_too_large mode bytes most is =
     let never : says is_too_large (parse_fault_as mode bytes) ≡ false =
     either (says is_too_large) _ _ (small _ (file_plain bytes))
-    (either (says is_too_large) _ _ (small_order mode bytes) (behind_order (says is_too_large) small mode (λ name. unnamed is_too_large name refl (section_as mode name)) bytes)) in
+    (either (says is_too_large) _ _ (small_machine mode bytes)
+    (either (says is_too_large) _ _ (small_order mode bytes) (behind_order (says is_too_large) small mode (λ name. unnamed is_too_large name refl (section_as mode name)) bytes))) in
     let no : true ≡ false = sym (ap (says is_too_large) is) ∙ never in
     cc

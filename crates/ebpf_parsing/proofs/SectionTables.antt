@@ -26,7 +26,7 @@ use Rattle.ebpf_parsing.specs.OfSection.{fault_in, functions_by, functions_in, f
 use Rattle.ebpf_sections.specs.LicenseAndVersion.{license_fault_as, version_fault}
 use Rattle.ebpf_sections.specs.Programs.{with_key}
 use Rattle.ebpf_sections.specs.Records.{FuncAndLineInfo, func_and_line_info_of}
-use Rattle.ebpf_sections.specs.Sections.{other_sections, object_sections, order_fault_as, is_type_information}
+use Rattle.ebpf_sections.specs.Sections.{other_sections, object_sections, machine_fault_as, order_fault_as, is_type_information}
 use Rattle.ebpf_sections.specs.Symbols.{file_symbols, symbols_fault, section_symbols, SymbolValue}
 use Rattle.ebpf_sections.specs.Texts.{text_fault, conflict_fault, walk_fault, offsets_from}
 use Rattle.ebpf_sections.proofs.ReadSections.{others}
@@ -46,7 +46,8 @@ clear_sections : (mode : ParseMode) (bytes : List ℕ) → parse_fault_as mode b
 unfolding sections_fault
 clear_sections mode bytes clear =
     let a = both_None (option_map ElfError (first_in (faults bytes))) _ clear in
-    let o = both_None (order_fault_as mode bytes) _ a.1 in
+    let m = both_None (machine_fault_as mode bytes) _ a.1 in
+    let o = both_None (order_fault_as mode bytes) _ m.1 in
     let b = both_None (license_fault_as mode bytes) _ o.1 in
     let c = both_None (version_fault bytes) _ b.1 in
     let d = both_None (symbols_fault bytes) _ c.1 in

@@ -1,5 +1,5 @@
--- What a file has: its tables, each put together from the sections in order, so that the later of
--- two entries with one key stands, and its first fault.
+-- The contents of a file: its tables, each put together from the sections in order, so that of two
+-- entries with one key the later one counts; and its first fault, by the parse mode.
 use Rattle.std.specs.FinMap.{FinMap, empty}
 use Rattle.std.specs.List.{flat_map}
 use Rattle.std.specs.Ordering.{nat_cmp}
@@ -30,7 +30,8 @@ use Rattle.ebpf_parsing.specs.declared.file_contents.FileContents.{FileContents}
 use Rattle.ebpf_parsing.specs.declared.object_tables.ObjectTables.{ObjectTables}
 use Rattle.ebpf_sections.specs.LicenseAndVersion.{license_as, license_fault_as, kernel_version_of}
 use Rattle.ebpf_sections.specs.LicenseAndVersion.{version_fault}
-use Rattle.ebpf_sections.specs.Sections.{section_info_entry, order_fault_as, other_sections}
+use Rattle.ebpf_sections.specs.Sections.{machine_fault_as, order_fault_as}
+use Rattle.ebpf_sections.specs.Sections.{section_info_entry, other_sections}
 use Rattle.ebpf_sections.specs.Sections.{object_sections}
 use Rattle.ebpf_sections.specs.Symbols.{file_symbols, symbol_table, symbols_fault, SymbolValue}
 use Rattle.ebpf_sections.specs.Symbols.{section_symbols}
@@ -133,18 +134,19 @@ read_fault mode types bytes s =
 unfoldable pub sections_fault : ParseMode → Option TypeInfo → List ℕ → Option ParseError
 sections_fault mode types bytes = first_some (read_fault mode types bytes) (other_sections bytes)
 
--- of a file, in the order of the steps: the file, code in the big-endian order, the license and the
--- version, the symbols, the type information, the externs, the sections
+-- of a file, in the order of the steps: the file, its machine, code in the big-endian order, the
+-- license and the version, the symbols, the type information, the externs, the sections
 abbrev pub parse_fault_as : ParseMode → List ℕ → Option ParseError
 parse_fault_as mode bytes =
     or_else (option_map ElfError (first_in (faults bytes)))
+    (or_else (machine_fault_as mode bytes)
     (or_else (order_fault_as mode bytes)
     (or_else (license_fault_as mode bytes)
     (or_else (version_fault bytes)
     (or_else (symbols_fault bytes)
     (or_else (file_types_fault bytes)
     (or_else (file_externs_fault bytes)
-    (sections_fault mode (types_of_file bytes) bytes)))))))
+    (sections_fault mode (types_of_file bytes) bytes))))))))
 
 abbrev pub parse_fault : List ℕ → Option ParseError
 parse_fault bytes = parse_fault_as Strict bytes

@@ -1,4 +1,4 @@
--- The type information of a file, its records on instructions, and its externs: its sections `.BTF`
+-- The types of a file, its info entries and CO-RE relocations, and its externs: its sections `.BTF`
 -- and `.BTF.ext` (libbpf's names).
 use Rattle.std.specs.FinMap.{FinMap, empty}
 use Rattle.std.specs.Prelude.{ℕ, Bool, false, not, ◌==◌, length, List, [], Option, Some, None}

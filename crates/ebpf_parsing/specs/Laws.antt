@@ -1,8 +1,8 @@
--- What holds of the tables of each file.
+-- Laws of the tables of each file.
 use Rattle.std.specs.FinMap.{FinMap, get}
 use Rattle.std.specs.List.{flat_map, find}
 use Rattle.std.specs.Ordering.{nat_cmp}
-use Rattle.std.specs.Prelude.{◌≡◌, ◌≢◌, ◌⊎◌, ℕ, false, List, Some, None, slice_get, ◌<◌, ◌^◌}
+use Rattle.std.specs.Prelude.{◌≡◌, ◌≢◌, ◌⊎◌, ℕ, false, true, List, Some, None, slice_get, ◌<◌, ◌^◌}
 use Rattle.std.specs.Prelude.{length, ◌==◌}
 use Rattle.ebpf_base.specs.Maps.{key_cmp}
 use Rattle.ebpf_base.specs.declared.endianness.Endianness.TheVariants.{Little}
@@ -17,7 +17,7 @@ use Rattle.ebpf_parts.specs.Maps.{section_index_of, symbol_index_of}
 use Rattle.ebpf_parts.specs.Sections.{SectionValue}
 use Rattle.ebpf_parts.specs.Slots.{slots_of}
 use Rattle.ebpf_parts.specs.declared.error.ParseError.TheVariants.{InvalidProgramSection}
-use Rattle.ebpf_parts.specs.declared.error.ParseError.TheVariants.{BigEndianCode}
+use Rattle.ebpf_parts.specs.declared.error.ParseError.TheVariants.{BigEndianCode, OtherMachine}
 use Rattle.ebpf_parts.specs.declared.maps.either.Map.{Map}
 use Rattle.ebpf_parts.specs.declared.program_section.ProgramSection.TheVariants.{Other}
 use Rattle.ebpf_parts.specs.declared.parse_mode.ParseMode.{ParseMode}
@@ -32,21 +32,21 @@ use Rattle.ebpf_parsing.specs.Maps.{data_map}
 use Rattle.ebpf_sections.specs.LicenseAndVersion.{license_of, license_as}
 use Rattle.ebpf_sections.specs.Records.{FuncAndLineInfo, func_and_line_info_of}
 use Rattle.ebpf_sections.specs.Relocations.{relocations_by_offset}
-use Rattle.ebpf_sections.specs.Sections.{object_sections}
+use Rattle.ebpf_sections.specs.Sections.{is_for_ebpf, object_sections}
 use Rattle.ebpf_sections.specs.Symbols.{file_symbols, symbol_table, symbol_of, symbol_entry}
 use Rattle.ebpf_sections.specs.Symbols.{SymbolValue}
 use Rattle.ebpf_sections.specs.Texts.{text_functions, text_fault}
 
--- ---- what stands in the tables of each file
+-- ---- the entries of the tables of each file
 
--- at the key (section, address) stands a function of this section, at this address
+-- the function at the key (section, address) is of this section, at this address
 abbrev pub FunctionsAtTheirKeys : Type 0
 FunctionsAtTheirKeys =
     (bytes : List ℕ) (section address : ℕ) (f : Function)
     → get (functions bytes) (section, address) ≡ Some f
     → (f.section_index.0 ≡ section) × (f.address ≡ address)
 
--- at the index i stands the symbol i of the file's symbol table, with a name
+-- the symbol at the index i is the symbol i of the file's symbol table, with a name
 pub record IsFileSymbol (bytes : List ℕ) (i : ℕ) (y : Symbol) : Type 0 where
   pub table : ℕ
   pub of_file : table_of bytes ≡ Some table
@@ -61,8 +61,8 @@ SymbolsAtTheirIndices =
     → get (symbol_table (file_symbols bytes)) i ≡ Some y
     → IsFileSymbol bytes i y
 
--- at the offset o of a section stands a relocation with this offset, and no section has a table
--- without relocations
+-- the relocation at the offset o of a section has this offset, and no section has a table without
+-- relocations
 abbrev pub RelocationsAtTheirOffsets : Type 0
 RelocationsAtTheirOffsets =
     (bytes : List ℕ) (section : ℕ) (table : FinMap nat_cmp ElfRelocation)
@@ -204,28 +204,37 @@ SectionsTile =
     → AreInOrder (functions bytes) s.index.0 fs
     → flat_map (λ f. f.instructions) fs ≡ slots_of s.bytes
 
--- ---- what the two readings of a file have in common, and what each of them alone answers
+-- ---- the common results of the two parse modes, and the results of one alone
 
--- lenient parsing of a file has no fault, and gives what the stated one gives
+-- lenient parsing of a file has no fault, and the same results as strict parsing
 pub record IsReadAlike (bytes : List ℕ) : Type 0 where
   pub license : license_as Lenient bytes ≡ license_of bytes
   pub maps : maps_as Lenient bytes ≡ maps bytes
   pub programs : programs_as Lenient bytes ≡ programs bytes
   pub sound : parse_fault_as Lenient bytes ≡ None
 
--- so is each little-endian file that strict parsing takes
+-- so is each little-endian file for eBPF or for no machine that strict parsing takes
 abbrev pub ModesAgree : Type 0
 ModesAgree =
-    (bytes : List ℕ) → ei_data bytes ≡ Little → parse_fault bytes ≡ None → IsReadAlike bytes
+    (bytes : List ℕ)
+    → ei_data bytes ≡ Little
+    → is_for_ebpf bytes ≡ true
+    → parse_fault bytes ≡ None
+    → IsReadAlike bytes
 
 -- lenient parsing refuses no file for a section's name
 abbrev pub LenientRefusesNoName : Type 0
 LenientRefusesNoName =
     (bytes name : List ℕ) → parse_fault_as Lenient bytes ≢ Some (InvalidProgramSection name)
 
--- strict parsing refuses no file for the order of its code
+-- strict parsing refuses no file for the order of its code,
 abbrev pub StrictTakesBothOrders : Type 0
 StrictTakesBothOrders = (bytes : List ℕ) → parse_fault bytes ≢ Some BigEndianCode
+
+-- and none for its machine
+abbrev pub StrictTakesEachMachine : Type 0
+StrictTakesEachMachine =
+    (bytes : List ℕ) (machine : ℕ) → parse_fault bytes ≢ Some (OtherMachine machine)
 
 -- in strict parsing each program has a kind of the table
 abbrev pub StrictKindsAreNamed : Type 0

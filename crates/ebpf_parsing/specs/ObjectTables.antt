@@ -1,5 +1,5 @@
--- The tables while the sections of a file are read, one after the other, and the maps of data, of
--- which the last of a name stands.
+-- The tables while the sections of a file are read, one after the other, and the maps of data, the
+-- last one of each name.
 use Rattle.std.specs.FinMap.{FinMap, empty, get}
 use Rattle.std.specs.List.{flat_map}
 use Rattle.std.specs.Prelude.{ℕ, List, [], Option, if◌then◌else◌}

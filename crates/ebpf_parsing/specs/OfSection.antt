@@ -1,4 +1,4 @@
--- What one section gives to an object.
+-- The maps, programs, functions and relocations that one section adds to an object, and its fault.
 use Rattle.std.specs.FinMap.{FinMap}
 use Rattle.std.specs.Ordering.{nat_cmp}
 use Rattle.std.specs.Prelude.{ℕ, List, [], ◌∷◌, map, length, Option, None, ◌==◌}

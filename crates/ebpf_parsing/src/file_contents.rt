@@ -23,22 +23,22 @@ use ebpf_parts::{ParseError, ParseMode};
 use ebpf_sections::license::{read_license, read_version};
 use ebpf_sections::metadata::FileMetadata;
 use ebpf_sections::relocations::{RelocationTable, read_relocation_sections};
-use ebpf_sections::sections::{Groups, check_order};
+use ebpf_sections::sections::{Groups, check_machine, check_order};
 use ebpf_sections::symbols::{FileSymbols, object_symbols, read_symbols};
 use std::alloc::Global;
 
-/// What an ELF file with eBPF programs holds.
+/// The contents of an ELF file with eBPF programs.
 #[derive(Drop)]
 pub struct FileContents {
     /// The byte order of the file's numbers.
     pub endianness: Endianness,
-    /// What programs and functions carry of their object.
+    /// The properties of the object that its programs and functions share.
     pub metadata: FileMetadata,
     /// The externs by name.
     pub externs: ByName<ExternDesc>,
     /// The symbols by their index.
     pub symbol_table: ByIndex<Symbol>,
-    /// What the sections give.
+    /// The tables that the sections fill.
     pub object_tables: ObjectTables,
 }
 
@@ -164,7 +164,7 @@ fn read_tables(
     })
 }
 
-/// The contents of a file whose byte order its reading accepts.
+/// The contents of a file whose machine and byte order its mode accepts.
 fn read_parts(
     alloc: Global,
     file: &ElfFile<'_>,
@@ -189,13 +189,19 @@ fn read_parts(
 }
 
 impl FileContents {
-    /// What the bytes of an ELF64 file hold by a parse mode.
+    /// Reads the contents of an ELF64 file by a parse mode.
     ///
     /// # Errors
     ///
-    /// The first fault of the file, in this order: of the file itself, code in the big-endian order where the reading is
-    /// `Lenient`, its license, its kernel version, its symbols' names, its type information, its externs, and its sections
-    /// by number. `OutOfMemory` only where memory was refused.
+    /// The first fault of the file, in this order:
+    ///
+    /// - `ElfError`: a fault of the file's headers, names, symbol table or relocation tables.
+    /// - `OtherMachine`: the mode is `Lenient`, and the file is for another machine than eBPF.
+    /// - `BigEndianCode`: the mode is `Lenient`, and a big-endian file has code.
+    /// - A fault of its license, its kernel version, its symbols' names, its type information, its externs, and its
+    ///   sections by number, in this order.
+    ///
+    /// `OutOfMemory` is returned only where an allocation fails.
     pub fn read(alloc: Global, bytes: &[u8], mode: ParseMode) -> Result<FileContents, ParseError>
         ensures file_contents { IfOk result (λ c. c ≡ contents_as mode bytes.now) }
         ensures fault { Refuses is_parse_memory result (parse_fault_as mode bytes.now) }
@@ -204,6 +210,7 @@ impl FileContents {
             Ok(file) => file,
             Err(error) => return Err(ParseError::ElfError(error)),
         };
+        check_machine(&file, mode)?;
         check_order(&file, mode)?;
         let tables = read_relocation_sections(alloc, &file)?;
         read_parts(alloc, &file, &tables, mode)

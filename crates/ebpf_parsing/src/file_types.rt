@@ -1,4 +1,4 @@
-//! The type information of a file, what it says of instructions, and the externs.
+//! The type information of a file, its info entries and CO-RE relocations, and its externs.
 
 ghost use Rattle.std.specs.Prelude.{◌≡◌, IfOk, OnOk, IfErr, true, Some, option_map, None};
 ghost use Rattle.std.specs.Result.{result_ok};
@@ -53,7 +53,11 @@ fn ext_in(alloc: Global, order: Endianness, bytes: &[u8], types: &Btf) -> Result
     }
 }
 
-/// Remembers the index of a section by its name.
+/// Puts the index of a section by its name.
+///
+/// # Errors
+///
+/// - `OutOfMemory`: an allocation fails.
 pub fn remember(
     alloc: Global,
     section_infos: &mut ByName<SectionIndex>,
@@ -136,7 +140,7 @@ fn read_ext_beside(
     read_ext_section(alloc, file, tables, types, section_infos)
 }
 
-/// The type information of a file, what it says of instructions, and the names of their sections.
+/// The types of a file, its info entries and CO-RE relocations, and the names of their sections.
 #[derive(Drop)]
 pub struct FileTypes {
     pub btf: Option<Btf>,
@@ -145,7 +149,13 @@ pub struct FileTypes {
 }
 
 impl FileTypes {
-    /// That of a file.
+    /// Reads the sections `.BTF` and `.BTF.ext` of a file.
+    ///
+    /// # Errors
+    ///
+    /// - `SectionError`, `UnsupportedRelocationTarget`: the section can't be read.
+    /// - `BtfError`: the types, the info entries or the CO-RE relocations can't be read.
+    /// - `OutOfMemory`: an allocation fails.
     #[tactic(auto, unfolding(crate::specs::FileTypes::ext_of, crate::specs::FileTypes::ext_fault, crate::specs::FileTypes::ext_names, crate::specs::FileTypes::type_info_names, crate::specs::FileTypes::file_types_fault))]
     pub fn read(
         alloc: Global,
@@ -178,7 +188,12 @@ pub struct FileExterns {
 }
 
 impl FileExterns {
-    /// The externs of a file, whose symbols have names, beside its types.
+    /// Reads the externs of a file, whose symbols have names, with its types.
+    ///
+    /// # Errors
+    ///
+    /// - `BtfError`: as in `collect_externs`.
+    /// - `OutOfMemory`: an allocation fails.
     #[tactic(auto, using(crate::proofs::TypeErrors::infos), unfolding(ebpf_btf_decls::specs::Externs::types_with, ebpf_btf_decls::specs::Externs::types_fault))]
     pub fn read(
         alloc: Global,

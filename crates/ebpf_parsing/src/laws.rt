@@ -1,4 +1,4 @@
-//! What holds of the tables that each file gives.
+//! Laws of the tables of each file.
 
 ghost use Rattle.std.specs.Ordering.{nat_cmp};
 ghost use Rattle.ebpf_base.specs.Maps.{LaterStands, text_cmp, key_cmp};
@@ -9,9 +9,9 @@ ghost use Rattle.ebpf_model.specs.declared.function.Function.{Function};
 ghost use Rattle.ebpf_model.specs.declared.function.Program.{Program};
 ghost use Rattle.ebpf_model.specs.declared.symbol.Symbol.{Symbol};
 ghost use Rattle.ebpf_parts.specs.declared.maps.either.Map.{Map};
-ghost use Rattle.ebpf_parsing.specs.Laws.{LenientRefusesNoName, ModesAgree, StrictKindsAreNamed, StrictTakesBothOrders, FunctionsAtTheirKeys, SymbolsAtTheirIndices, RelocationsAtTheirOffsets, TablesOfCode, RelocationsNameSymbols, ProgramsHaveFunctions, MapsHaveTheirSymbols, OtherMapsAreOfData, ExternsAreUnresolved, AtEachAddress, InOrder, SectionsTile, FunctionsTile};
+ghost use Rattle.ebpf_parsing.specs.Laws.{LenientRefusesNoName, ModesAgree, StrictKindsAreNamed, StrictTakesBothOrders, StrictTakesEachMachine, FunctionsAtTheirKeys, SymbolsAtTheirIndices, RelocationsAtTheirOffsets, TablesOfCode, RelocationsNameSymbols, ProgramsHaveFunctions, MapsHaveTheirSymbols, OtherMapsAreOfData, ExternsAreUnresolved, AtEachAddress, InOrder, SectionsTile, FunctionsTile};
 
-/// In each table of an object the last of the entries with one key stands.
+/// Each table of an object has the last of the entries with one key.
 pub fn later_entries_stand()
     ensures programs { LaterStands text_cmp Program }
     ensures functions { LaterStands key_cmp Function }
@@ -36,17 +36,17 @@ pub fn sections_tile()
     ensures tiled { SectionsTile }
 {}
 
-/// At a section and an address stands a function of this section, at this address.
+/// The function with the key of a section and an address is of this section, and at this address.
 pub fn functions_stand_at_their_keys()
     ensures { FunctionsAtTheirKeys }
 {}
 
-/// At an index stands the symbol with this index of the file's symbol table, with a name.
+/// The symbol at an index is the one with this index in the file's symbol table, and has a name.
 pub fn symbols_stand_at_their_indices()
     ensures { SymbolsAtTheirIndices }
 {}
 
-/// At an offset of a section stands a relocation with this offset; no table of a section is empty.
+/// The relocation at an offset of a section has this offset. No table of a section is empty.
 pub fn relocations_stand_at_their_offsets()
     ensures { RelocationsAtTheirOffsets }
 {}
@@ -66,8 +66,8 @@ pub fn programs_have_functions()
     ensures { ProgramsHaveFunctions }
 {}
 
-/// The symbol of a map, where it has one, stands in the table of symbols, has the map's name and is in the map's
-/// section. A map without a symbol is that of a data section, by the section's name.
+/// The symbol of a map, where it has one, is in the table of symbols, has the map's name and is in the map's section.
+/// A map without a symbol is that of a data section, by the section's name.
 pub fn maps_have_their_symbols()
     ensures symbols { MapsHaveTheirSymbols }
     ensures others { OtherMapsAreOfData }
@@ -78,8 +78,8 @@ pub fn externs_are_unresolved()
     ensures { ExternsAreUnresolved }
 {}
 
-/// A little-endian file that `Object::parse` takes has the same license, maps and programs in lenient parsing, and no
-/// fault there.
+/// A little-endian file for eBPF, or for no machine, that `Object::parse` takes has the same license, maps and programs in
+/// lenient parsing, and no fault there.
 pub fn modes_agree()
     ensures { ModesAgree }
 {}
@@ -89,8 +89,9 @@ pub fn lenient_refuses_no_name()
     ensures { LenientRefusesNoName }
 {}
 
-/// Strict parsing gives no program the kind `Other`, and refuses no file for the order of its code.
+/// Strict parsing gives no program the kind `Other`, and refuses no file for the order of its code or for its machine.
 pub fn strict_gives_nothing_lenient()
     ensures kinds { StrictKindsAreNamed }
     ensures orders { StrictTakesBothOrders }
+    ensures machines { StrictTakesEachMachine }
 {}

@@ -89,7 +89,12 @@ fn check_data_map(alloc: Global, section: &Section<'_>) -> Result<(), ParseError
     Ok(())
 }
 
-/// Puts the map of a data section by the section's name, where the section is the last one of data with that name.
+/// Puts the map of a data section by the section's name, if the section is the last one of data with that name.
+///
+/// # Errors
+///
+/// - `InvalidMapDefinition`: the section has 4 GiB or more.
+/// - `OutOfMemory`: an allocation fails.
 pub fn put_data_map(
     alloc: Global,
     maps: &mut ByName<Map>,
@@ -215,6 +220,13 @@ fn put_each(
 }
 
 /// Puts the maps of a section of fixed structs by the names of its symbols.
+///
+/// # Errors
+///
+/// - `NoSymbolsForSection`: the section has no symbol.
+/// - `InvalidSymbol`: the bytes of a symbol pass the section's end.
+/// - `InvalidMapDefinition`: a struct has fewer than 20 bytes, or a pinning above 1.
+/// - `OutOfMemory`: an allocation fails.
 #[tactic(auto, unfolding(crate::specs::Maps::legacy_maps_fault))]
 pub fn put_legacy_maps(
     alloc: Global,
@@ -233,7 +245,11 @@ pub fn put_legacy_maps(
     put_each(alloc, maps, section, symbols)
 }
 
-/// The BTF-defined maps, where the DATASECs of all sections of maps are found in one pass.
+/// Finds the DATASECs of all sections of BTF-defined maps in one pass; `None` without types.
+///
+/// # Errors
+///
+/// - `OutOfMemory`: an allocation fails.
 pub fn find_btf_defined_maps<'b>(
     alloc: Global,
     types: &'b Option<Btf>,
@@ -253,6 +269,13 @@ pub fn find_btf_defined_maps<'b>(
 }
 
 /// Puts the BTF-defined maps of a section by name.
+///
+/// # Errors
+///
+/// - `NoBTF`: the object has no types.
+/// - `NoSymbolsForSection`: the section has no symbol.
+/// - `BtfError`, `SymbolNotFound`: as in `BtfDefinedMaps::put`.
+/// - `OutOfMemory`: an allocation fails.
 #[tactic(auto, unfolding(crate::specs::Maps::btf_defined_maps, crate::specs::Maps::btf_defined_maps_fault))]
 pub fn put_btf_defined_maps(
     alloc: Global,

@@ -39,7 +39,7 @@ use ebpf_sections::text::put_text_functions;
 use std::alloc::Global;
 use std::marker::Model;
 
-/// The inputs of each section's reading: the metadata that they share, their func info and line info, and the BTF-defined maps.
+/// The inputs for reading each section: the shared metadata, func info and line info, and the BTF-defined maps.
 #[derive(Drop)]
 pub struct SectionInputs<'s> {
     pub alloc: Global,
@@ -292,7 +292,7 @@ impl ObjectTables {
     }
 }
 
-/// The inputs of each section's reading.
+/// The inputs for reading each section.
 fn section_inputs<'s>(
     alloc: Global,
     metadata: &'s FileMetadata,
@@ -340,7 +340,12 @@ fn read_by_last(
     Ok(object_tables)
 }
 
-/// The tables that the sections of a file fill, each with its relocations and its symbols.
+/// Reads the sections of a file into the tables of an object, each with its relocations and its symbols.
+///
+/// # Errors
+///
+/// The first fault of the sections in the order of their numbers. `OutOfMemory` is returned only if an allocation
+/// fails.
 pub fn read_sections(
     alloc: Global,
     metadata: &FileMetadata,

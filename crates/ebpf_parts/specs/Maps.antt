@@ -1,4 +1,5 @@
--- Maps, and what may be read and set of them.
+-- The fields of a map, whichever way it is declared, the map with another value in a field, and the
+-- map types by their numbers (the kernel's include/uapi/linux/bpf.h).
 use Rattle.std.specs.Prelude.{ℕ, List, [], Option, Some, None, ◌==◌, option_map, if◌then◌else◌, ◌∷◌}
 use Rattle.std.specs.Prelude.{Result, Ok, Err}
 use Rattle.std.specs.Prelude.{codes}

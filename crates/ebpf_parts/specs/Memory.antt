@@ -1,4 +1,4 @@
--- The one answer of parsing that no definition states: want of memory.
+-- The one error of parsing that no definition states: an allocation failure.
 use Rattle.std.specs.Prelude.{Bool, true, false}
 use Rattle.ebpf_parts.specs.declared.error.ParseError.{ParseError}
 use Rattle.ebpf_parts.specs.declared.error.ParseError.TheVariants.{OutOfMemory}

@@ -1,4 +1,4 @@
--- Types of the kernel by their numbers, from a table of the types in the order of their numbers.
+-- The type with a number, from a table of the types in the order of their numbers.
 use Rattle.std.specs.Prelude.{ℕ, List, Result, slice_get}
 use Rattle.std.specs.Option.{ok_or}
 use Rattle.ebpf_parts.specs.declared.binding.InvalidTypeBinding.{InvalidTypeBinding}

@@ -1,4 +1,4 @@
--- What the names of program sections say (libbpf's section names, as the public crate takes them).
+-- The kind of a program by the name of its section (libbpf's section names, as aya-obj takes them).
 -- A name is split at each slash. Its first piece says the kind, in some rows with its second;
 -- further pieces say nothing.
 use Rattle.std.specs.Prelude.{ℕ, Bool, true, false, List, [], ◌∷◌, Option, Some, None, ◌==◌}
@@ -480,7 +480,7 @@ xdp_attach_type CpuMap = BPF_XDP_CPUMAP
 xdp_attach_type DevMap = BPF_XDP_DEVMAP
 
 -- ---- what a loader does with a program, by the name of its section (libbpf's Program Types and
--- ELF Sections). The table is that of the code, a row for each name
+-- ELF Sections). The table is that of the code, a row for each name; NamedKinds states its rows
 
 -- what stands before an index, where there is one
 abbrev pub before : Option ℕ → List ℕ → List ℕ

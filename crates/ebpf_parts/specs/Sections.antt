@@ -1,5 +1,5 @@
--- What a section is for, by its name and its header (libbpf's section names, and ELF-64 gABI,
--- 'Sections').
+-- The kind of a section by its name and its header, and its first fault (libbpf's section names,
+-- and ELF-64 gABI, 'Sections').
 use Rattle.std.specs.Prelude.{ℕ, Bool, not, ◌&&◌, List, [], ◌∷◌, Option, Some, None, ◌==◌, nat_eq}
 use Rattle.std.specs.Prelude.{bit_and, if◌then◌else◌, codes, unwrap_or, is_some, option_map}
 use Rattle.std.specs.List.{starts_with, list_any}

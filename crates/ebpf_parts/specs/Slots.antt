@@ -1,4 +1,4 @@
--- The codes of instructions that definitions tell apart (RFC 9669).
+-- The numbers of the byte code (RFC 9669), and the slots of bytes: a slot is eight of them.
 use Rattle.std.specs.Prelude.{ℕ, ℤ, pos, negsuc, Bool, false, ◌&&◌, ◌+◌, ◌*◌, ◌/◌, ◌%◌, not, ◌==◌}
 use Rattle.std.specs.Prelude.{List, [], ◌∷◌, ◌++◌, length, map, slice_index, ◌≡◌, ◌≤◌, ◌<◌, take}
 use Rattle.std.specs.Prelude.{slice_range}
@@ -98,9 +98,14 @@ abbrev pub is_number : ℤ → ℕ → Bool
 is_number (pos m) n = m == n
 is_number (negsuc _) n = false
 
--- a call of that number, as a CO-RE relocation writes it
+-- a call of that number, with no registers and the offset 0, as a CO-RE relocation writes it
+-- (bpf_core_poison_insn of libbpf's relo_core.c)
 abbrev pub is_poisoned : bpf_insn → Bool
-is_poisoned slot = slot.code == call && slot.regs == 0 && is_number slot.imm poison_call
+is_poisoned slot =
+    slot.code == call
+    && slot.regs == 0
+    && is_number slot.off 0
+    && is_number slot.imm poison_call
 
 -- the immediate of a call of a weak extern that the kernel lacks, less the index of the extern's
 -- symbol (libbpf's

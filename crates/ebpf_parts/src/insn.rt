@@ -46,7 +46,7 @@ impl bpf_insn {
         self.regs / 16
     }
 
-    /// Whether the instruction calls a function of the same object.
+    /// Whether the instruction calls a function of the same object (RFC 9669, section 4.3.2).
     pub fn is_pseudo_call(&self) -> bool
         ensures { result ≡ is_pseudo_call self.now }
     {
@@ -56,7 +56,7 @@ impl bpf_insn {
             && self.off == 0
     }
 
-    /// Whether the instruction calls a helper function by its number.
+    /// Whether the instruction calls a helper function by its number (RFC 9669, section 4.3.1).
     pub fn is_helper_call(&self) -> bool
         ensures { result ≡ is_helper_call self.now }
     {
@@ -64,10 +64,13 @@ impl bpf_insn {
     }
 
     /// Whether a CO-RE relocation poisoned the instruction: the kernel that it was relocated to has no such value.
+    ///
+    /// A poisoned instruction calls the helper function 0x0bad2310, with no registers and the offset 0, as libbpf
+    /// writes it.
     pub fn is_poisoned(&self) -> bool
         ensures { result ≡ is_poisoned self.now }
     {
-        self.code == CALL && self.regs == 0 && self.imm == POISON_CALL
+        self.code == CALL && self.regs == 0 && self.off == 0 && self.imm == POISON_CALL
     }
 
     /// The eight bytes of the slot.
@@ -81,7 +84,7 @@ impl bpf_insn {
         ]
     }
 
-    /// Writes the destination register's number alone.
+    /// Sets the destination register's number, and leaves the source register's.
     pub fn set_dst_reg(&mut self, register: u8)
         requires { register < 16 }
         ensures { self.new ≡ record self.old { regs = registers (src_of self.old) register } }
@@ -90,7 +93,7 @@ impl bpf_insn {
         self.regs = regs / 16 * 16 + register;
     }
 
-    /// Writes the source register's number alone.
+    /// Sets the source register's number, and leaves the destination register's.
     pub fn set_src_reg(&mut self, register: u8)
         requires { register < 16 }
         ensures { self.new ≡ record self.old { regs = registers register (dst_of self.old) } }
@@ -114,11 +117,12 @@ fn read_slot(bytes: &[u8], offset: usize) -> bpf_insn
     }
 }
 
-/// The slots that the bytes are, one after the other.
+/// Returns the slots that the bytes are, one after the other (RFC 9669, section 3).
 ///
 /// # Errors
 ///
-/// `InvalidProgramCode` where the number of bytes is no multiple of 8.
+/// - `InvalidProgramCode`: the number of bytes is no multiple of 8.
+/// - `OutOfMemory`: an allocation fails.
 #[tactic(auto, using(crate::proofs::Slots::slots_end), unfolding(crate::specs::Slots::slots_of, crate::specs::Slots::code_faults))]
 pub fn copy_instructions(alloc: Global, bytes: &[u8]) -> Result<Vec<bpf_insn>, ParseError>
     ensures slots { IfOk result (λ slots. slots.items ≡ slots_of bytes.now) }

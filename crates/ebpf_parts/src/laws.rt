@@ -1,10 +1,10 @@
-//! What holds of slots, and of the names of program sections.
+//! Laws of slots, and of the names of program sections.
 
 ghost use Rattle.ebpf_parts.specs.ProgramTypes.{TypesAgree, NoNameIsOther, LenientKeepsKinds, LenientTakesNames};
 ghost use Rattle.ebpf_parts.specs.Slots.{SlotIsBytes, SlotsAreBytes};
 
-/// The bytes of a slot are the eight that it was read of, and the bytes of all slots, one after the other, are those that they were
-/// read of: the whole slots among them.
+/// The bytes of a slot are the eight that it was read from. The bytes of all slots, one after the other, are those that
+/// they were read from, up to the last whole slot.
 pub fn slots_are_bytes()
     ensures one { SlotIsBytes }
     ensures concatenated { SlotsAreBytes }
@@ -15,8 +15,8 @@ pub fn kinds_of_names_agree()
     ensures { TypesAgree }
 {}
 
-/// No name of the table says `Other`: `ProgramSection::from_str` never gives it. What a name says there it says in the
-/// broad reading too, which refuses no name.
+/// `ProgramSection::from_str` never returns `Other`. A name that it accepts has the same kind in lenient parsing, which
+/// refuses no name.
 pub fn names_are_read()
     ensures stated { NoNameIsOther }
     ensures kept { LenientKeepsKinds }

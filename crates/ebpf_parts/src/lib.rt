@@ -1,4 +1,4 @@
-//! The parts of an eBPF object: slots, programs, sections, and why an object can't be parsed.
+//! The parts of an eBPF object: slots, maps, kinds of sections and programs, and the errors of parsing.
 #![tactic(auto)]
 
 mod binding;

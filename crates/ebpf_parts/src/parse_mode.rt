@@ -1,10 +1,11 @@
-//! How much of what people compile is read.
+//! The two modes of parsing.
 
 /// How an object is read.
 #[derive(Clone, Copy, Debug, PartialEq, Eq)]
 pub enum ParseMode {
-    /// Names of program sections from the table of kinds alone, maps and licenses in their first forms.
+    /// Names of program sections from the table of kinds alone, maps and licenses in their first forms, any machine.
     Strict,
-    /// Program sections of every name, arrays of programs, numbers as enumerations, and licenses up to their first zero.
+    /// Program sections of every name, arrays of programs, numbers as enumerations, licenses up to their first zero,
+    /// and files for eBPF alone.
     Lenient,
 }

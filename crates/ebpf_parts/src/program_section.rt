@@ -92,12 +92,14 @@ fn without_mark(name: &str) -> &str
 }
 
 impl ProgramSection {
-    /// The kind that the name of a program's section says. The name is split at each slash; pieces
-    /// after those that the kind uses are ignored.
+    /// Returns the kind that the name of a program's section says (libbpf's section names).
+    ///
+    /// The name is split at each slash. Pieces after those that the kind uses are ignored.
     ///
     /// # Errors
     ///
-    /// `InvalidProgramSection` where the name says no kind.
+    /// - `InvalidProgramSection`: the name says no kind.
+    /// - `OutOfMemory`: an allocation fails.
     pub fn from_str(alloc: Global, name: &str) -> Result<ProgramSection, ParseError>
         ensures section { IfOk result (λ section. program_section name.now ≡ Some section) }
         ensures fault { Refuses is_parse_memory result (program_section_fault name.now) }
@@ -110,12 +112,15 @@ impl ProgramSection {
         }
     }
 
-    /// The kind that the name of a program's section says, by the parse mode: `Strict` as `from_str`. `Lenient`
-    /// has the same kinds, those of names with a `?` before them too, and for every other name `Other`.
+    /// Returns the kind that the name of a program's section says, by the parse mode.
+    ///
+    /// `Strict` is `from_str`. `Lenient` has the same kinds, also for names with a `?` before them, and `Other` for
+    /// every other name.
     ///
     /// # Errors
     ///
-    /// `InvalidProgramSection` where the name says no kind, and the reading is `Strict`.
+    /// - `InvalidProgramSection`: the name says no kind, and the mode is `Strict`.
+    /// - `OutOfMemory`: an allocation fails.
     #[tactic(auto, unfolding(crate::specs::ProgramTypes::section_as))]
     pub fn read(alloc: Global, name: &str, mode: ParseMode) -> Result<ProgramSection, ParseError>
         ensures section { IfOk result (λ section. section_as mode name.now ≡ Some section) }

@@ -1,4 +1,4 @@
-//! A section, as it is parsed, and what it is for.
+//! A section as it is parsed, and its kind.
 
 ghost use Rattle.std.specs.Prelude.{◌≡◌, [], IfOk, Some};
 ghost use Rattle.ebpf_base.specs.Faults.{Refuses, fault_of, first_of};
@@ -14,10 +14,10 @@ use ebpf_elf::{ElfSection, SectionIndex};
 use std::alloc::Global;
 use std::marker::Model;
 
-/// What a section of an object is for.
+/// The kind of a section of an object.
 #[derive(Clone, Copy, Debug, PartialEq, Eq)]
 pub enum EbpfSectionKind {
-    /// Nothing that is read.
+    /// A section that is not read.
     Undefined,
     /// Maps as fixed structs.
     Maps,
@@ -29,7 +29,7 @@ pub enum EbpfSectionKind {
     Data,
     /// Initial data that is only read.
     Rodata,
-    /// Data that begins as zeros.
+    /// Data that is zero at first.
     Bss,
     /// Functions that programs call.
     Text,
@@ -92,9 +92,10 @@ fn named_kind(name: &str) -> Option<EbpfSectionKind>
 }
 
 impl EbpfSectionKind {
-    /// The kind of a section with a name: by the first prefix that fits (`license`, `version`, `maps`,
-    /// `.maps`, `.text`, `.bss`, `.data`, `.rodata`), by the names `.BTF` and `.BTF.ext`, and else
-    /// `Program` where the section is of instructions.
+    /// Returns the kind of a section with a name (libbpf's section names).
+    ///
+    /// The first prefix that fits says it (`license`, `version`, `maps`, `.maps`, `.text`, `.bss`, `.data`, `.rodata`),
+    /// then the names `.BTF` and `.BTF.ext`. Any other section is a `Program` if it has instructions.
     pub fn from_elf(name: &str, section: &ElfSection<'_>) -> EbpfSectionKind
         ensures { result ≡ kind_of_section name.now (header section.now) }
     {
@@ -188,13 +189,17 @@ fn relocations_of(alloc: Global, section: &ElfSection<'_>) -> Result<Items<Reloc
 }
 
 impl<'a> Section<'a> {
-    /// A section of a file, with its name, its data and its relocations.
+    /// Reads a section of a file, with its name, its data and its relocations.
     ///
     /// # Errors
     ///
-    /// `SectionError` with `BadStringTable` where the name can't be read, then with `BadSectionRange`
-    /// where the data is outside the file; then `UnsupportedRelocationTarget` where a relocation names
-    /// symbol 0.
+    /// The first of these faults, in this order:
+    ///
+    /// - `SectionError` with `BadStringTable`: the name can't be read.
+    /// - `SectionError` with `BadSectionRange`: the data is outside the file.
+    /// - `UnsupportedRelocationTarget`: a relocation names symbol 0.
+    ///
+    /// `OutOfMemory` is returned if an allocation fails.
     #[tactic(auto, unfolding(crate::specs::Sections::section_of, crate::specs::Sections::section_with, crate::specs::Sections::section_fault, crate::specs::Sections::section_fault_with))]
     pub fn from_elf(alloc: Global, section: &ElfSection<'a>) -> Result<Section<'a>, ParseError>
         ensures section { IfOk result (λ s. s ≡ section_of section.now) }
@@ -214,11 +219,11 @@ impl<'a> Section<'a> {
         })
     }
 
-    /// A section of a file with its name and its data, without its relocations.
+    /// Reads a section of a file with its name and its data, without its relocations.
     ///
     /// # Errors
     ///
-    /// `SectionError` as `from_elf` has it.
+    /// - `SectionError`: as in `from_elf`.
     #[tactic(auto, unfolding(crate::specs::Sections::section_with, crate::specs::Sections::section_fault_with))]
     pub fn without_relocations(
         alloc: Global,

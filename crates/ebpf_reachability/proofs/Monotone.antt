@@ -4,10 +4,10 @@ use Rattle.std.specs.Option.{option_and_then}
 use Rattle.std.specs.Prelude.{◌==◌, slice_get, slice_index_or}
 use Rattle.std.proofs.lemmas.Bool.Decides.{nat_tests}
 use Rattle.ebpf_linker.specs.Functions.{Flow, Return, PseudoCall, WideLoad, Jump, Branch, Next, flow}
-use Rattle.ebpf_parts.specs.Slots.{dst_of, src_of}
+use Rattle.ebpf_parts.specs.Slots.{dst_of, is_poisoned, src_of}
 use Rattle.ebpf_parts.specs.declared.insn.bpf_insn.{bpf_insn}
 use Rattle.ebpf_reachability.proofs.Order.{Tells, below_itself, learned_below, forgotten_below, called_below, below_through}
-use Rattle.ebpf_reachability.specs.Effects.{IsBelow, unknown, learned, after, arithmetic, calculated, class, decided, destination, byte_swapped, is_atomic, is_poisoned, moved, operation, source, stored, takes_register, negation, called, wide_load_result}
+use Rattle.ebpf_reachability.specs.Effects.{IsBelow, unknown, learned, after, arithmetic, calculated, class, decided, destination, byte_swapped, is_atomic, moved, operation, source, stored, takes_register, negation, called, wide_load_result}
 use Rattle.ebpf_reachability.specs.PrivateContracts.{common, commons}
 use Rattle.ebpf_reachability.specs.Reached.{AreBelow, Assignment, Holds, IsStateBelow, state_at}
 use Rattle.ebpf_reachability.specs.Steps.{next_index, callback, steps_by_flow, target_index, steps_to, steps, steps_at, ways}

@@ -1,13 +1,13 @@
 -- What is known of the registers where a slot is reached (RFC 9669, section 2.1: a program has r0
 -- to r10).
 use Rattle.std.specs.Prelude.{◌≡◌, ℕ, Option, Some, None, length, replicate, slice_index_or}
-use Rattle.std.specs.Prelude.{slice_set, ◌+◌, ◌*◌, ◌/◌, ◌%◌, ◌^◌, pos, Bool, ◌&&◌, List, slice_get}
+use Rattle.std.specs.Prelude.{slice_set, ◌+◌, ◌*◌, ◌/◌, ◌%◌, ◌^◌, pos, Bool, List, slice_get}
 use Rattle.std.specs.Prelude.{if◌then◌else◌, ◌==◌}
 use Rattle.std.specs.Option.{option_and_then, option_map}
 use Rattle.std.specs.Int.{w32, w64, cast_unsigned}
 use Rattle.std.specs.Ordering.{int_eq}
-use Rattle.ebpf_parts.specs.Slots.{call, class_alu, class_alu64, class_jmp32, class_ld, class_ldx}
-use Rattle.ebpf_parts.specs.Slots.{class_st, class_stx, dst_of, poison_call, src_of}
+use Rattle.ebpf_parts.specs.Slots.{class_alu, class_alu64, class_jmp32, class_ld, class_ldx}
+use Rattle.ebpf_parts.specs.Slots.{class_st, class_stx, dst_of, is_poisoned, src_of}
 use Rattle.ebpf_parts.specs.declared.insn.bpf_insn.{bpf_insn}
 use Rattle.ebpf_reachability.specs.Operations.{op_end, op_mov, op_neg}
 use Rattle.ebpf_reachability.specs.Arithmetic.{computed, negated, extended_32, extended_64}
@@ -105,13 +105,6 @@ arithmetic slot a =
     else (if operation slot == op_neg then option_and_then (negation slot) (destination slot a)
     else (if operation slot == op_end then option_and_then (byte_swapped slot) (destination slot a)
     else binary_result slot a))
-
--- Whether a slot is one that a CO-RE relocation poisoned: a call of the helper function which no
--- kernel has.
-abbrev pub is_poisoned : bpf_insn → Bool
-is_poisoned slot =
-    (slot.code == call)
-    && ((slot.regs == 0) && (int_eq slot.off (pos 0) && int_eq slot.imm (pos poison_call)))
 
 -- an atomic operation (mode 6 of class 3)
 abbrev pub is_atomic : bpf_insn → Bool

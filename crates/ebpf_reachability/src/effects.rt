@@ -2,7 +2,7 @@
 
 ghost use Rattle.std.specs.Prelude.{◌≡◌, ◌+◌, ◌<◌, length};
 ghost use Rattle.std.specs.Int.{cast_unsigned, w64};
-ghost use Rattle.ebpf_reachability.specs.Effects.{after, arithmetic, calculated, class, decided, destination, byte_swapped, is_poisoned, binary_result, wide_load_result, moved, operation, source, stored, takes_register, negation, wide};
+ghost use Rattle.ebpf_reachability.specs.Effects.{after, arithmetic, calculated, class, decided, destination, byte_swapped, binary_result, wide_load_result, moved, operation, source, stored, takes_register, negation, wide};
 
 use crate::arithmetic::{
     computed_32, computed_64, extended_32, extended_64, low_32, negated_32, negated_64, swapped,
@@ -11,7 +11,7 @@ use crate::arithmetic::{
 use crate::operations::{END, MOV, NEG};
 use crate::registers::{Registers, compared_32, compared_64};
 use ebpf_parts::insn::bpf_insn;
-use ebpf_parts::insn::opcodes::{ALU, ALU64, CALL, JMP32, LD, LDX, POISON_CALL, ST, STX};
+use ebpf_parts::insn::opcodes::{ALU, ALU64, JMP32, LD, LDX, ST, STX};
 
 fn class(slot: bpf_insn) -> u8
     ensures { result ≡ class slot }
@@ -145,13 +145,6 @@ fn arithmetic(slot: bpf_insn, registers: &Registers) -> Option<u64>
     }
 }
 
-/// Whether a slot was poisoned.
-fn is_poisoned(slot: bpf_insn) -> bool
-    ensures { result ≡ is_poisoned slot }
-{
-    slot.code == CALL && slot.regs == 0 && slot.off == 0 && slot.imm == POISON_CALL
-}
-
 /// The registers behind an atomic operation or a plain store.
 fn stored(slot: bpf_insn, registers: Registers) -> Registers
     ensures { result ≡ stored slot registers }
@@ -169,7 +162,7 @@ fn stored(slot: bpf_insn, registers: Registers) -> Registers
 pub fn after(slot: bpf_insn, registers: Registers) -> Registers
     ensures { result ≡ after slot registers }
 {
-    if is_poisoned(slot) {
+    if slot.is_poisoned() {
         return Registers::unknown();
     }
     match class(slot) {

@@ -1,5 +1,5 @@
--- The func info and line info of a function: the records of its section in `.BTF.ext` that stand at
--- its slots.
+-- The func info and line info of a function: the records of its section in `.BTF.ext` that name its
+-- slots (the kernel's Documentation/bpf/btf.rst, 4.2 ".BTF.ext section").
 use Rattle.std.specs.FinMap.{FinMap, empty, get}
 use Rattle.std.specs.List.{range_with_len}
 use Rattle.std.specs.List.Sorted.{IsPartitionPoint}

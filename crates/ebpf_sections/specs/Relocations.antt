@@ -1,5 +1,5 @@
--- The sections of relocations of a file, by where their entries stand, and the relocations that an
--- object keeps of a section.
+-- The relocation sections of a file, by the offsets of their entries, and the relocations that an
+-- object keeps of a section (ELF-64 gABI, 'Relocation').
 use Rattle.std.specs.Cmp.{IsTotalOrder, nat_cmp_total, then_total, on_total}
 use Rattle.std.specs.Coded.{Coded, coded_ℕ, coded×}
 use Rattle.std.specs.FinMap.{FinMap, get, empty}

@@ -1,5 +1,5 @@
--- The sections of a file: by name, those of an object, whether one has code, values by section, and
--- the last of data.
+-- The machine of a file, and its sections: by name, those of an object, whether one has code,
+-- values by section, and the last of data.
 use Rattle.std.specs.BTreeMap.{get, BTreeMap}
 use Rattle.std.specs.FinMap.{FinMap, empty}
 use Rattle.std.specs.Global.{Vec}
@@ -10,16 +10,16 @@ use Rattle.std.specs.Prelude.{if◌then◌else◌, codes, map, filter, true, fal
 use Rattle.ebpf_base.specs.Maps.{put_all, text_cmp}
 use Rattle.ebpf_base.specs.declared.endianness.Endianness.{Endianness}
 use Rattle.ebpf_base.specs.declared.endianness.Endianness.TheVariants.{Little, Big}
-use Rattle.ebpf_elf.specs.Headers.{ei_data}
+use Rattle.ebpf_elf.specs.Headers.{e_machine, ei_data}
 use Rattle.ebpf_elf.specs.Names.{is_name}
 use Rattle.ebpf_elf.specs.Relocations.{relocation_sections, relocated_section}
 use Rattle.ebpf_elf.specs.Sections.{SectionOf, sections, section_name, header}
-use Rattle.ebpf_elf.specs.declared.constants.TheConstants.{SHT_NOBITS}
+use Rattle.ebpf_elf.specs.declared.constants.TheConstants.{EM_BPF, EM_NONE, SHT_NOBITS}
 use Rattle.ebpf_elf.specs.declared.relocation.ElfRelocation.{ElfRelocation}
 use Rattle.ebpf_elf.specs.declared.section.SectionIndex.{SectionIndex}
 use Rattle.ebpf_parts.specs.Sections.{kind_of_section, section_of, SectionValue, name_or_empty}
 use Rattle.ebpf_parts.specs.declared.error.ParseError.{ParseError}
-use Rattle.ebpf_parts.specs.declared.error.ParseError.TheVariants.{BigEndianCode}
+use Rattle.ebpf_parts.specs.declared.error.ParseError.TheVariants.{BigEndianCode, OtherMachine}
 use Rattle.ebpf_parts.specs.declared.parse_mode.ParseMode.{ParseMode}
 use Rattle.ebpf_parts.specs.declared.parse_mode.ParseMode.TheVariants.{Strict, Lenient}
 use Rattle.ebpf_parts.specs.declared.section.EbpfSectionKind.{EbpfSectionKind}
@@ -41,6 +41,17 @@ other_sections bytes = filter (λ s. not (is_type_information s)) (sections byte
 
 abbrev pub object_sections : List ℕ → List SectionValue
 object_sections bytes = map section_of (other_sections bytes)
+
+-- ---- the machine, which lenient parsing checks as libbpf does (bpf_object__elf_init of libbpf.c):
+-- an object is for eBPF, or for no machine (EM_NONE), as old versions of clang wrote it
+
+unfoldable pub is_for_ebpf : List ℕ → Bool
+is_for_ebpf bytes = e_machine bytes == EM_BPF || e_machine bytes == EM_NONE
+
+abbrev pub machine_fault_as : ParseMode → List ℕ → Option ParseError
+machine_fault_as Strict bytes = None
+machine_fault_as Lenient bytes =
+    if is_for_ebpf bytes then None else Some (OtherMachine (e_machine bytes))
 
 -- ---- code in the big-endian order, which lenient parsing refuses as libbpf does: its slots would
 -- come out wrong

@@ -32,7 +32,7 @@ pub trait NamesSlot {
         ensures { result ≡ slot_of self.now };
 }
 
-/// Whether rows stand in the order of their slots.
+/// Whether rows are in the order of their slots.
 pub fn is_in_order<R: NamesSlot>(rows: &[R]) -> bool
     ensures { result ≡ rises_from R.slot_of 0 rows.now }
 {
@@ -46,7 +46,7 @@ pub fn is_in_order<R: NamesSlot>(rows: &[R]) -> bool
     true
 }
 
-/// The number of rows before those of a slot, by a binary search.
+/// Returns the number of rows before those of a slot, by a binary search.
 pub fn lower_bound<R: NamesSlot>(rows: &[R], slot: u128) -> usize
     requires { IsNonDecreasingBy R.slot_of rows.now }
     ensures within { result ≤ length rows.now }

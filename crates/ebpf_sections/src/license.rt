@@ -80,7 +80,7 @@ fn lenient_license(alloc: Global, bytes: &[u8]) -> Result<Items<u8>, ParseError>
     Ok(Items::from_vec(Vec::from_slice(alloc, before_zero(bytes))?))
 }
 
-/// The license in a section's bytes, by the reading.
+/// The license in a section's bytes, by the parse mode.
 #[tactic(auto, unfolding(crate::specs::LicenseAndVersion::license_text, crate::specs::LicenseAndVersion::license_text_fault))]
 fn license_in(alloc: Global, bytes: &[u8], mode: ParseMode) -> Result<Items<u8>, ParseError>
     ensures license { IfOk result (λ license. license ≡ license_text mode bytes.now) }
@@ -92,7 +92,15 @@ fn license_in(alloc: Global, bytes: &[u8], mode: ParseMode) -> Result<Items<u8>,
     }
 }
 
-/// The license of a file, `GPL` where it has no section `license`.
+/// Returns the license of a file, `GPL` if it has no section `license` (libbpf's name).
+///
+/// # Errors
+///
+/// - `SectionError`, `UnsupportedRelocationTarget`: the section can't be read.
+/// - `InvalidLicense`: strict parsing, fewer than two bytes or a zero before the last one; lenient parsing, one byte
+///   that isn't zero.
+/// - `MissingLicenseNullTerminator`: two or more bytes, none of them zero.
+/// - `OutOfMemory`: an allocation fails.
 #[tactic(auto, using(crate::proofs::RelocationTables::found_from), unfolding(ebpf_parts::specs::Sections::section_of, ebpf_parts::specs::Sections::section_with, crate::specs::LicenseAndVersion::license_as, crate::specs::LicenseAndVersion::license_fault_as))]
 pub fn read_license(
     alloc: Global,
@@ -132,7 +140,13 @@ fn version_in(alloc: Global, order: Endianness, bytes: &[u8]) -> Result<Option<u
     Ok(Some(version))
 }
 
-/// The kernel version of a file, none where it has no section `version`.
+/// Returns the kernel version of a file, `None` if it has no section `version` (libbpf's name).
+///
+/// # Errors
+///
+/// - `SectionError`, `UnsupportedRelocationTarget`: the section can't be read.
+/// - `InvalidKernelVersion`: the section has not 4 bytes.
+/// - `OutOfMemory`: an allocation fails.
 #[tactic(auto, using(crate::proofs::RelocationTables::found_from), unfolding(ebpf_parts::specs::Sections::section_of, ebpf_parts::specs::Sections::section_with, crate::specs::LicenseAndVersion::kernel_version_of, crate::specs::LicenseAndVersion::version_fault))]
 pub fn read_version(
     alloc: Global,

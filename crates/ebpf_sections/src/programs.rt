@@ -140,7 +140,13 @@ fn put_last_functions(
     Ok(())
 }
 
-/// Puts the functions of a section's programs by section and address.
+/// Puts the functions of a section's programs into a table, by section and address.
+///
+/// # Errors
+///
+/// - `InvalidSymbol`: a program has bytes outside its section.
+/// - `InvalidProgramCode`: a program is no whole number of slots.
+/// - `OutOfMemory`: an allocation fails.
 pub fn put_functions(
     alloc: Global,
     functions: &mut ByKey<Function>,
@@ -158,7 +164,11 @@ pub fn put_functions(
     put_last_functions(alloc, functions, records, section, symbols, &last)
 }
 
-/// Puts the programs of a section by name.
+/// Puts the programs of a section into a table, by name.
+///
+/// # Errors
+///
+/// - `OutOfMemory`: an allocation fails.
 #[tactic(auto, using(ebpf_base::proofs::Lists::kept_more, ebpf_base::proofs::Lists::passed_more, ebpf_base::proofs::Lists::rest_none))]
 pub fn put_programs(
     alloc: Global,

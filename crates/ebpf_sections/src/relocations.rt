@@ -47,7 +47,7 @@ fn entry_range_of(table: &ElfRelocationSection<'_>) -> ((usize, usize), usize)
 }
 
 impl<V> ByEntryRange<V> {
-    /// The empty map, without memory.
+    /// Returns the empty map. Allocates nothing.
     pub fn new(alloc: Global) -> Self
         ensures { result ≡ map.empty }
     {
@@ -56,7 +56,7 @@ impl<V> ByEntryRange<V> {
         }
     }
 
-    /// The value of the range of a section's entries.
+    /// Returns the value of the range of a section's entries.
     pub fn get(&self, table: &ElfRelocationSection<'_>) -> Option<&V>
         ensures { option_copied result ≡ map.get self.now (entry_range_of table.now) }
     {
@@ -132,7 +132,11 @@ fn read_table<'a>(
     Ok(RelocationTable { section, lacks })
 }
 
-/// The relocation sections of a file, by the section that they patch.
+/// Reads the relocation sections of a file, by the section that they patch (ELF-64 gABI, 'Relocation').
+///
+/// # Errors
+///
+/// - `OutOfMemory`: an allocation fails.
 pub fn read_relocation_sections<'a>(
     alloc: Global,
     file: &ElfFile<'a>,
@@ -150,7 +154,12 @@ pub fn read_relocation_sections<'a>(
     Ok(groups)
 }
 
-/// Refuses relocations of which one names no symbol.
+/// Refuses relocation sections of which an entry names symbol 0, which is none.
+///
+/// # Errors
+///
+/// - `UnsupportedRelocationTarget`: an entry names symbol 0.
+/// - `OutOfMemory`: an allocation fails.
 #[tactic(auto, using(crate::proofs::RelocationTables::targets_more, crate::proofs::RelocationTables::targets_none))]
 pub fn check_targets(tables: &[RelocationTable<'_>]) -> Result<(), ParseError>
     ensures { Refuses is_parse_memory result (target_fault (flat_map table_entries tables.now)) }
@@ -227,7 +236,11 @@ fn put_last_tables(
     Ok(table_of(alloc, entries)?)
 }
 
-/// The relocations of a section by offset, the later of two at one offset.
+/// Returns the relocations of a section by offset, the later of two at one offset.
+///
+/// # Errors
+///
+/// - `OutOfMemory`: an allocation fails.
 pub fn by_offset(
     alloc: Global,
     tables: &[RelocationTable<'_>],

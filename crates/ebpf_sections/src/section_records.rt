@@ -89,7 +89,12 @@ impl<'e> Model for SectionRecords<'e> {
 }
 
 impl<'e> SectionRecords<'e> {
-    /// The func info of the function that begins at a slot, the slots counted from `base`, with the section's counts.
+    /// Returns the func info of the function that begins at a slot, the slots counted from `base`, with the section's
+    /// counts.
+    ///
+    /// # Errors
+    ///
+    /// - `OutOfMemory`: an allocation fails.
     #[tactic(auto, unfolding(crate::specs::Records::funcs_at), using(crate::proofs::Records::of_one_slot))]
     pub fn funcs_at(
         &self,
@@ -107,7 +112,11 @@ impl<'e> SectionRecords<'e> {
         })
     }
 
-    /// The line info of `count` slots from a slot on, the slots counted from `base`, with the section's counts.
+    /// Returns the line info of `count` slots from a slot on, the slots counted from `base`, with the section's counts.
+    ///
+    /// # Errors
+    ///
+    /// - `OutOfMemory`: an allocation fails.
     #[tactic(auto, unfolding(crate::specs::Records::lines_in))]
     pub fn lines_in(
         &self,
@@ -223,7 +232,7 @@ impl<'e> Model for FoundRecords<'e> {
 }
 
 impl<'e> FoundRecords<'e> {
-    /// The contents of a section `.BTF.ext`, with the sections of these names found.
+    /// Finds the func info and line info of the sections with these names.
     pub fn find(
         alloc: Global,
         ext: &'e Option<BtfExt>,
@@ -243,7 +252,7 @@ impl<'e> FoundRecords<'e> {
         Ok(FoundRecords { ext, funcs, lines })
     }
 
-    /// The func info of the section with a name; empty where there is none.
+    /// Returns the func info of the section with a name; empty if there is none.
     pub fn funcs(&self, name: &str) -> LentInfo<'e, bpf_func_info>
         ensures { func_info_at (func_info_of self.now) name.now
             ≡ record {
@@ -255,7 +264,7 @@ impl<'e> FoundRecords<'e> {
         lent_funcs(&self.funcs, name)
     }
 
-    /// The line info of the section with a name; empty where there is none.
+    /// Returns the line info of the section with a name; empty if there is none.
     pub fn lines(&self, name: &str) -> LentInfo<'e, bpf_line_info>
         ensures { line_info_at (line_info_of self.now) name.now
             ≡ record {
@@ -309,7 +318,7 @@ fn records_of_names<'e>(
 /// The func info and line info of all sections, of which those of some names are gathered by their slots.
 #[derive(Drop)]
 pub struct RecordsByName<'e> {
-    pub found: FoundRecords<'e>,
+    found: FoundRecords<'e>,
     table: ByName<SectionRecords<'e>>,
     ghost are: { AreRecordsOf found table },
 }
@@ -336,7 +345,11 @@ impl<'e> Model for RecordsByName<'e> {
 }
 
 impl<'e> RecordsByName<'e> {
-    /// The contents of a section `.BTF.ext`, with the records of sections of these names gathered.
+    /// Gathers the func info and line info of the sections with these names by their slots.
+    ///
+    /// # Errors
+    ///
+    /// - `OutOfMemory`: an allocation fails.
     #[tactic(auto, using(crate::proofs::Records::none_are))]
     pub fn gather(
         alloc: Global,
@@ -355,7 +368,7 @@ impl<'e> RecordsByName<'e> {
         Ok(RecordsByName { found, table })
     }
 
-    /// The func info and line info of the section with a name, where its records are gathered.
+    /// Returns the func info and line info of the section with a name, if its records are gathered.
     pub fn of(&self, name: &str) -> Option<&SectionRecords<'e>>
         ensures { IfSome result (λ r. r.now ≡ func_and_line_info_of self.now name.now) }
     {

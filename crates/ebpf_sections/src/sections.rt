@@ -10,12 +10,12 @@ ghost use Rattle.ebpf_elf.specs.Relocations.{relocation_sections, relocated_sect
 ghost use Rattle.ebpf_elf.specs.Sections.{sections};
 ghost use Rattle.ebpf_parts.specs.Memory.{is_parse_memory};
 ghost use Rattle.ebpf_parts.specs.Sections.{section_of, name_or_empty, section_with, section_fault};
-ghost use Rattle.ebpf_sections.specs.Sections.{AreTablesOf, data_row, group_at, has_big_endian_code, has_code, is_index, is_type_information, last_data, object_sections, order_fault_as};
+ghost use Rattle.ebpf_sections.specs.Sections.{AreTablesOf, data_row, group_at, has_big_endian_code, has_code, is_for_ebpf, is_index, is_type_information, last_data, machine_fault_as, object_sections, order_fault_as};
 
 use crate::relocations::{RelocationTable, check_targets};
 use ebpf_base::ByName;
 use ebpf_btf::Endianness;
-use ebpf_elf::constants::SHT_NOBITS;
+use ebpf_elf::constants::{EM_BPF, EM_NONE, SHT_NOBITS};
 use ebpf_elf::{ElfFile, ElfSection};
 use ebpf_parts::{EbpfSectionKind, ParseError, ParseMode, Section};
 use std::alloc::Global;
@@ -30,7 +30,7 @@ pub struct Groups<T> {
 }
 
 impl<T: Drop> Groups<T> {
-    /// No values.
+    /// Returns groups without values. Allocates nothing.
     pub fn new(alloc: Global) -> Groups<T>
         ensures { (q : ℕ) → group_at result.groups q ≡ [] }
     {
@@ -41,6 +41,10 @@ impl<T: Drop> Groups<T> {
     }
 
     /// Adds a value behind the values of its section.
+    ///
+    /// # Errors
+    ///
+    /// - `OutOfMemory`: an allocation fails.
     pub fn add(&mut self, alloc: Global, section: usize, value: T) -> Result<(), ParseError>
         ensures added { OnOk result
             ((q : ℕ)
@@ -63,7 +67,7 @@ impl<T: Drop> Groups<T> {
         Ok(())
     }
 
-    /// The values of a section.
+    /// Returns the values of a section.
     pub fn of(&self, section: usize) -> &[T]
         ensures { result.now ≡ group_at self.now.groups section }
     {
@@ -74,7 +78,7 @@ impl<T: Drop> Groups<T> {
     }
 }
 
-/// The name of a section, empty where it can't be read.
+/// Returns the name of a section, empty if it can't be read.
 pub fn name_or_empty<'a>(section: &ElfSection<'a>) -> &'a str
     ensures { result.now ≡ name_or_empty section.now }
 {
@@ -130,7 +134,11 @@ impl<'a> SectionNames<'a> {
         }
     }
 
-    /// The names of all sections but those of type information.
+    /// Reads the names of all sections but those of type information.
+    ///
+    /// # Errors
+    ///
+    /// - `OutOfMemory`: an allocation fails.
     pub fn read(alloc: Global, file: &ElfFile<'a>) -> Result<SectionNames<'a>, ParseError>
         ensures last { IfOk result (λ names.
             names.last_data ≡ last_data (object_sections file.now)) }
@@ -148,6 +156,31 @@ impl<'a> SectionNames<'a> {
             names.add(alloc, &section)?;
         }
         Ok(names)
+    }
+}
+
+/// Whether a file is for eBPF, or for no machine.
+#[tactic(auto, unfolding(crate::specs::Sections::is_for_ebpf))]
+fn is_for_ebpf(file: &ElfFile<'_>) -> bool
+    ensures { result ≡ is_for_ebpf file.now }
+{
+    let machine = file.machine();
+    machine == EM_BPF || machine == EM_NONE
+}
+
+/// Refuses a file for another machine than eBPF in lenient parsing, as libbpf does.
+///
+/// # Errors
+///
+/// - `OtherMachine`: the mode is `Lenient`, and `e_machine` is neither EM_BPF nor EM_NONE (ELF-64 gABI, 'ELF Header').
+pub fn check_machine(file: &ElfFile<'_>, mode: ParseMode) -> Result<(), ParseError>
+    ensures { fault_of result ≡ machine_fault_as mode file.now }
+{
+    match mode {
+        ParseMode::Lenient if !is_for_ebpf(file) => Err(ParseError::OtherMachine {
+            machine: file.machine(),
+        }),
+        _ => Ok(()),
     }
 }
 
@@ -181,7 +214,12 @@ fn has_big_endian_code(file: &ElfFile<'_>) -> bool
     matches!(file.endianness(), Endianness::Big) && has_any_code(file)
 }
 
-/// Refuses a big-endian file with code in lenient parsing.
+/// Refuses a big-endian file with code in lenient parsing, as libbpf does: its slots would be wrong.
+///
+/// # Errors
+///
+/// - `BigEndianCode`: the mode is `Lenient`, the file is big-endian (EI_DATA; ELF-64 gABI, 'ELF Header'), and a Text or
+///   Program section has bytes.
 pub fn check_order(file: &ElfFile<'_>, mode: ParseMode) -> Result<(), ParseError>
     ensures { fault_of result ≡ order_fault_as mode file.now }
 {
@@ -201,7 +239,13 @@ pub fn is_index(number: usize, stated: Option<&usize>) -> bool
     }
 }
 
-/// A section of a file, with its relocation sections.
+/// Reads a section of a file, and checks its relocation sections.
+///
+/// # Errors
+///
+/// - `SectionError`: its name or its data can't be read.
+/// - `UnsupportedRelocationTarget`: a relocation names symbol 0.
+/// - `OutOfMemory`: an allocation fails.
 #[tactic(auto, using(crate::proofs::ReadSections::fault_of_targets), unfolding(ebpf_parts::specs::Sections::section_fault, ebpf_parts::specs::Sections::section_fault_with))]
 pub fn read_section<'a>(
     alloc: Global,
@@ -219,7 +263,12 @@ pub fn read_section<'a>(
     Ok(read)
 }
 
-/// A section of a file, with its relocation sections among those of the file.
+/// Reads a section of a file, and checks its relocation sections among those of the file.
+///
+/// # Errors
+///
+/// - `SectionError`, `UnsupportedRelocationTarget`: as in `read_section`.
+/// - `OutOfMemory`: an allocation fails.
 #[tactic(auto, using(crate::proofs::NamedSymbols::tables_of_section))]
 pub fn read_section_of<'a>(
     alloc: Global,

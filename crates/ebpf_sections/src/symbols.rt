@@ -71,7 +71,11 @@ impl<'a> NamedSymbol<'a> {
         }
     }
 
-    /// A symbol of a file, with its name.
+    /// Returns a symbol of a file, with its name.
+    ///
+    /// # Errors
+    ///
+    /// - `BtfError` with `InvalidSymbolName`: the name can't be read.
     pub fn from_elf(symbol: &ElfSymbol<'a>) -> Result<NamedSymbol<'a>, ParseError>
         ensures symbol { IfOk result (λ y. y ≡ symbol_of symbol.now) }
         ensures fault { fault_of result ≡ symbol_fault symbol.now }
@@ -138,7 +142,12 @@ fn count_of(file: &ElfFile<'_>) -> usize {
     0
 }
 
-/// The symbols of a file.
+/// Reads the symbols of a file, by their section (ELF-64 gABI, 'Symbol Table').
+///
+/// # Errors
+///
+/// - `BtfError` with `InvalidSymbolName`: the name of a symbol can't be read.
+/// - `OutOfMemory`: an allocation fails.
 #[tactic(auto, using(crate::proofs::NamedSymbols::group_more, crate::proofs::NamedSymbols::group_all, crate::proofs::NamedSymbols::names_more, crate::proofs::NamedSymbols::names_all))]
 pub fn read_symbols<'a>(alloc: Global, file: &ElfFile<'a>) -> Result<FileSymbols<'a>, ParseError>
     ensures names { IfOk result (λ s. lent_bytes s.names.items ≡ names_of (file_symbols file.now)) }
@@ -157,7 +166,11 @@ pub fn read_symbols<'a>(alloc: Global, file: &ElfFile<'a>) -> Result<FileSymbols
     Ok(symbols)
 }
 
-/// The symbols of a file as an object keeps them. The caller passes their names, so that each name is read once.
+/// Returns the symbols of a file as an object keeps them. The caller passes their names, so that each is read once.
+///
+/// # Errors
+///
+/// - `OutOfMemory`: an allocation fails.
 #[tactic(auto, unfolding(crate::specs::Symbols::symbol_of))]
 pub fn object_symbols(
     alloc: Global,
@@ -176,7 +189,11 @@ pub fn object_symbols(
     Ok(table)
 }
 
-/// The indices of symbols by name; of equal names the last.
+/// Returns the indices of symbols by name; of equal names the last.
+///
+/// # Errors
+///
+/// - `OutOfMemory`: an allocation fails.
 pub fn symbol_indices_by_name(
     alloc: Global,
     symbols: &[NamedSymbol<'_>],
@@ -191,7 +208,12 @@ pub fn symbol_indices_by_name(
     Ok(numbers)
 }
 
-/// Whether the symbols of a file are weak, by name; of equal names the first.
+/// Returns by name whether the symbols of a file are weak; of equal names the first counts.
+///
+/// # Errors
+///
+/// - `BtfError` with `InvalidSymbolName`: the name of a symbol can't be read.
+/// - `OutOfMemory`: an allocation fails.
 #[tactic(auto, using(crate::proofs::NamedSymbols::before_all, crate::proofs::NamedSymbols::one_more, crate::proofs::NamedSymbols::all_named))]
 pub fn weak_by_name(alloc: Global, file: &ElfFile<'_>) -> Result<ByName<bool>, ParseError>
     ensures weak { IfOk result (λ weak. get weak ≡ weak_named (file_symbols file.now)) }

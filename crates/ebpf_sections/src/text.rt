@@ -187,7 +187,12 @@ pub struct FunctionSymbols<'s, 'a> {
 }
 
 impl<'s, 'a> FunctionSymbols<'s, 'a> {
-    /// The symbols of functions among a section's symbols.
+    /// Returns the symbols of functions among a section's symbols.
+    ///
+    /// # Errors
+    ///
+    /// - `SymbolTableConflict`: two of them are at one address.
+    /// - `OutOfMemory`: an allocation fails.
     pub fn new(
         alloc: Global,
         section_index: usize,
@@ -211,7 +216,7 @@ impl<'s, 'a> FunctionSymbols<'s, 'a> {
         self.rows.len()
     }
 
-    /// The symbol at an address.
+    /// Returns the symbol of the function at an address.
     pub fn at(&self, address: u64) -> Option<&'s NamedSymbol<'a>>
         ensures { option_map (λ y. y.now) result ≡ find (is_text_at address) self.now.symbols.now }
     {
@@ -348,7 +353,15 @@ fn put_entries(
     Ok(())
 }
 
-/// Puts the functions of a Text section with these symbols by section and address.
+/// Puts the functions of a Text section with these symbols into a table, by section and address.
+///
+/// # Errors
+///
+/// - `SymbolTableConflict`: two functions are at one address.
+/// - `UnknownSymbol`: no function begins where the one before it ends.
+/// - `InvalidSymbol`: a function has no bytes, or bytes outside the section.
+/// - `InvalidProgramCode`: a function is no whole number of slots.
+/// - `OutOfMemory`: an allocation fails.
 #[tactic(auto, unfolding(crate::specs::Texts::text_fault))]
 pub fn put_text_functions(
     alloc: Global,

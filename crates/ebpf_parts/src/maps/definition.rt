@@ -74,7 +74,11 @@ impl TryFrom<u32> for PinningType {
 
     ghost try_from_gives = { λ number result. result ≡ pinning_type number };
 
-    /// The pinning of a number: 0 none, 1 by name. `Unsupported` past 1.
+    /// Returns the pinning of a number (libbpf's enum libbpf_pin_type): 0 none, 1 by name.
+    ///
+    /// # Errors
+    ///
+    /// - `Unsupported`: the number is above 1.
     fn try_from(value: u32) -> Result<PinningType, PinningError> {
         match value {
             0 => Ok(PinningType::None),

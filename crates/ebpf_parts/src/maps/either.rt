@@ -155,7 +155,7 @@ impl Map {
         }
     }
 
-    /// Sets the size of a value, in bytes, alone.
+    /// Sets the size of a value, in bytes, and nothing else.
     pub fn set_value_size(&mut self, size: u32)
         ensures { self.new ≡ maps.with_value_size self.old size }
     {
@@ -175,7 +175,7 @@ impl Map {
         }
     }
 
-    /// Sets the number of entries alone.
+    /// Sets the number of entries, and nothing else.
     pub fn set_max_entries(&mut self, entries: u32)
         ensures { self.new ≡ maps.with_max_entries self.old entries }
     {
@@ -225,8 +225,7 @@ impl Map {
         }
     }
 
-    /// The data that the map begins with, to be written. What is there when the borrow ends is the map's data,
-    /// and all else stays.
+    /// Borrows the data that the map begins with, to be written. Nothing else of the map changes.
     pub fn data_mut(&mut self) -> &mut Vec<u8>
         ensures* writes_back { sem 𝓛
             (Lends the_row (vec_row byte global_row ⟦<Global as Allocator>⟧) self.entry result
@@ -271,8 +270,9 @@ impl Map {
 }
 
 impl Map {
-    /// A map by a fixed struct from its numbers, with id 0, without pinning, section, symbol and data.
-    /// Takes no memory.
+    /// Returns a map by a fixed struct from its numbers, with id 0, without pinning, section, symbol and data.
+    ///
+    /// Allocates nothing.
     pub fn new_from_params(
         alloc: Global,
         map_type: u32,
@@ -295,7 +295,9 @@ impl Map {
         Map::Legacy(LegacyMap::without_section(alloc, def))
     }
 
-    /// The map that a map of maps holds: in no section, without data. None for other maps. No memory is taken.
+    /// Returns the map that a map of maps holds, in no section and without data; `None` for other maps.
+    ///
+    /// Allocates nothing.
     pub fn inner_map(&self) -> Option<Map>
         ensures { result ≡ maps.inner_of self.now }
     {

@@ -121,9 +121,10 @@ fn kind_in(rows: &[NamedKind], name: &[u8]) -> Option<ProgramKind>
     }
 }
 
-/// What a loader does with the programs of a section, by its name: the row of `NAMED_KINDS` with the longest name that
-/// fits. A `?` before the name says that a program is loaded only where it is asked for. `None` for a name that no row
-/// fits.
+/// Returns how a loader loads the programs of a section, by the section's name (libbpf's section names).
+///
+/// The row of `NAMED_KINDS` with the longest name that fits says it. A `?` before the name says that a program is
+/// loaded only where it is asked for. The result is `None` if no row fits.
 pub fn program_kind(name: &str) -> Option<ProgramKind>
     ensures { result ≡ program_kind name.now }
 {
@@ -203,8 +204,10 @@ macro_rules! rows {
     };
 }
 
-/// The names, with what a loader does with programs of their sections (libbpf's Program Types and ELF Sections). Each
-/// name is padded to 24 bytes, the length of the longest and a space, since all rows of an array have one type.
+/// The names of program sections, with how a loader loads their programs (libbpf's Program Types and ELF Sections).
+///
+/// Each name is padded to 24 bytes, the length of the longest and a space, since all rows of an array have one type.
+/// `specs/NamedKinds.antt` proves the table against libbpf's.
 pub const NAMED_KINDS: [NamedKind; 101] = rows! {
     b"socket                  " => EXACT, BPF_PROG_TYPE_SOCKET_FILTER, None, PLAIN;
     b"sk_reuseport/migrate    " => EXACT, BPF_PROG_TYPE_SK_REUSEPORT, BPF_SK_REUSEPORT_SELECT_OR_MIGRATE, PLAIN;

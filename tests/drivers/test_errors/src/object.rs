@@ -91,6 +91,7 @@ fn show_maps(lines: &mut Lines) {
     lines.show(ParseError::TooLarge {
         most_bytes: 1048576,
     });
+    lines.show(ParseError::OtherMachine { machine: 62 });
 }
 
 /// Adds each error of parsing and of changing variables.

@@ -28,6 +28,7 @@ fn poisoned(_rt: HostRuntime) -> Result<(), Fail> {
     holds(poison.is_poisoned(), "poison")?;
     holds(!bpf_insn { imm: 1, ..poison }.is_poisoned(), "a call of helper 1")?;
     holds(!bpf_insn { regs: 0x10, ..poison }.is_poisoned(), "a call of a function")?;
+    holds(!bpf_insn { off: 1, ..poison }.is_poisoned(), "a call with an offset")?;
     holds(!bpf_insn { code: 0x18, ..poison }.is_poisoned(), "a load")
 }
 
