@@ -19,45 +19,40 @@ PRINTED = TOP / "tests/drivers/test_errors/stdout"
 
 HEAD = """# Errors
 
-This page lists each public error by variant, with the sentence that it prints for one value.
-`tests/drivers/test_errors` prints the sentences. `tests/errors_page.py` makes the page from its output.
-
-In a sentence:
+Each public error by variant, with the sentence that it prints for one value. `tests/drivers/test_errors` prints the
+sentences, and `tests/errors_page.py` makes this page from them. In a sentence:
 
 - Section numbers are those of `readelf -S`, symbol numbers those of `readelf -s`, type ids those of `bpftool btf dump`.
-- Relocations, instructions and members count from 0.
-- Offsets and addresses are hexadecimal.
+- Relocations, instructions and members count from 0. Offsets and addresses are hexadecimal.
 - Names are in quotes, with escapes for characters that can't be printed.
 
-An error has numbers where the object has names. `explain` and `ExplainedParse` print the names, and allocate nothing:
+An error has numbers where the object has names. Two calls print the names, and allocate nothing:
 
-- `object.explain(&error)` prints a `PrepareError` with the names of the object. It names the map without a descriptor,
-  the section, the symbol, and the extern whose type needs the kernel's BTF.
-- For `explain`, put an error of one pass into its stage's variant first, as `PrepareError::Maps(error)`. An error of
-  `patch_map_data` goes into `Parse`.
-- `ExplainedParse` prints the error of a file that can't be parsed. It reads the sections' names from the file's bytes,
+- `object.explain(&error)`, of a `PrepareError`. Put an error of one pass into its stage's variant first, as
+  `PrepareError::Maps(error)`. An error of `patch_map_data` goes into `Parse`.
+- `ExplainedParse::new(bytes, &error)`, of a file that can't be parsed. It reads the names of sections from the bytes,
   and adds the place if the error has none.
 
-The programs and the C interface report a variant. Look it up here, under the stage's error:
+The programs and the C interface report a variant. Look it up under the stage's error:
 
 - `ebpf-link` and `ebpf-inspect` print the stage and the variant (`ebpf-link: maps: SectionNotFound`).
-- `ebpf` prints the sentence with the stage, the variant and what to do (docs/CLI.md, "Refusals").
+- `ebpf` prints the sentence with the stage, the variant and what to do (docs/CLI.md, 'Refusals').
 - C gets the variant's name (docs/C.md).
 
-Errors that the tables don't explain:
+The tables leave out:
 
-- `OutOfMemory` of each type is an allocation failure. It names no place and no function. More memory helps.
-- `maps::InvalidTypeBinding` and `programs::InvalidTypeBinding` are the errors of `try_from` of `bpf_map_type` and
-  `bpf_prog_type`. They hold the number that is no type, and have no sentence.
+- `OutOfMemory` of each type: an allocation failed. It prints "out of memory", without a place or a function.
+- `InvalidTypeBinding` of `maps` and `programs`: `try_from` of `bpf_map_type` and `bpf_prog_type` got a number that is
+  no type. It has no sentence.
 """
 
 # For each type: its path in `ebpf_object`, the file that declares it, and its introduction on the page.
 TYPES = {
     "prepare::PrepareError": (
         "ebpf_object/src/prepare_error.rt",
-        "The errors of `prepare` and `prepare_object`: the stage that refused, and its error.",
+        "The errors of `prepare` and its neighbours: the stage that refused, and its error. What to do is in that error's table.",
     ),
-    "prepare::Explained": (None, "The sentences of `object.explain(&error)` that say more than the error's own."),
+    "prepare::Explained": (None, "The sentences of `object.explain(&error)` that say more than the error's own. What to do is in that error's table."),
     "obj::ExplainedParse": (None, "The sentences of `ExplainedParse::new(bytes, &error)` that say more than the error's own."),
     "elf::ElfReadError": ("ebpf_elf/src/error.rt", "Errors in a file's tables. `ParseError::ElfError` and `SectionError` hold them."),
     "obj::ParseError": ("ebpf_parts/src/error.rt", "The errors of `Object::parse`, `parse_as` and `patch_map_data` (stage `parse`)."),
@@ -68,14 +63,13 @@ TYPES = {
     "core_relo::RelocationError": ("ebpf_core/src/error.rt", "The reasons why a CO-RE relocation can't be applied."),
     "relocation::EbpfRelocationError": (
         None,
-        "The error of `relocate_maps`, `relocate_externs` and `relocate_calls` (stages `maps`, `externs`, `calls`).\n"
-        "It holds the function or the program, and the reason.",
+        "The error of `relocate_maps`, `relocate_externs` and `relocate_calls` (stages `maps`, `externs`, `calls`): the function\n"
+        "or the program, and the reason.",
     ),
     "relocation::RelocationError": (
         "ebpf_model/src/error.rt",
         "The reasons why slots can't be written or linked.\n\n"
-        "An instruction that refers to a map without a descriptor gets that of the last given map of the section\n"
-        "(docs/LIBRARY.md, step 4). The maps pass returns `SectionNotFound` only if no map of the section has a descriptor.",
+        "The maps pass returns `SectionNotFound` only if no map of the section has a descriptor (docs/LIBRARY.md, step 4).",
     ),
     "extern_types::KsymsError": ("ebpf_ksyms/src/error.rt", "The errors of `resolve_externs` (stage `ksyms`)."),
     "ebpf_kconfig::KconfigError": ("ebpf_kconfig/src/error.rt", "The errors of `kconfig`, `define_kconfig`, `kconfig_value` and `kconfig_number`."),
@@ -83,8 +77,19 @@ TYPES = {
     "ebpf_btf_load::KernelTypesError": ("ebpf_btf_load/src/error.rt", "The errors of `kernel_types`. `bpftool btf dump file FILE` shows the types."),
 }
 
-DAMAGED = "build the file again, and look at it with `readelf -S`: it is cut or damaged"
-BTF_DAMAGED = "look at the BTF with `bpftool btf dump file FILE`: it is damaged"
+DAMAGED = "build the file again: it is cut or damaged"
+BTF_DAMAGED = "compile again: the BTF is damaged"
+EXT_DAMAGED = "compile again: `.BTF.ext` is damaged or of another file"
+LICENSE = 'declare `char LICENSE[] SEC("license") = "GPL";`'
+LENIENT = "compile with `-target bpfel`; only lenient parsing returns this error"
+KCONFIG_TYPES = "declare it as `bool`, `enum libbpf_tristate`, `char`, an integer or `char NAME[N]`"
+
+# What to do where the page's table says nothing, by type.
+USUAL = {
+    "elf::ElfReadError": (DAMAGED, "Where the last column is empty, the file is cut or damaged: build it again. `readelf -S` shows its sections."),
+    "core_relo::RelocationError": (EXT_DAMAGED, "Where the last column is empty, `.BTF.ext` is damaged or of another file: compile again."),
+    "obj::BtfError": (BTF_DAMAGED, "Where the last column is empty, the BTF is damaged: compile again. `bpftool btf dump file FILE` shows it."),
+}
 
 # What to do about a variant.
 ADVICE = {
@@ -100,37 +105,37 @@ ADVICE = {
     "elf::ElfReadError::ExtendedNumbering": "compile to fewer than 65,280 sections",
     "obj::ParseError::ElfError": "see the `ElfReadError` that it holds",
     "obj::ParseError::BtfError": "see the `BtfError` that it holds",
-    "obj::ParseError::MissingLicenseNullTerminator": 'declare `char LICENSE[] SEC("license") = "GPL";`',
-    "obj::ParseError::InvalidLicense": 'declare `char LICENSE[] SEC("license") = "GPL";`',
+    "obj::ParseError::MissingLicenseNullTerminator": LICENSE,
+    "obj::ParseError::InvalidLicense": LICENSE,
     "obj::ParseError::InvalidKernelVersion": 'declare `__u32 version SEC("version") = ..;`, or leave it out',
     "obj::ParseError::SectionError": DAMAGED,
     "obj::ParseError::UnsupportedRelocationTarget": "compile again; `readelf -r` shows a relocation with symbol 0",
-    "obj::ParseError::InvalidProgramSection": "use a section name of libbpf, as `kprobe/NAME` or `xdp`",
-    "obj::ParseError::InvalidProgramCode": "compile again: the size of the symbol or the section is no whole number of instructions",
+    "obj::ParseError::InvalidProgramSection": "use a section name as `kprobe/NAME` or `xdp`, or parse leniently",
+    "obj::ParseError::InvalidProgramCode": "compile again: the code is no whole number of instructions",
     "obj::ParseError::SymbolTableConflict": "leave out one of the function's two names",
-    "obj::ParseError::UnknownSymbol": "don't strip symbols: each byte of a text section must belong to a function with a symbol",
+    "obj::ParseError::UnknownSymbol": "don't strip symbols: each byte of a text section belongs to a function with a symbol",
     "obj::ParseError::InvalidSymbol": "look at the symbol's address and size with `readelf -s`",
     "obj::ParseError::InvalidMapDefinition": "define the map with at least 20 bytes and pinning 0 or 1; keep a section of variables below 4 GiB",
-    "obj::ParseError::InvalidGlobalData": "give a value of the variable's size; if the size is right, the symbol passes the end of its section's data",
-    "obj::ParseError::SymbolNotFound": "name a variable that the object has; don't strip symbols: each BTF-defined map needs a symbol in its section",
-    "obj::ParseError::MapNotFound": "name a variable in a data section (section 0: the symbol is in no section)",
-    "obj::ParseError::MapSymbolNameNotFound": "nothing: no call returns this error",
+    "obj::ParseError::InvalidGlobalData": "give a value of the variable's size; else the symbol passes the end of its section",
+    "obj::ParseError::SymbolNotFound": "name a variable of the object; don't strip symbols: each BTF-defined map needs one",
+    "obj::ParseError::MapNotFound": "name a variable in a data section (section 0: the symbol has none)",
+    "obj::ParseError::MapSymbolNameNotFound": "no call returns this error",
     "obj::ParseError::NoSymbolsForSection": "don't strip symbols",
-    "obj::ParseError::BigEndianCode": "compile with `-target bpfel`; only lenient parsing (`ParseMode::Lenient`) returns this error",
-    "obj::ParseError::OtherMachine": "compile with `-target bpfel`; only lenient parsing (`ParseMode::Lenient`) returns this error",
+    "obj::ParseError::BigEndianCode": LENIENT,
+    "obj::ParseError::OtherMachine": LENIENT,
     "obj::ParseError::TooLarge": "raise the limit; only `parse_within` returns this error",
     "obj::ParseError::NoBTF": "compile with `-g`, and don't strip `.BTF`",
     "obj::VariableError::NotAVariable": "give a name that `variables` lists; don't strip symbols",
     "obj::VariableError::WrongSize": "give a value of the size that `variables` gives",
     "obj::BtfError::InvalidHeader": BTF_DAMAGED,
-    "obj::BtfError::InvalidTypeInfo": BTF_DAMAGED + ", or has a kind above 19, which isn't supported",
+    "obj::BtfError::InvalidTypeInfo": "compile again: the BTF is damaged, or has a kind above 19, which isn't supported",
     "obj::BtfError::InvalidInfo": BTF_DAMAGED,
     "obj::BtfError::InvalidStringOffset": BTF_DAMAGED,
-    "obj::BtfError::InvalidRelocationKind": "use only clang's builtins for kinds 0 to 11; kind 12 (`bpf_core_type_matches`) isn't supported",
-    "obj::BtfError::UnexpectedBtfType": "declare a map's members with libbpf's `__uint` and `__type`; `bpftool btf dump file FILE` shows the type (0: no type is held there)",
+    "obj::BtfError::InvalidRelocationKind": "don't use kind 12 (`bpf_core_type_matches`), which isn't supported",
+    "obj::BtfError::UnexpectedBtfType": "declare a map's members with libbpf's `__uint` and `__type`; type 0 is no type",
     "obj::BtfError::UnknownBtfType": BTF_DAMAGED,
     "obj::BtfError::UnknownBtfTypeName": "use a name that is among these types",
-    "obj::BtfError::MaximumTypeDepth": "look for types that form a cycle or are nested too deeply",
+    "obj::BtfError::MaximumTypeDepth": "look for types that form a cycle, or are nested too deeply",
     "obj::BtfError::InvalidDatasec": "declare externs as functions or variables with `__ksym`",
     "obj::BtfError::InvalidSymbolName": "don't strip symbols",
     "obj::BtfError::InnerMapCannotBePinned": "leave `pinning` out of the inner map",
@@ -138,68 +143,67 @@ ADVICE = {
     "obj::BtfError::InvalidValuesSpec": "declare `__array(values, struct inner)`",
     "obj::BtfError::TooLarge": "add types to a new `Btf`",
     "maps::PinningError::Unsupported": "give 0 or 1",
-    "core_relo::RelocationError::SectionNotFound": "compile again: `.BTF.ext` is damaged or of another file",
-    "core_relo::RelocationError::FunctionNotFound": "compile again: `.BTF.ext` is damaged or of another file, or the function has no symbol",
-    "core_relo::RelocationError::InvalidAccessString": "compile again: `.BTF.ext` is damaged",
-    "core_relo::RelocationError::InvalidInstructionIndex": "compile again: `.BTF.ext` is damaged or of another file",
-    "core_relo::RelocationError::ConflictingCandidates": "give a kernel's BTF with only one of these types: they have one name and give different values",
+    "core_relo::RelocationError::SectionNotFound": EXT_DAMAGED,
+    "core_relo::RelocationError::FunctionNotFound": EXT_DAMAGED + ", or the function has no symbol",
+    "core_relo::RelocationError::InvalidAccessString": EXT_DAMAGED,
+    "core_relo::RelocationError::InvalidInstructionIndex": EXT_DAMAGED,
+    "core_relo::RelocationError::ConflictingCandidates": "give a kernel's BTF with only one of these types",
     "core_relo::RelocationError::MaximumNestingLevelReached": "access the field in steps",
-    "core_relo::RelocationError::InvalidAccessIndex": "compile again: `.BTF` and `.BTF.ext` don't fit each other",
-    "core_relo::RelocationError::InvalidRelocationKindForType": "ask a member for its sign and shifts, and an enumeration for its enumerators",
-    "core_relo::RelocationError::InvalidInstruction": "read the field with `BPF_CORE_READ`: the value or the field's size in this kernel doesn't fit the instruction",
-    "core_relo::RelocationError::MissingTargetDefinition": "nothing: no call returns this error; the instruction is poisoned instead",
-    "core_relo::RelocationError::BtfError": "check the object's BTF and the kernel's BTF: one of them is damaged",
-    "relocation::RelocationError::UnknownSymbol": "compile again: the section of relocations and the symbol table don't fit each other",
-    "relocation::RelocationError::SectionNotFound": "give a descriptor by name for each map that an instruction refers to, `.data`, `.rodata` and `.bss` too; the error comes only if no map of the section has one",
-    "relocation::RelocationError::InvalidRelocationOffset": "look at the relocation with `readelf -r`, and at the instruction with `llvm-objdump -d`",
+    "core_relo::RelocationError::InvalidAccessIndex": EXT_DAMAGED,
+    "core_relo::RelocationError::InvalidRelocationKindForType": "ask a member for its sign and shifts, an enumeration for its enumerators",
+    "core_relo::RelocationError::InvalidInstruction": "read the field with `BPF_CORE_READ`: the value, or the field's size in this kernel, doesn't fit the instruction",
+    "core_relo::RelocationError::MissingTargetDefinition": "no call returns this error: the instruction is poisoned",
+    "core_relo::RelocationError::BtfError": "check the BTF of the object and the kernel: one of them is damaged",
+    "relocation::RelocationError::UnknownSymbol": "compile again: relocations and symbols don't fit each other",
+    "relocation::RelocationError::SectionNotFound": "give a descriptor by name for each map that an instruction refers to, `.data`, `.rodata` and `.bss` too; in a section without a map there is nothing to refer to",
+    "relocation::RelocationError::InvalidRelocationOffset": "look at the relocation with `readelf -r`, at the instruction with `llvm-objdump -d`",
     "relocation::RelocationError::ExternNotFound": "declare it with `__ksym` and compile with `-g`",
-    "relocation::RelocationError::UnresolvableSymbol": "resolve externs first, with the kernel's BTF for a call; or declare the extern `__weak`",
+    "relocation::RelocationError::UnresolvableSymbol": "resolve externs first, for a call with the kernel's BTF; or declare the extern `__weak`",
     "relocation::RelocationError::MapAddressOverflow": "keep variables within the first 2 GiB of their section",
-    "relocation::RelocationError::UnknownFunction": "link the objects first (`bpftool gen object`): the call leads past the functions, or to a function of another file; for a call of an extern, keep `.BTF`, and resolve and write the extern first",
-    "relocation::RelocationError::UnknownProgram": "don't change the program's key, and don't remove its function",
+    "relocation::RelocationError::UnknownFunction": "link the files that have the functions (`bpftool gen object`); for an extern keep `.BTF`, and resolve and write it first",
+    "relocation::RelocationError::UnknownProgram": "change no program's key, and remove no program's function",
     "relocation::RelocationError::UnsupportedTextSymbol": "take the address of a function; `readelf -s` shows the symbol",
     "relocation::RelocationError::FunctionInfoMismatch": "compile all functions with `-g`, or none",
     "relocation::RelocationError::InvalidLineInfo": "compile again: `.BTF.ext` is damaged or was changed",
     "relocation::RelocationError::ProgramTooLong": "split the program",
     "extern_types::KsymsError::TypedKsymRequiresKernelBtf": "give the kernel's BTF (`/sys/kernel/btf/vmlinux`), or declare the extern `__weak`",
-    "extern_types::KsymsError::FunctionNotFound": "declare it `__weak`, and test it with `bpf_ksym_exists`: this kernel lacks it",
-    "extern_types::KsymsError::VariableNotFound": "read `/proc/kallsyms` as root, since it hides addresses from others; if this kernel lacks the variable, declare it `__weak`",
+    "extern_types::KsymsError::FunctionNotFound": "declare it `__weak`, and test it with `bpf_ksym_exists`",
+    "extern_types::KsymsError::VariableNotFound": "read `/proc/kallsyms` as root: others see no addresses; or declare it `__weak`",
     "extern_types::KsymsError::IncompatibleFunctionSignature": "declare it as this kernel does, or `__weak`",
     "extern_types::KsymsError::IncompatibleVariableType": "declare it as this kernel does, or `__weak`",
     "extern_types::KsymsError::InvalidExternType": "declare it as a function or a variable with `__ksym`",
-    "extern_types::KsymsError::BtfError": "check the object's BTF and the kernel's BTF: one of them is damaged",
+    "extern_types::KsymsError::BtfError": "check the BTF of the object and the kernel: one of them is damaged",
     "extern_types::KsymsError::AmbiguousResolution": "use another symbol: this kernel has two of that name",
     "extern_types::KsymsError::KallsymsAccessError": "check that the file can be read and is UTF-8",
     "extern_types::KsymsError::KallsymsParseError": "give the lines of `/proc/kallsyms`: address, letter, name",
-    "ebpf_kconfig::KconfigError::NotAVariable": "declare it as a variable with `__kconfig`, not as a function",
+    "ebpf_kconfig::KconfigError::NotAVariable": "declare it as a variable with `__kconfig`",
     "ebpf_kconfig::KconfigError::UnreadableName": BTF_DAMAGED,
     "ebpf_kconfig::KconfigError::UnknownName": "use a name of the kernel's configuration, or of a value that loaders know",
-    "ebpf_kconfig::KconfigError::UnsupportedType": "declare it as `bool`, `enum libbpf_tristate`, `char`, an integer or `char NAME[N]`",
-    "ebpf_kconfig::KconfigError::NoValue": "give a value, or declare it `__weak`: the kernel's configuration doesn't set it",
+    "ebpf_kconfig::KconfigError::UnsupportedType": KCONFIG_TYPES,
+    "ebpf_kconfig::KconfigError::NoValue": "give a value, or declare it `__weak`",
     "ebpf_kconfig::KconfigError::WrongSize": "give a value of the extern's size",
     "ebpf_kconfig::KconfigError::TooLarge": "declare shorter arrays of `char`",
-    "ebpf_kconfig::KconfigError::UnsuitedValue": "declare it with the type of the configuration's value: one that can be `m` is a tristate",
+    "ebpf_kconfig::KconfigError::UnsuitedValue": "declare it with the type of the value: one that can be `m` is a tristate",
     "ebpf_kconfig::KconfigError::ValueOutOfRange": "declare it with a larger integer, or a signed one",
     "ebpf_initial_slots::InitialSlotError::ElfError": "give the bytes that the object was parsed from",
-    "ebpf_initial_slots::InitialSlotError::UnknownSymbol": "give the bytes that the object was parsed from; if they are these, the file is damaged",
+    "ebpf_initial_slots::InitialSlotError::UnknownSymbol": "give the bytes that the object was parsed from; else the file is damaged",
     "ebpf_initial_slots::InitialSlotError::OutsideMaps": "compile with `-g`, and don't strip `.BTF` or symbols",
-    "ebpf_initial_slots::InitialSlotError::UnsupportedMapType": "leave `values` out of the map, or declare it as a map of maps or an array of programs",
-    "ebpf_initial_slots::InitialSlotError::UnsupportedKeySize": "declare its keys with 4 bytes, or insert its maps once it is loaded",
+    "ebpf_initial_slots::InitialSlotError::UnsupportedMapType": "leave `values` out, or declare a map of maps or an array of programs",
+    "ebpf_initial_slots::InitialSlotError::UnsupportedKeySize": "declare keys of 4 bytes, or insert its maps once it is loaded",
     "ebpf_initial_slots::InitialSlotError::NotInMaps": "name maps that are declared in `.maps`",
     "ebpf_initial_slots::InitialSlotError::UnknownMap": "name maps of this object that aren't `static`",
-    "ebpf_initial_slots::InitialSlotError::UnknownProgram": "name programs of this object that aren't `static`, and no functions of `.text`",
+    "ebpf_initial_slots::InitialSlotError::UnknownProgram": "name programs of this object that aren't `static`, no functions of `.text`",
     "ebpf_initial_slots::InitialSlotError::NotAnEntryPoint": "rename one of the two symbols of that name",
     "ebpf_initial_slots::InitialSlotError::NoValues": "declare `__array(values, ..)` as the last member",
-    "ebpf_initial_slots::InitialSlotError::OutsideValues": "give values only to the member `values`, which is the last member",
+    "ebpf_initial_slots::InitialSlotError::OutsideValues": "give values only to `values`, the last member",
     "ebpf_initial_slots::InitialSlotError::Misaligned": "declare the member with libbpf's `__array`",
     "ebpf_btf_load::KernelTypesError::ElfError": DAMAGED,
     "ebpf_btf_load::KernelTypesError::BtfError": "see the `BtfError` that it holds",
     "ebpf_btf_load::KernelTypesError::NoSectionSize": "compile again: the section is empty or was stripped",
     "ebpf_btf_load::KernelTypesError::NotAVariable": BTF_DAMAGED,
     "ebpf_btf_load::KernelTypesError::NoSymbol": "don't strip symbols",
-    "ebpf_btf_load::KernelTypesError::UnsupportedExtern": "declare it as `bool`, `enum libbpf_tristate`, `char`, an integer or `char NAME[N]`",
+    "ebpf_btf_load::KernelTypesError::UnsupportedExtern": KCONFIG_TYPES,
     "ebpf_btf_load::KernelTypesError::TooLarge": "split the object",
-    "prepare::Explained::Maps": "if no map of the section has a descriptor, give one by name for each map that an instruction refers to; if the section has no map, the object has nothing that the instruction can refer to",
 }
 
 
@@ -229,19 +233,33 @@ def type_of(path):
     return path.rpartition("::")[0]
 
 
-def row(path, sentence):
-    """A variant's line of the page."""
-    return f"| `{path.rpartition('::')[2]}` | {sentence} | {ADVICE.get(path, '')} |".replace("|  |", "| |")
+def advice_cells(name, paths):
+    """What the page says to do about each variant of a type: nothing where the introduction says it, and what two lines have
+    in common once."""
+    usual, last, cells = USUAL.get(name, ("", ""))[0], "", []
+    for path in paths:
+        advice = ADVICE.get(path, "")
+        cells.append("" if advice == usual else "as above" if advice == last else advice)
+        last = advice
+    return cells
+
+
+def table(name):
+    """The lines of a type's table, without what to do where no variant has it."""
+    rows = [(path, sentence) for path, sentence in printed() if type_of(path) == name and not path.endswith("::OutOfMemory")]
+    cells = advice_cells(name, [path for path, _ in rows])
+    if not any(cells):
+        return ["| Variant | Prints |", "|---|---|", *(f"| `{path.rpartition('::')[2]}` | {sentence} |" for path, sentence in rows)]
+    lines = [f"| `{path.rpartition('::')[2]}` | {sentence} | {cell} |" for (path, sentence), cell in zip(rows, cells)]
+    return ["| Variant | Prints | What to do |", "|---|---|---|", *(line.replace("|  |", "| |") for line in lines)]
 
 
 def page():
     """The text of the page."""
-    rows = printed()
     parts = [HEAD]
     for name, (_, introduction) in TYPES.items():
-        lines = [row(path, sentence) for path, sentence in rows if type_of(path) == name]
-        table = ["| Variant | Prints | What to do |", "|---|---|---|", *lines]
-        parts.append("\n".join([f"## {name}", "", introduction, "", *table, ""]))
+        usual = [USUAL[name][1], ""] if name in USUAL else []
+        parts.append("\n".join([f"## {name}", "", introduction, "", *usual, *table(name), ""]))
     return "\n".join(parts)
 
 
