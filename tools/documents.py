@@ -1,19 +1,21 @@
 #!/usr/bin/env python3
 """Checks the form of the documents: no line above 120 columns and no paragraph above 12 lines, tables and code aside, and no
-commit id; no date outside the tables of measurements. Ends with 'N passed, M failed', and with status 1 where one failed.
+commit id; no date outside the tables of measurements. Compares the numbers of test cases and mutants in docs/TESTING.md with
+the files. Ends with 'N passed, M failed', and with status 1 where one failed.
 
-usage: documents.py [FILE ..]      FILE: only these; none: README.md, CONTRIBUTING.md, and the pages of docs/, tests/, bench/
+usage: documents.py [FILE ..]      FILE: only these; none: those at the top, and the pages of docs/, tests/, bench/
 """
 import re
 import sys
 from pathlib import Path
 
 TOP = Path(__file__).parents[1]
+sys.path.append(str(TOP / "tests"))
 COLUMNS, LINES = 120, 12
 # Pages that tools write.
 EXCEPTIONS = {"docs/API.md", "docs/DEFINITIONS.md"}
-# Pages with tables of measurements, each of which has its date.
-MEASURED = {"docs/PERFORMANCE.md", "docs/TESTING.md"}
+# Pages with tables of measurements, each of which has its date, and the list of releases.
+DATED = {"docs/PERFORMANCE.md", "docs/TESTING.md", "CHANGELOG.md"}
 
 DATE = re.compile(r"\b20\d\d-\d\d-\d\d\b")
 COMMIT = re.compile(r"\b(?=[0-9a-f]*\d)(?=[0-9a-f]*[a-f])[0-9a-f]{7,12}\b")
@@ -21,7 +23,7 @@ COMMIT = re.compile(r"\b(?=[0-9a-f]*\d)(?=[0-9a-f]*[a-f])[0-9a-f]{7,12}\b")
 
 def pages():
     """The documents, by their paths from the top."""
-    found = [TOP / "README.md", TOP / "CONTRIBUTING.md"]
+    found = [TOP / "README.md", TOP / "CONTRIBUTING.md", TOP / "CHANGELOG.md"]
     found += sorted(it for folder in ("docs", "tests", "bench") for it in (TOP / folder).glob("*.md"))
     return [it for it in found if str(it.relative_to(TOP)) not in EXCEPTIONS]
 
@@ -59,11 +61,33 @@ def faults(name, text):
             yield f"{name}:{line[0]}: {len(line[1])} columns"
         if COMMIT.search(line[1]):
             yield f"{name}:{line[0]}: the commit id {COMMIT.search(line[1])[0]}"
-        if name not in MEASURED and DATE.search(line[1]):
+        if name not in DATED and DATE.search(line[1]):
             yield f"{name}:{line[0]}: the date {DATE.search(line[1])[0]}"
     for first, length in paragraphs(lines):
         if length > LINES:
             yield f"{name}:{first}: a paragraph of {length} lines"
+
+
+def cases_of(folder):
+    """The number of test cases of a driver: its rows in stdout, or its tests."""
+    if (folder / "stdout").exists():
+        from quick import rows_of  # tests/quick.py, which imports this module
+
+        return len(rows_of((folder / "stdout").read_text()))
+    return sum(file.read_text().count("#[test]") for file in folder.rglob("*.rs"))
+
+
+def wrong_numbers(text):
+    """The numbers of docs/TESTING.md that are not those of the files."""
+    stated = {name: count for name, count in re.findall(r"^\| `(\w+)` \| ([\d,]+) \|", text, re.MULTILINE)}
+    wanted = {name: cases_of(folder) for folder in (TOP / "tests/drivers").iterdir() if (name := folder.name) in stated}
+    wanted |= {name: cases_of(TOP / "bench/drivers" / name) for name in stated if (TOP / "bench/drivers" / name).is_dir()}
+    for kind in ("gate-edits", "more-edits"):
+        stated[kind] = "".join(re.findall(rf"{kind}` has (\d+)", text))
+        wanted[kind] = len(list(TOP.glob(f"crates/*/{kind}/*.edit")))
+    for name, count in stated.items():
+        if count != f"{wanted.get(name, 0):,}":
+            yield f"docs/TESTING.md: {name} has {wanted.get(name, 0)}, not {count}"
 
 
 def self_test():
@@ -80,7 +104,7 @@ def misfits():
     """How many documents there are, and what is wrong with them."""
     found = pages()
     wrong = [fault for it in found for fault in faults(str(it.relative_to(TOP)), it.read_text())]
-    return len(found), [*self_test(), *wrong]
+    return len(found), [*self_test(), *wrong, *wrong_numbers((TOP / "docs/TESTING.md").read_text())]
 
 
 def main():
