@@ -1,4 +1,5 @@
-"""What is made of a file, counted apart from the library: by the file's bytes, as docs/BEHAVIOUR.md ('Limits') states it.
+"""What is made of a file, counted apart from the library: by the file's bytes, as the docstring of
+`parse_within` and docs/BEHAVIOUR.md ('Limits') state it.
 
 usage: counted.py FILE..     for each file its size, what `parse_within` counts, and what an object of it owns
 """
