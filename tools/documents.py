@@ -1,5 +1,5 @@
 #!/usr/bin/env python3
-"""Checks the form of the documents: no line above 120 columns and no paragraph above 12 lines, tables and code aside, and no
+"""Checks the form of the documents: no line above 120 columns and no paragraph above 6 lines, tables and code aside, and no
 commit id; no date outside the tables of measurements. Compares the numbers of test cases and mutants in docs/TESTING.md with
 the files. Ends with 'N passed, M failed', and with status 1 where one failed.
 
@@ -11,7 +11,7 @@ from pathlib import Path
 
 TOP = Path(__file__).parents[1]
 sys.path.append(str(TOP / "tests"))
-COLUMNS, LINES = 120, 12
+COLUMNS, LINES = 120, 6
 # Pages that tools write.
 EXCEPTIONS = {"docs/API.md", "docs/DEFINITIONS.md"}
 # Pages with tables of measurements, each of which has its date, and the list of releases.
@@ -92,7 +92,7 @@ def wrong_numbers(text):
 
 def self_test():
     """Whether a bad line of each kind is found."""
-    long, many = "word " * 30, "\n".join(["a line of a paragraph"] * 13)
+    long, many = "word " * 30, "\n".join(["a line of a paragraph"] * 7)
     bad = [long, many, "as of aaeb28ae", "on 2026-11-30"]
     good = [f"    {long}", f"```\n{many}\n```", f"| {long} |"]
     return [f"documents.py finds nothing in: {it[:40]}" for it in bad if not list(faults("page.md", it))] + [
