@@ -1,7 +1,7 @@
 #!/usr/bin/env python3
 """Checks the form of the documents: no line above 120 columns and no paragraph above 6 lines, tables and code aside, and no
 commit id; no date outside the tables of measurements. Compares the numbers of test cases and mutants in docs/TESTING.md with
-the files. Ends with 'N passed, M failed', and with status 1 where one failed.
+the files, and looks for each law in docs/PROOFS.md. Ends with 'N passed, M failed', and with status 1 where one failed.
 
 usage: documents.py [FILE ..]      FILE: only these; none: those at the top, and the pages of docs/, tests/, bench/
 """
@@ -90,6 +90,14 @@ def wrong_numbers(text):
             yield f"docs/TESTING.md: {name} has {wanted.get(name, 0)}, not {count}"
 
 
+def missing_laws(text):
+    """The laws that docs/PROOFS.md doesn't name."""
+    for file in sorted(TOP.glob("crates/*/src/*laws.rt")):
+        for name in re.findall(r"^pub fn (\w+)", file.read_text(), re.MULTILINE):
+            if not re.search(rf"\b{name}\b", text):
+                yield f"docs/PROOFS.md: no {name} of {file.relative_to(TOP)}"
+
+
 def self_test():
     """Whether a bad line of each kind is found."""
     long, many = "word " * 30, "\n".join(["a line of a paragraph"] * 7)
@@ -104,7 +112,9 @@ def misfits():
     """How many documents there are, and what is wrong with them."""
     found = pages()
     wrong = [fault for it in found for fault in faults(str(it.relative_to(TOP)), it.read_text())]
-    return len(found), [*self_test(), *wrong, *wrong_numbers((TOP / "docs/TESTING.md").read_text())]
+    wrong += wrong_numbers((TOP / "docs/TESTING.md").read_text())
+    wrong += missing_laws((TOP / "docs/PROOFS.md").read_text())
+    return len(found), [*self_test(), *wrong]
 
 
 def main():
