@@ -1,7 +1,8 @@
 #!/usr/bin/env python3
 """Checks the form of the documents: no line above 120 columns and no paragraph above 6 lines, tables and code aside, and no
 commit id; no date outside the tables of measurements. Compares the numbers of test cases and mutants in docs/TESTING.md with
-the files, and looks for each law in docs/PROOFS.md. Ends with 'N passed, M failed', and with status 1 where one failed.
+the files. Looks for each law in docs/PROOFS.md, and for each section that a page names. Ends with 'N passed, M failed', and
+with status 1 where one failed.
 
 usage: documents.py [FILE ..]      FILE: only these; none: those at the top, and the pages of docs/, tests/, bench/
 """
@@ -98,6 +99,16 @@ def missing_laws(text):
                 yield f"docs/PROOFS.md: no {name} of {file.relative_to(TOP)}"
 
 
+def missing_sections(pages):
+    """The sections that a page names, as in: docs/CLI.md, 'Status', and that the other page lacks."""
+    heads = {it.name: re.findall(r"^#+ (.*)", it.read_text(), re.MULTILINE) for it in (TOP / "docs").glob("*.md")}
+    for it in pages:
+        text = re.sub(r"\s*\n\s*", " ", it.read_text())
+        for name, section in re.findall(r"docs/(\w+\.md), '([^']+)'", text):
+            if not any(section in head for head in heads.get(name, [])):
+                yield f"{it.relative_to(TOP)}: docs/{name} has no section '{section}'"
+
+
 def self_test():
     """Whether a bad line of each kind is found."""
     long, many = "word " * 30, "\n".join(["a line of a paragraph"] * 7)
@@ -113,6 +124,7 @@ def misfits():
     found = pages()
     wrong = [fault for it in found for fault in faults(str(it.relative_to(TOP)), it.read_text())]
     wrong += wrong_numbers((TOP / "docs/TESTING.md").read_text())
+    wrong += missing_sections(found)
     wrong += missing_laws((TOP / "docs/PROOFS.md").read_text())
     return len(found), [*self_test(), *wrong]
 
