@@ -22,6 +22,10 @@ big_endian_number = refl
 pub bpf_machine_number : constants.EM_BPF ≡ 247
 bpf_machine_number = refl
 
+-- e_machine of no machine (gABI, 'ELF Header': EM_NONE)
+pub no_machine_number : constants.EM_NONE ≡ 0
+no_machine_number = refl
+
 -- gABI, 'Sections', 'Special Section Indexes'
 
 pub first_reserved_index : constants.SHN_LORESERVE ≡ 0xff00

@@ -318,7 +318,8 @@ fn records_of_names<'e>(
 /// The func info and line info of all sections, of which those of some names are gathered by their slots.
 #[derive(Drop)]
 pub struct RecordsByName<'e> {
-    found: FoundRecords<'e>,
+    /// The func info and line info of all sections.
+    pub found: FoundRecords<'e>,
     table: ByName<SectionRecords<'e>>,
     ghost are: { AreRecordsOf found table },
 }
