@@ -2,6 +2,7 @@
 #![tactic(auto)]
 
 mod error;
+mod extern_outcomes;
 mod externs;
 mod ids;
 mod lines;
@@ -9,5 +10,6 @@ mod named;
 mod resolve;
 
 pub use error::KsymsError;
+pub use extern_outcomes::{ExternOutcome, ExternResult, extern_outcomes, typed_outcomes};
 pub use lines::TextLines;
 pub use resolve::{SymbolSource, SymbolText, resolve_externs, resolve_lines, resolve_text};
