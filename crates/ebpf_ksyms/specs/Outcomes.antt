@@ -12,10 +12,10 @@ use Rattle.ebpf_ksyms.specs.Externs.{Externs, NamedExtern, KernelIds, Outcome, o
 use Rattle.ebpf_ksyms.specs.Externs.{is_typeless, kernel_ids_of, reads_lines, lines_refused}
 use Rattle.ebpf_ksyms.specs.declared.error.KsymsError.{KsymsError}
 use Rattle.ebpf_ksyms.specs.declared.error.KsymsError.TheVariants.{VariableNotFound}
-use Rattle.ebpf_ksyms.specs.declared.extern_outcomes.ExternResult.{ExternResult}
-use Rattle.ebpf_ksyms.specs.declared.extern_outcomes.ExternResult.TheVariants.{Id, Address, Absent}
-use Rattle.ebpf_ksyms.specs.declared.extern_outcomes.ExternResult.TheVariants.{Refused, Untyped}
-use Rattle.ebpf_ksyms.specs.declared.extern_outcomes.ExternResult.TheVariants.{Kept}
+use Rattle.ebpf_ksyms.specs.declared.extern_outcome.ExternResult.{ExternResult}
+use Rattle.ebpf_ksyms.specs.declared.extern_outcome.ExternResult.TheVariants.{Id, Address, Absent}
+use Rattle.ebpf_ksyms.specs.declared.extern_outcome.ExternResult.TheVariants.{Refused, Untyped}
+use Rattle.ebpf_ksyms.specs.declared.extern_outcome.ExternResult.TheVariants.{Kept}
 use Rattle.ebpf_model.specs.declared.symbol.ExternDesc.{ExternDesc}
 
 -- the name of an extern, the extern before resolution, and its result

@@ -23,8 +23,8 @@ use Rattle.ebpf_ksyms.specs.Externs.{NamedExtern, Externs, is_typeless, left_wit
 use Rattle.ebpf_ksyms.specs.Externs.{is_typed, outcome_by, KernelIds, lookup_key_of}
 use Rattle.ebpf_ksyms.specs.Outcomes.{address_result, refusal_of, typed_result, with_result}
 use Rattle.ebpf_ksyms.specs.declared.error.KsymsError.{KsymsError}
-use Rattle.ebpf_ksyms.specs.declared.extern_outcomes.ExternResult.{ExternResult}
-use Rattle.ebpf_ksyms.specs.declared.extern_outcomes.ExternResult.TheVariants.{Kept, Untyped}
+use Rattle.ebpf_ksyms.specs.declared.extern_outcome.ExternResult.{ExternResult}
+use Rattle.ebpf_ksyms.specs.declared.extern_outcome.ExternResult.TheVariants.{Kept, Untyped}
 use Rattle.ebpf_ksyms.specs.declared.ids.NameIds.{NameIds}
 use Rattle.ebpf_ksyms.specs.declared.ids.ExternKind.{ExternKind}
 use Rattle.ebpf_ksyms.specs.declared.ids.ExternKind.TheVariants.{Function, Variable}

@@ -10,10 +10,10 @@ ghost use Rattle.ebpf_ksyms.specs.Addresses.{is_ksyms_memory};
 ghost use Rattle.ebpf_ksyms.specs.Outcomes.{address_result, outcomes_with, refusal_of, result_by, with_result};
 ghost use Rattle.ebpf_ksyms.specs.PrivateContracts.{id_at, value_named, lookup_name, lookup_names, typed_as, typed_refused, known_at, typeless_as, typeless_refused, KnowsIds, result_with_type, untyped_by};
 ghost use Rattle.ebpf_ksyms.specs.declared.error.KsymsError.TheVariants.{OutOfMemory};
-ghost use Rattle.ebpf_ksyms.specs.declared.extern_outcomes.ExternResult.TheVariants.{Refused, Kept};
+ghost use Rattle.ebpf_ksyms.specs.declared.extern_outcome.ExternResult.TheVariants.{Refused, Kept};
 
 use crate::error::KsymsError;
-use crate::extern_outcomes::{ExternOutcome, ExternResult};
+use crate::extern_outcome::{ExternOutcome, ExternResult};
 use crate::ids::{ExternKind, LookupKey, NameIds, id_at, ids_in, lookup_key_of};
 use crate::named::{NameTable, NamedExtern};
 use ebpf_base::Text;

@@ -2,7 +2,7 @@
 #![tactic(auto)]
 
 mod error;
-mod extern_outcomes;
+mod extern_outcome;
 mod externs;
 mod ids;
 mod lines;
@@ -10,6 +10,6 @@ mod named;
 mod resolve;
 
 pub use error::KsymsError;
-pub use extern_outcomes::{ExternOutcome, ExternResult, extern_outcomes, typed_outcomes};
+pub use extern_outcome::{ExternOutcome, ExternResult, extern_outcomes, typed_outcomes};
 pub use lines::TextLines;
 pub use resolve::{SymbolSource, SymbolText, resolve_externs, resolve_lines, resolve_text};
