@@ -3,3 +3,5 @@ pub mod Outcomes
 pub mod FromText
 pub mod Resolving
 pub mod Pieces
+pub mod Results
+pub mod ByOutcomes

@@ -10,6 +10,7 @@ use Rattle.ebpf_btf.specs.TypeInfo.{TypeInfo}
 use Rattle.ebpf_ksyms.specs.Addresses.{Item, Line, line_of_item, address_of, Counts}
 use Rattle.ebpf_ksyms.specs.Externs.{Externs, NamedExtern, KernelIds, Outcome, outcome_by, is_typed}
 use Rattle.ebpf_ksyms.specs.Externs.{is_typeless, kernel_ids_of, reads_lines, lines_refused}
+use Rattle.ebpf_ksyms.specs.Externs.{names_refused, resolved_externs, types_refused}
 use Rattle.ebpf_ksyms.specs.declared.error.KsymsError.{KsymsError}
 use Rattle.ebpf_ksyms.specs.declared.error.KsymsError.TheVariants.{VariableNotFound}
 use Rattle.ebpf_ksyms.specs.declared.extern_outcome.ExternResult.{ExternResult}
@@ -105,3 +106,43 @@ module _ {S : Type 0} (steps : S → Option Item → S → Type 0) (lines : S) w
     pub came : Yields steps lines (items ++ item ∷ []) rest
     pub before : lines_refused local externs (map line_of_item items) ≡ None
     pub refused : lines_refused local externs (map line_of_item (items ++ item ∷ [])) ≡ Some e
+
+-- ---- resolution by the outcomes
+
+-- the refusal of an extern with a type, and of one without
+abbrev pub typed_refusal : OutcomeValue → Option KsymsError
+typed_refusal o = if o.desc.is_typed then refusal_of o.result else None
+
+abbrev pub untyped_refusal : OutcomeValue → Option KsymsError
+untyped_refusal o = if o.desc.is_typed then None else refusal_of o.result
+
+-- an entry with its result
+abbrev pub entry_after : OutcomeValue → NamedExtern
+entry_after o = (o.name, with_result o.desc o.result)
+
+-- the externs with all results
+abbrev pub externs_after : List OutcomeValue → Externs
+externs_after outcomes = from_sorted (map entry_after outcomes)
+
+-- the first refusal by types is that of the first extern with a type that is refused, whatever the
+-- lines
+abbrev pub TypesRefuseByOutcomes : Type 0
+TypesRefuseByOutcomes = (local kernel : Option TypeInfo) (externs : Externs)
+    → (types_refused local kernel externs
+    ≡ first_some typed_refusal (typed_outcomes local kernel externs)) × ((lines : List Line)
+    → types_refused local kernel externs
+    ≡ first_some typed_refusal (extern_outcomes local kernel lines externs))
+
+-- the first refusal of a name left without an address is that of the first extern without a type
+-- that is refused
+abbrev pub NamesRefuseByOutcomes : Type 0
+NamesRefuseByOutcomes = (local kernel : Option TypeInfo) (lines : List Line) (externs : Externs)
+    → names_refused local externs lines
+    ≡ first_some untyped_refusal (extern_outcomes local kernel lines externs)
+
+-- where no name is left, the externs after resolution are those with all results
+abbrev pub ResultsAreWritten : Type 0
+ResultsAreWritten = (local kernel : Option TypeInfo) (lines : List Line) (externs : Externs)
+    → names_refused local externs lines ≡ None
+    → resolved_externs local kernel lines externs
+    ≡ externs_after (extern_outcomes local kernel lines externs)

@@ -115,10 +115,10 @@ pub fn typed_outcomes<'a>(
         ≡ typed_outcomes (option_copied btf.entry) (option_copied kernel.entry) externs.now) }
 {
     let all = entries_of(alloc, externs)?;
-    let outcomes = match btf {
-        Some(local) => outcomes_of(alloc, local, kernel, None, &all)?,
-        None => kept_outcomes(alloc, &all)?,
+    let Some(local) = btf else {
+        return Ok(Items::from_vec(kept_outcomes(alloc, &all)?));
     };
+    let outcomes = outcomes_of(alloc, local, kernel, None, &all)?;
     Ok(Items::from_vec(outcomes))
 }
 

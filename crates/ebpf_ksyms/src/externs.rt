@@ -5,7 +5,7 @@ ghost use Rattle.std.specs.Prelude.{◌≡◌, IfOk, IfErr, false, unwrap_or};
 ghost use Rattle.ebpf_base.specs.Faults.{Gives, Refuses, fault_of, first_some};
 ghost use Rattle.ebpf_base.specs.Maps.{lent_bytes};
 ghost use Rattle.ebpf_btf.specs.Types.{type_word};
-ghost use Rattle.ebpf_ksyms.specs.Externs.{kernel_ids_of, outcome_by, renewed, at_found, compared_outcome, are_types_compatible, not_alike, not_found};
+ghost use Rattle.ebpf_ksyms.specs.Externs.{kernel_ids_of, outcome_by, renewed, at_found, compared_outcome, are_types_compatible, left_without, not_alike, not_found, with_address};
 ghost use Rattle.ebpf_ksyms.specs.Addresses.{is_ksyms_memory};
 ghost use Rattle.ebpf_ksyms.specs.Outcomes.{address_result, outcomes_with, refusal_of, result_by, with_result};
 ghost use Rattle.ebpf_ksyms.specs.PrivateContracts.{id_at, value_named, lookup_name, lookup_names, typed_as, typed_refused, known_at, typeless_as, typeless_refused, KnowsIds, result_with_type, untyped_by};
@@ -334,6 +334,27 @@ fn address_result(
     }
 }
 
+/// An extern with the address of its name.
+fn entry_by_address<'a>(
+    alloc: Global,
+    addresses: &NameTable<'_, Option<u64>>,
+    entry: &NamedExtern<'a>,
+) -> Result<NamedExtern<'a>, KsymsError>
+    ensures stands { IfOk result (λ e.
+        e
+        ≡ (
+          entry.now.0,
+          with_address entry.now.1 (known_at (value_named addresses.now) entry.now.0),
+        )) }
+    ensures fault { Refuses is_ksyms_memory result
+        (left_without (known_at (value_named addresses.now) entry.now.0) entry.now) }
+{
+    match address_result(alloc, addresses, entry) {
+        Ok(found) => entry_after(entry, found),
+        Err(_) => Err(KsymsError::OutOfMemory),
+    }
+}
+
 /// An extern with its address, where it has no type.
 fn typeless_entry<'a>(
     alloc: Global,
@@ -348,10 +369,7 @@ fn typeless_entry<'a>(
     if !entry.is_typeless() {
         return Ok(entry.with(entry.desc));
     }
-    match address_result(alloc, addresses, entry) {
-        Ok(found) => entry_after(entry, found),
-        Err(_) => Err(KsymsError::OutOfMemory),
-    }
+    entry_by_address(alloc, addresses, entry)
 }
 
 /// All externs, those without a type with their addresses.

@@ -5,6 +5,7 @@ mod error;
 mod extern_outcome;
 mod externs;
 mod ids;
+pub mod laws;
 mod lines;
 mod named;
 mod resolve;
