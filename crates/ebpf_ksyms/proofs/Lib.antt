@@ -5,3 +5,4 @@ pub mod Resolving
 pub mod Pieces
 pub mod Results
 pub mod ByOutcomes
+pub mod Examples

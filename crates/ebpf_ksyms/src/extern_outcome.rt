@@ -39,17 +39,17 @@ impl<'a> Model for ExternOutcome<'a> {
 /// The result of the look-up of an extern in a kernel.
 #[derive(Debug, Drop)]
 pub enum ExternResult {
-    /// The kernel has a function or a variable whose type fits. Its id in the kernel's types.
+    /// The kernel has a function or a variable with a compatible type: its id in the kernel's types.
     Id(u32),
-    /// The kernel's symbols have the name. Its address, which isn't 0.
+    /// The kernel's symbols have the name: its address, which isn't 0.
     Address(u64),
-    /// The kernel has no such extern, or one whose type doesn't fit. The extern is weak, so that it may be absent.
+    /// The extern is weak, and the kernel has none of the name or one with another type.
     Absent,
-    /// Resolution refuses the extern, for this reason. It is never `OutOfMemory`.
+    /// Resolution refuses the extern with this error, which isn't `OutOfMemory`.
     Refused(KsymsError),
-    /// The extern has no type, so that only the kernel's symbols tell its address. `extern_outcomes` gives none of these.
+    /// The extern has no type and needs the kernel's symbols. `extern_outcomes` gives none of these.
     Untyped,
-    /// The extern stays as it is: it is resolved already, or the object has no types.
+    /// The extern stays: it is resolved, or the object has no types.
     Kept,
 }
 
@@ -93,13 +93,13 @@ impl ExternResult {
     }
 }
 
-/// The outcome of each extern by the types of a kernel, in the order of the bytes of the names, also behind one that is
-/// refused. Nothing is read of the kernel's symbols.
+/// The outcome of each extern by the types of a kernel, also behind one that is refused. They are in the order of the
+/// bytes of the names. The kernel's symbols aren't read.
 ///
-/// - An extern that is unresolved and has a type is `Id`, `Absent` or `Refused`. It is looked up in `kernel` as
-///   `resolve_lines` does.
-/// - An extern that is unresolved and has no type is `Untyped`.
-/// - A resolved extern is `Kept`. Without the object's types `btf` all are.
+/// - An unresolved extern with a type is `Id`, `Absent` or `Refused`. It is looked up in `kernel` as `resolve_lines`
+///   does.
+/// - An unresolved extern without a type is `Untyped`.
+/// - A resolved extern is `Kept`. Without the object's types `btf` each extern is.
 ///
 /// # Errors
 ///
@@ -122,21 +122,23 @@ pub fn typed_outcomes<'a>(
     Ok(Items::from_vec(outcomes))
 }
 
-/// The outcome of each extern by the types of a kernel and the lines that tell its addresses, in the order of the bytes of the
-/// names, also behind one that is refused.
+/// The outcome of each extern by the types of a kernel and the lines of its symbols, also behind one that is refused.
+/// They are in the order of the bytes of the names.
 ///
-/// Externs with a type and resolved ones are as `typed_outcomes` gives them. An extern that is unresolved and has no type is
-/// looked up in the lines as `resolve_lines` does: `Address`, else `Absent` where it is weak, else `Refused` with
-/// `VariableNotFound`. Where no extern needs the lines none is read.
+/// - An unresolved extern with a type and a resolved extern are as `typed_outcomes` gives them.
+/// - An unresolved extern without a type is looked up in the lines as `resolve_lines` does. It is `Address`, else
+///   `Absent` if it is weak, else `Refused` with `VariableNotFound`.
+///
+/// If no extern needs the lines, none is read.
 ///
 /// # Errors
 ///
-/// The first fault of the lines, whatever the externs with a type come to:
+/// The first fault of the lines, whatever the outcomes of externs with a type:
 ///
-/// - `KallsymsAccessError`: a line could not be read;
-/// - `KallsymsParseError`: a line has a wanted name and no address below 2^64;
-/// - `AmbiguousResolution`: a line has a second address of a wanted name;
-/// - `OutOfMemory`: out of memory, also where a line's error says so.
+/// - `KallsymsAccessError`: a line could not be read.
+/// - `KallsymsParseError`: a line has a wanted name and no address below 2^64.
+/// - `AmbiguousResolution`: a line has a second address of a wanted name.
+/// - `OutOfMemory`: out of memory, also if a line's error says so.
 pub fn extern_outcomes<'a, I: Iterator<Item = io::Result<String>> + Drop>(
     alloc: Global,
     btf: Option<&Btf>,

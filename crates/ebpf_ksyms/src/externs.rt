@@ -269,8 +269,8 @@ fn lookup_names<'a>(
     Ok(names)
 }
 
-/// The ids in the kernel's types of the names that externs are looked up by, by one pass over these types. Without a kernel
-/// no name has any.
+/// The ids in the kernel's types of the names that externs are looked up by, by one pass over these types. Without a
+/// kernel no name has any.
 fn ids_of<'a>(
     alloc: Global,
     local: &Btf,

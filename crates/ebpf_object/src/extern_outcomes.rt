@@ -15,10 +15,11 @@ use std::alloc::AllocError;
 use std::io;
 
 impl Object {
-    /// The outcome of each extern by the types of a kernel, in the order of the bytes of the names, also behind one that is
-    /// refused. The kernel's symbols aren't read. The object stays.
+    /// The outcome of each extern by the types of a kernel, in the order of the bytes of the names, also behind one
+    /// that is refused. The kernel's symbols aren't read. The object stays.
     ///
-    /// - An extern that is unresolved and has a type is `Id`, `Absent` or `Refused`, as `resolve_externs` finds it in `kernel`.
+    /// - An extern that is unresolved and has a type is `Id`, `Absent` or `Refused`, as `resolve_externs` finds it in
+    ///   `kernel`.
     /// - An extern that is unresolved and has no type is `Untyped`.
     /// - A resolved extern is `Kept`. If the object has no types, each one is.
     ///
@@ -35,12 +36,12 @@ impl Object {
         typed_outcomes(self.allocator(), self.btf.as_ref(), &self.externs, kernel)
     }
 
-    /// The outcome of each extern by the types of a kernel and the lines of its symbols, in the order of the bytes of the names,
-    /// also behind one that is refused. The object stays.
+    /// The outcome of each extern by the types of a kernel and the lines of its symbols, in the order of the bytes of
+    /// the names, also behind one that is refused. The object stays.
     ///
-    /// Externs with a type and resolved ones are as `typed_extern_outcomes` gives them. One that is unresolved and has no type is
-    /// looked up in the lines as `resolve_lines` does: `Address`, else `Absent` if it is weak, else `Refused`. If no extern
-    /// needs the lines, none is read.
+    /// Externs with a type and resolved ones are as `typed_extern_outcomes` gives them. One that is unresolved and has
+    /// no type is looked up in the lines as `resolve_lines` does: `Address`, else `Absent` if it is weak, else
+    /// `Refused`. If no extern needs the lines, none is read.
     ///
     /// # Errors
     ///
