@@ -123,5 +123,5 @@ names_refuse (Some local) kernel lines externs = untyped_all local kernel lines 
 
 pub results_are_written : ResultsAreWritten
 unfolding names_refused resolved_externs renew extern_outcomes
-results_are_written None kernel lines externs h = from_entries_of externs ∙ ap from_sorted (kept_written (entries externs))
-results_are_written (Some local) kernel lines externs h = ap from_sorted (written_all local kernel lines (entries externs) h)
+results_are_written None kernel lines externs h = from_entries_of externs ∙ ap (λ es. from_sorted {R = text_cmp} es) (kept_written (entries externs))
+results_are_written (Some local) kernel lines externs h = ap (λ es. from_sorted {R = text_cmp} es) (written_all local kernel lines (entries externs) h)

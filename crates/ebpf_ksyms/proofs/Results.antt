@@ -6,10 +6,11 @@ use Rattle.ebpf_btf.specs.TypeInfo.{TypeInfo}
 use Rattle.ebpf_ksyms.proofs.Pieces.{given}
 use Rattle.ebpf_ksyms.specs.Addresses.{is_ksyms_memory}
 use Rattle.ebpf_ksyms.specs.Externs.{KernelIds, NamedExtern, Outcome, is_typed, left_without, outcome_by, with_address, with_outcome}
-use Rattle.ebpf_ksyms.specs.Outcomes.{address_result, refusal_of, typed_result, with_result}
+use Rattle.ebpf_ksyms.specs.Outcomes.{OutcomeValue, address_result, refusal_of, typed_result, with_result}
 use Rattle.ebpf_ksyms.specs.PrivateContracts.{typed_as, typed_refused}
 use Rattle.ebpf_ksyms.specs.declared.error.KsymsError.{KsymsError}
 use Rattle.ebpf_ksyms.specs.declared.error.KsymsError.TheVariants.{VariableNotFound}
+use Rattle.ebpf_ksyms.specs.declared.extern_outcome.ExternResult.{ExternResult}
 use Rattle.ebpf_ksyms.specs.declared.extern_outcome.ExternResult.TheVariants.{Absent, Kept, Refused}
 use Rattle.ebpf_model.specs.declared.symbol.ExternDesc.{ExternDesc}
 
@@ -69,3 +70,8 @@ refuses (Err e) fault h = given (is_ksyms_memory e) (sym h)
 pub entry_with_address : (e : NamedExtern) (address : Option ℕ) (r : Result NamedExtern KsymsError) → IfOk r (λ x. x ≡ (e.0, with_result e.1 (address_result e address))) → fault_of r ≡ refusal_of (address_result e address) → IfOk r (λ x. x ≡ (e.0, with_address e.1 address))
 entry_with_address e address (Err f) stands fault = tt
 entry_with_address e address (Ok x) stands fault = stands ∙ ap (λ d. (e.0, d)) (address_written e address (sym (fault ∙ address_refusal e address)))
+
+-- ---- the outcome of an entry with a result
+
+abbrev pub outcome_at : NamedExtern → ExternResult → OutcomeValue
+outcome_at e result = record { name = e.0; desc = e.1; result = result }

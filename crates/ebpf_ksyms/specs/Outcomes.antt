@@ -48,8 +48,12 @@ result_by kernel_ids untyped local kernel e =
 
 -- ---- the outcomes of all externs
 
+-- the outcome of an entry, under its name
+abbrev pub outcome_with : (NamedExtern → ExternResult) → NamedExtern → OutcomeValue
+outcome_with result e = record { name = e.0; desc = e.1; result = result e }
+
 abbrev pub outcomes_with : (NamedExtern → ExternResult) → List NamedExtern → List OutcomeValue
-outcomes_with result es = map (λ e. record { name = e.0; desc = e.1; result = result e }) es
+outcomes_with result es = map (outcome_with result) es
 
 -- the outcomes; without types of the object all externs are kept
 abbrev pub outcomes_by : (NamedExtern → ExternResult) → Option TypeInfo → Option TypeInfo → Externs

@@ -7,7 +7,7 @@ ghost use Rattle.ebpf_base.specs.Maps.{lent_bytes};
 ghost use Rattle.ebpf_btf.specs.Types.{type_word};
 ghost use Rattle.ebpf_ksyms.specs.Externs.{kernel_ids_of, outcome_by, renewed, at_found, compared_outcome, are_types_compatible, left_without, not_alike, not_found, with_address};
 ghost use Rattle.ebpf_ksyms.specs.Addresses.{is_ksyms_memory};
-ghost use Rattle.ebpf_ksyms.specs.Outcomes.{address_result, outcomes_with, refusal_of, result_by, with_result};
+ghost use Rattle.ebpf_ksyms.specs.Outcomes.{address_result, outcome_with, outcomes_with, refusal_of, result_by, with_result};
 ghost use Rattle.ebpf_ksyms.specs.PrivateContracts.{id_at, value_named, lookup_name, lookup_names, typed_as, typed_refused, known_at, typeless_as, typeless_refused, KnowsIds, result_with_type, untyped_by};
 ghost use Rattle.ebpf_ksyms.specs.declared.error.KsymsError.TheVariants.{OutOfMemory};
 ghost use Rattle.ebpf_ksyms.specs.declared.extern_outcome.ExternResult.TheVariants.{Refused, Kept};
@@ -420,6 +420,29 @@ fn extern_result(
     }
 }
 
+/// The outcome of an extern, under its name. Without addresses one that needs them is `Untyped`.
+fn named_outcome<'a>(
+    alloc: Global,
+    local: &Btf,
+    kernel: Option<&Btf>,
+    ids: &NameTable<'_, NameIds>,
+    addresses: Option<&NameTable<'_, Option<u64>>>,
+    entry: &NamedExtern<'a>,
+) -> Result<ExternOutcome<'a>, AllocError>
+    ensures { IfOk result (λ o.
+        o
+        ≡ outcome_with
+        (result_by (id_at (value_named ids.now)) (untyped_by (option_copied addresses.entry))
+        local.now (option_copied kernel.entry)) entry.now) }
+{
+    let result = extern_result(alloc, local, kernel, ids, addresses, entry)?;
+    Ok(ExternOutcome {
+        name: entry.name,
+        desc: entry.desc,
+        result,
+    })
+}
+
 /// The outcome of each extern by the ids of names. Without addresses those that need them are `Untyped`.
 fn outcomes_by_ids<'a>(
     alloc: Global,
@@ -437,12 +460,8 @@ fn outcomes_by_ids<'a>(
 {
     let mut outcomes = Vec::with_capacity(alloc, all.len())?;
     for entry in all {
-        let result = extern_result(alloc, local, kernel, ids, addresses, entry)?;
-        outcomes.push(ExternOutcome {
-            name: entry.name,
-            desc: entry.desc,
-            result,
-        })?;
+        let outcome = named_outcome(alloc, local, kernel, ids, addresses, entry)?;
+        outcomes.push(outcome)?;
     }
     Ok(outcomes)
 }
