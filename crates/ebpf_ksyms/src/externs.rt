@@ -420,6 +420,17 @@ fn extern_result(
     }
 }
 
+/// The outcome of an extern with a result.
+fn outcome_of_entry<'a>(entry: &NamedExtern<'a>, found: ExternResult) -> ExternOutcome<'a>
+    ensures { result ≡ outcome_with (λ _. found) entry.now }
+{
+    ExternOutcome {
+        name: entry.name,
+        desc: entry.desc,
+        result: found,
+    }
+}
+
 /// The outcome of an extern, under its name. Without addresses one that needs them is `Untyped`.
 fn named_outcome<'a>(
     alloc: Global,
@@ -436,11 +447,7 @@ fn named_outcome<'a>(
         local.now (option_copied kernel.entry)) entry.now) }
 {
     let result = extern_result(alloc, local, kernel, ids, addresses, entry)?;
-    Ok(ExternOutcome {
-        name: entry.name,
-        desc: entry.desc,
-        result,
-    })
+    Ok(outcome_of_entry(entry, result))
 }
 
 /// The outcome of each extern by the ids of names. Without addresses those that need them are `Untyped`.
