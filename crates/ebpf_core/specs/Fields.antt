@@ -1,5 +1,13 @@
--- Where a field lies in a type, what a record learns of it, and the bytes that a program loads for
--- it (the kernel's tools/lib/bpf/relo_core.c, bpf_core_calc_field_relo).
+-- What a relocation asks of a field: its byte offset, size, existence, sign or shifts, and the
+-- bytes that an instruction loads of it (the kernel's tools/lib/bpf/relo_core.c,
+-- bpf_core_calc_field_relo).
+--
+-- An example: a bit field `int a : 3` at bit 33. Its type has 4 bytes, and the aligned 4 bytes from
+-- byte 4 on (bits 32 to 63) have all its bits, so these are its container: the byte offset is 4,
+-- the byte size 4. In 64 bits, where the first bit is the lowest, the loaded number is shifted to
+-- the left by 60 (64 - (33 - 32 + 3)) and then to the right by 61 (64 - 3). A bit field of 5 bits
+-- at bit
+-- 30 isn't inside the first 4 bytes: its container has 8. `proofs/Examples.antt` computes both.
 use Rattle.std.specs.Prelude.{ℕ, ◌+◌, ◌*◌, ◌/◌, ◌==◌, ◌&&◌, ◌||◌, nat_le, nat_lt, Bool, List, []}
 use Rattle.std.specs.Prelude.{◌∷◌, find, Option, None, option_and_then, Result, Ok, Err}
 use Rattle.std.specs.Prelude.{if◌then◌else◌, ◌-◌, Some, slice_get}

@@ -1,4 +1,4 @@
--- What holds of every record and all types, and why a record has no outcome.
+-- Why a relocation has no outcome: the first fault on its way. And the laws of all relocations.
 use Rattle.std.specs.Prelude.{◌≡◌, ℕ, false, not, List, ◌∷◌, filter, Option, Ok, Err, Result}
 use Rattle.ebpf_btf.specs.TypeInfo.{TypeInfo}
 use Rattle.ebpf_btf.specs.declared.error.BtfError.{BtfError as TypeError}

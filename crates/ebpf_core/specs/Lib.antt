@@ -6,3 +6,4 @@ pub mod Laws
 pub mod Outcomes
 pub mod Places
 pub mod Members
+pub mod SamePathValue

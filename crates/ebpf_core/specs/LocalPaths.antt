@@ -1,4 +1,9 @@
--- What a record says of its local type, as an equation and step by step.
+-- What a relocation names in the object's own types: a field by the steps to it, an enumerator by
+-- its name, or a type.
+--
+-- The equation is `local_path`; `LocalSideIs` says the same step by step. Of
+-- `struct task { int pid; struct { int uid; } cred; }` the access string "0:1:0" gives the steps
+-- `Index 0`, `Name "cred"`, `Name "uid"`, and the bit offset 32.
 use Rattle.std.specs.Prelude.{ℕ, ◌^◌, ◌==◌, ◌&&◌, nat_le, nat_lt, List, [], ◌∷◌, length, map}
 use Rattle.std.specs.Prelude.{Option, Some, None, option_map, Result, Ok, Err, if◌then◌else◌, ◌+◌}
 use Rattle.std.specs.Prelude.{◌||◌, Bool, false, ◌++◌, fold, slice_get, ◌≡◌}

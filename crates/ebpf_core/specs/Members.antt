@@ -1,5 +1,8 @@
--- The members of a type, the view of a type with those of its anonymous members, and what a search
--- for a name comes to (the kernel's tools/lib/bpf/relo_core.c, bpf_core_match_member).
+-- The members of a type, in one list with those of its anonymous members, and the first of a name
+-- in that list (the kernel's tools/lib/bpf/relo_core.c, bpf_core_match_member).
+--
+-- The view of `struct { long state; union { int flags; int pid; }; }` has four entries: `state`,
+-- the anonymous union, `flags` and `pid`, the last two inside one anonymous member and at bit 64.
 use Rattle.std.specs.Prelude.{ℕ, ◌==◌, nat_lt, if◌then◌else◌, List, [], map, slice_get, unwrap_or}
 use Rattle.std.specs.Prelude.{Result, Ok, Err, zero, suc, ◌+◌, Bool, true, false, ◌∷◌, ◌≡◌, ◌<◌}
 use Rattle.std.specs.Prelude.{◌≤◌, ◌^◌, Option, Some, None}

@@ -1,5 +1,11 @@
--- What a record comes to over all candidates (the kernel's Documentation/bpf/llvm_reloc.rst, "CO-RE
+-- The outcome of a relocation over all its candidates: the value of the first that matches, where
+-- the other matches agree with it (the kernel's Documentation/bpf/llvm_reloc.rst, "CO-RE
 -- Relocations", and tools/lib/bpf/relo_core.c, bpf_core_spec_match and bpf_core_calc_relo_insn).
+--
+-- An example: of three candidates the first lacks the field, and the others have it at bit 64. Two
+-- matches agree on byte offset 8, which is the value. Had the third the field at bit 128, the
+-- relocation would be refused. Had none of them the field, there would be no value, and of the kind
+-- FieldExists the value 0. `proofs/Examples.antt` computes the outcomes of such matches.
 use Rattle.std.specs.Prelude.{ℕ, Bool, List, [], Option, Some, None, option_map, unwrap_or, Result}
 use Rattle.std.specs.Prelude.{Ok, Err, if◌then◌else◌, ◌≡◌, ◌<◌, true, false, length, slice_get}
 use Rattle.std.specs.Prelude.{◌==◌, ◌&&◌, not, nat_eq, ◌∷◌, filter, option_and_then}

@@ -1,5 +1,10 @@
--- Where a named path leads in a target type (the kernel's tools/lib/bpf/relo_core.c,
--- bpf_core_spec_match).
+-- The place of a named path in a target type: its bit offset from the start of the type, and the
+-- member or element at its end (the kernel's tools/lib/bpf/relo_core.c, bpf_core_spec_match).
+--
+-- The equation is `place_of`; `PathLeads` says the same step by step. In `int x[2][3]` the path
+-- `Index 0`, `Index 1`, `Index 2` leads to an element of `int` at bit 160: row 1 begins 12 bytes
+-- from the start, and its element 2 is 8 bytes further. `Index 3` as the last step leads nowhere,
+-- since a row has three elements. `proofs/Examples.antt` computes both.
 use Rattle.std.specs.Prelude.{ℕ, ◌+◌, ◌*◌, ◌^◌, ◌==◌, ◌&&◌, ◌||◌, nat_lt, if◌then◌else◌, Bool}
 use Rattle.std.specs.Prelude.{false, List, [], ◌∷◌, length, slice_get, Option, Some, None, Result}
 use Rattle.std.specs.Prelude.{Ok, Err, option_and_then, ◌≡◌, ◌<◌, ◌≤◌, ⊤, MatchBool}

@@ -1,4 +1,4 @@
--- The types of a kernel that a local type may stand for, and what a record comes to over them (the
+-- The target types that a local type may stand for, and the outcome of a relocation over them (the
 -- kernel's tools/lib/bpf/libbpf.c, bpf_core_find_cands, and relo_core.c, bpf_core_calc_relo_insn).
 use Rattle.std.specs.Prelude.{ℕ, ◌&&◌, Bool, true, false, List, Option, Some, None, is_some, Result}
 use Rattle.std.specs.Prelude.{Ok, Err, if◌then◌else◌, ◌≡◌, [], ◌∷◌, slice_get}

@@ -13,16 +13,16 @@ use std::alloc::{AllocError, AllocFailed, Global};
 use std::fmt;
 use thiserror::Error;
 
-/// Why a record of `.BTF.ext` on a type, a field or a variant could not be applied.
+/// Why a relocation of `.BTF.ext` on a type, a field or a variant could not be applied.
 ///
-/// `relocation_number` is the record's place among those of its section. The texts `access_path`,
+/// `relocation_number` is the relocation's place among those of its section. The texts `access_path`,
 /// `relocation_kind`, `type_kind` and `error` are for people to read.
 #[derive(Debug, Drop, Error)]
 pub enum RelocationError {
-    /// The object has no section with the name of the record's section.
+    /// The object has no section with the name of the relocation's section.
     #[error("the object has no section of the name that CO-RE relocations are for")]
     SectionNotFound,
-    /// No function of the section has the record's slot.
+    /// No function of the section has the relocation's slot.
     #[error("a CO-RE relocation is for an instruction of no function")]
     FunctionNotFound,
     /// An access string that is no numbers between colons, or not as many of them as its kind takes.
@@ -59,7 +59,7 @@ pub enum RelocationError {
         len: usize,
         error: Text,
     },
-    /// What the record asks can't be asked of its local type or field.
+    /// What the relocation asks can't be asked of its local type or field.
     #[error("CO-RE relocation {relocation_number} asks for {relocation_kind}, and {:?} is {type_kind}", .error.as_str())]
     InvalidRelocationKindForType {
         relocation_number: usize,
@@ -155,7 +155,7 @@ pub fn invalid_access_index<X>(
     })
 }
 
-/// `InvalidRelocationKindForType`: what a record asks can't be asked of what stands at a place, as `an integer`.
+/// `InvalidRelocationKindForType`: what a relocation asks can't be asked of what stands at a place, as `an integer`.
 pub fn invalid_kind<X>(
     alloc: Global,
     number: usize,
@@ -175,10 +175,10 @@ pub fn invalid_kind<X>(
     })
 }
 
-/// A record, as its errors name it.
+/// A relocation, as its errors name it.
 #[derive(Clone, Copy)]
 pub struct Request<'a> {
-    /// The place among the records of its section.
+    /// The place among the relocations of its section.
     pub number: usize,
     pub kind: RelocationKind,
     /// The access string.
@@ -187,7 +187,7 @@ pub struct Request<'a> {
     pub type_name: &'a str,
 }
 
-/// The words for the question of the records of a kind.
+/// The words for the question of the relocations of a kind.
 pub fn relocation_words(kind: RelocationKind) -> &'static str {
     match kind {
         RelocationKind::FieldByteOffset => "the byte offset of a field",

@@ -1,4 +1,4 @@
-//! The values of a field that records ask for, and the bytes that a program loads for the field.
+//! The values of a field that relocations ask for, and the bytes that a program loads for the field.
 
 ghost use Rattle.std.specs.Prelude.{◌≡◌, ◌*◌, ◌<◌, ◌≤◌, ◌^◌, IfOk, IfSome};
 ghost use Rattle.ebpf_btf.specs.Steps.{size_of};
@@ -28,19 +28,19 @@ pub struct LoadedField {
     pub class: FieldClass,
 }
 
-/// The value of a field that a record asks for.
+/// The value of a field that a relocation asks for.
 #[derive(Clone, Copy)]
 pub struct FieldValue {
-    /// The number that the record asks for.
+    /// The number that the relocation asks for.
     pub number: u64,
-    /// The load of the field, where the record asks for the place of a field that is no bit field.
+    /// The load of the field, where the relocation asks for the place of a field that is no bit field.
     pub loaded: Option<LoadedField>,
 }
 
-/// The reason why a field has no value for a record.
+/// The reason why a field has no value for a relocation.
 #[derive(Drop)]
 pub enum FieldFault {
-    /// The record's kind can't be asked of an element.
+    /// The relocation's kind can't be asked of an element.
     OfElement,
     /// A type or size can't be read, or there is no container or no shift.
     Types(BtfError),
@@ -221,8 +221,8 @@ fn value_of_member(
 }
 
 /// The value of the field at a place that a kind asks for: the first byte or the number of the bytes that are loaded,
-/// whether its type is signed (1 or 0), the shift of the loaded bytes left or then right in 64 bits, or the 1 of a field
-/// that exists.
+/// whether its type is signed (1 or 0), the shift of the loaded bytes left or then right in 64 bits, or the 1 of a
+/// field that exists.
 ///
 /// A bit field is loaded by the smallest aligned container that holds it: the size of its type, doubled while it is
 /// below 8.

@@ -1,7 +1,7 @@
-//! What one CO-RE record asks of a kernel's types, and what they answer.
+//! What one CO-RE relocation asks of a kernel's types, and what they answer.
 //!
-//! A record names a type of the object and, by an access string, a field or a variant of it. It is looked for in each
-//! type of the kernel that has the same kind and name, and all that are found have to agree.
+//! A relocation names a type of the object and, by an access string, a field or a variant of it. It is looked for in
+//! each type of the kernel that has the same kind and name, and all that are found have to agree.
 #![tactic(auto)]
 
 mod error;

@@ -1,4 +1,4 @@
-//! The candidates that a local path fits, and the values of a record in them.
+//! The candidates that a local path fits, and the values of a relocation in them.
 
 ghost use Rattle.std.specs.Prelude.{◌≡◌, [], unwrap_or, Err};
 ghost use Rattle.std.specs.Result.{result_ok};
@@ -166,7 +166,7 @@ pub struct MatchValue {
     pub candidate: u32,
     /// The bits from the start of the candidate to the field; 0 where no field is asked about.
     pub bits: u32,
-    /// The number that the record asks for, where it can be had.
+    /// The number that the relocation asks for, where it can be had.
     pub number: Option<u64>,
     /// What is loaded of the field, where its place is asked for and it is no bit field.
     pub loaded: Option<LoadedField>,

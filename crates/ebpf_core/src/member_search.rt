@@ -59,7 +59,8 @@ pub struct WantedMember<'a> {
     pub local_type: u32,
 }
 
-/// Looks through the members of a type that lies inside so many anonymous ones and begins at a bit, over so many entries.
+/// Looks through the members of a type that lies inside so many anonymous ones and begins at a bit, over so many
+/// entries.
 fn search(
     wanted: WantedMember<'_>,
     parent: u32,
@@ -133,9 +134,9 @@ fn find(wanted: WantedMember<'_>, parent: u32) -> Result<Option<FoundMember>, Pl
 /// The first member of a name in the target type with the id `parent`, whose type is compatible with the local one.
 /// None where there is none; a type that is no STRUCT or UNION has no members.
 ///
-/// The members are met in order, each anonymous one followed by the members of the type that its own stands for. The first
-/// member of the name in one type is found, if `fields_are_compatible` says that the local type fits it; else that type's
-/// members end there, and the search goes on after the anonymous member that led to it.
+/// The members are met in order, each anonymous one followed by the members of the type that its own stands for. The
+/// first member of the name in one type is found, if `fields_are_compatible` says that the local type fits it; else
+/// that type's members end there, and the search goes on after the anonymous member that led to it.
 ///
 /// # Errors
 ///

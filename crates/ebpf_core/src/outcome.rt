@@ -1,4 +1,4 @@
-//! The outcome of a record over its candidates.
+//! The outcome of a relocation over its candidates.
 
 ghost use Rattle.std.specs.Prelude.{◌≡◌, IfErr, MatchBool, ⊤};
 ghost use Rattle.ebpf_core.specs.Answers.{Tells, without_texts, is_record_memory};
@@ -17,7 +17,7 @@ use ebpf_btf::Btf;
 use ebpf_btf_ext::{Relocation, RelocationKind};
 use std::alloc::Global;
 
-/// The outcome of a record.
+/// The outcome of a relocation.
 #[derive(Clone, Copy, Debug, PartialEq, Eq)]
 pub struct Outcome {
     /// The number that the instruction is to carry. None: there is none, and the instruction is to fail where it is
@@ -29,7 +29,7 @@ pub struct Outcome {
     pub target: Option<LoadedField>,
 }
 
-/// The value where nothing matches: 0 where the record asks whether something is there, else none.
+/// The value where nothing matches: 0 where the relocation asks whether something is there, else none.
 fn without_match(kind: RelocationKind) -> Option<u64>
     ensures { result ≡ without_match kind }
 {
@@ -73,7 +73,7 @@ fn field_loaded(
 ///
 /// # Errors
 ///
-/// - `InvalidRelocationKindForType`: the record's kind can't be asked of the field.
+/// - `InvalidRelocationKindForType`: the relocation's kind can't be asked of the field.
 /// - `BtfError`: the field's size or container is missing, or a shift is negative.
 #[tactic(auto, unfolding(crate::specs::Outcomes::local_loaded))]
 fn local_loaded(
@@ -161,7 +161,7 @@ fn conclude(
     })
 }
 
-/// The outcome of a record over its candidates.
+/// The outcome of a relocation over its candidates.
 #[tactic(auto, unfolding(crate::specs::Outcomes::outcome_among))]
 fn outcome_by_matches(
     alloc: Global,
@@ -195,7 +195,7 @@ fn outcome_by_matches(
     )
 }
 
-/// The outcome of a record over its candidates, the target types that its local type may stand for, in the order of
+/// The outcome of a relocation over its candidates, the target types that its local type may stand for, in the order of
 /// their ids.
 ///
 /// # Errors
@@ -204,9 +204,9 @@ fn outcome_by_matches(
 ///
 /// - Of matching, candidate by candidate: `BtfError` of a type, name or size that is needed, and
 ///   `MaximumNestingLevelReached` with the candidate's name.
-/// - Of the local field, also where nothing matches: `InvalidRelocationKindForType` where the kind can't be asked of the
-///   field, `BtfError` where its size or container is missing or a shift is negative.
-/// - `BtfError`: a match has no size, and the record asks for it.
+/// - Of the local field, also where nothing matches: `InvalidRelocationKindForType` where the kind can't be asked of
+///   the field, `BtfError` where its size or container is missing or a shift is negative.
+/// - `BtfError`: a match has no size, and the relocation asks for it.
 /// - `ConflictingCandidates`: a later match lies at other bits than the first or has another value.
 /// - `OutOfMemory`: memory is refused.
 pub fn outcome_among(

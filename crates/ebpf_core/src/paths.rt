@@ -1,4 +1,4 @@
-//! The local side of a record: its type, and the meaning of its access string there.
+//! The local side of a relocation: its type, and the meaning of its access string there.
 
 ghost use Rattle.std.specs.Prelude.{◌≡◌, ◌==◌, IfOk, map};
 ghost use Rattle.std.specs.List.{slice_split};
@@ -16,7 +16,7 @@ use ebpf_btf::{Btf, BtfType, BtfVariant};
 use ebpf_btf_ext::{Relocation, RelocationKind};
 use std::alloc::{AllocError, Global};
 
-/// The subject of a record, by the names that its local type has.
+/// The subject of a relocation, by the names that its local type has.
 #[derive(Debug, Drop)]
 pub enum NamedPath {
     /// The type as a whole.
@@ -32,7 +32,7 @@ pub enum NamedPath {
     },
 }
 
-/// The sort of a record's subject.
+/// The sort of a relocation's subject.
 #[derive(Clone, Copy)]
 pub enum RelocationBasis {
     /// A field: a member or an element.
@@ -43,12 +43,12 @@ pub enum RelocationBasis {
     Variant,
 }
 
-/// The local side of a record.
+/// The local side of a relocation.
 #[derive(Debug, Drop)]
 pub struct LocalPath {
     /// The name of the local type.
     pub type_name: Text,
-    /// The subject of the record in the local type.
+    /// The subject of the relocation in the local type.
     pub path: NamedPath,
 }
 
@@ -62,7 +62,7 @@ fn only_accessor(parts: &[usize]) -> Option<usize>
     }
 }
 
-/// The path of a record on a type, whose string is one 0.
+/// The path of a relocation on a type, whose string is one 0.
 fn type_path(alloc: Global, access: &str, parts: &[usize]) -> Result<NamedPath, RelocationError>
     ensures { Tells result (type_path access.now parts.now) }
 {
@@ -72,7 +72,7 @@ fn type_path(alloc: Global, access: &str, parts: &[usize]) -> Result<NamedPath, 
     invalid_access_string(alloc, access)
 }
 
-/// The path of a record on a variant.
+/// The path of a relocation on a variant.
 fn named_variant(
     alloc: Global,
     local: &Btf,
@@ -86,7 +86,7 @@ fn named_variant(
     })
 }
 
-/// The path of a record on a variant of a type, by the variant's number.
+/// The path of a relocation on a variant of a type, by the variant's number.
 #[tactic(auto, unfolding(crate::specs::LocalPaths::variant_path))]
 fn variant_path(
     alloc: Global,
@@ -121,7 +121,7 @@ fn variant_path(
     }
 }
 
-/// The path of a record in its resolved local type.
+/// The path of a relocation in its resolved local type.
 fn path_for(
     alloc: Global,
     local: &Btf,
@@ -143,7 +143,7 @@ fn path_for(
     }
 }
 
-/// The name of a record's local type, and the meaning of the access string there.
+/// The name of a relocation's local type, and the meaning of the access string there.
 #[tactic(auto, unfolding(crate::specs::LocalPaths::local_path))]
 fn local_side(
     alloc: Global,
@@ -170,7 +170,7 @@ fn local_side(
     })
 }
 
-/// The local side of a record: the name of its type, and the meaning of its access string there.
+/// The local side of a relocation: the name of its type, and the meaning of its access string there.
 ///
 /// # Errors
 ///
@@ -180,10 +180,11 @@ fn local_side(
 /// - `InvalidAccessString`: a piece between colons is no `usize`.
 /// - `MaximumNestingLevelReached`: there are more than 64 pieces.
 /// - `BtfError`: the type can't be resolved.
-/// - Of a record on a type: `InvalidAccessString` where the string isn't one 0.
-/// - Of a record on a variant: `InvalidRelocationKindForType` where the type is no enumeration, `InvalidAccessString`
-///   where there is more than one part, `InvalidAccessIndex` where there is no such variant, `BtfError` of its name.
-/// - Of a record on a field, part by part: `BtfError` of a size, a type or a name, or where the field lies past
+/// - Of a relocation on a type: `InvalidAccessString` where the string isn't one 0.
+/// - Of a relocation on a variant: `InvalidRelocationKindForType` where the type is no enumeration,
+///   `InvalidAccessString` where there is more than one part, `InvalidAccessIndex` where there is no such variant,
+///   `BtfError` of its name.
+/// - Of a relocation on a field, part by part: `BtfError` of a size, a type or a name, or where the field lies past
 ///   4,294,967,295 bits; `InvalidAccessIndex` past the members or elements; `InvalidRelocationKindForType` in a type
 ///   that has neither.
 /// - `OutOfMemory`: memory is refused.
@@ -267,7 +268,7 @@ pub fn accessors(
     Ok(parts)
 }
 
-/// The sort of subject that the records of a kind have.
+/// The sort of subject that the relocations of a kind have.
 pub fn basis_of(kind: RelocationKind) -> RelocationBasis
     ensures { result ≡ basis_of kind }
 {

@@ -1,4 +1,4 @@
-//! Records over the types of a kernel, one after the other.
+//! Relocations over the types of a kernel, one after the other.
 
 ghost use Rattle.std.specs.Prelude.{◌≡◌, ◌<◌, All, IfErr, IfOk, IfSome, MatchBool, Ok, length, true, ⊤};
 ghost use Rattle.ebpf_base.specs.Faults.{Gives, Refuses, fault_of, if_ok};
@@ -21,7 +21,8 @@ use std::alloc::{AllocError, Global};
 use std::collections::BTreeMap;
 use std::marker::Model;
 
-/// The question of a record, by which its outcome is cached: its type and its access string, and the number of its kind.
+/// The question of a relocation, by which its outcome is cached: its type and its access string, and the number of its
+/// kind.
 pub type Question = ((u32, u32), u32);
 
 /// A local type with its name.
@@ -93,8 +94,8 @@ fn ids_of_both(
     }
 }
 
-/// The outcome of a record over the target types of the kind and name of a local type, looked for in an index that has
-/// them.
+/// The outcome of a relocation over the target types of the kind and name of a local type, looked for in an index that
+/// has them.
 #[tactic(auto, unfolding(crate::specs::Searches::candidates_named))]
 fn outcome_named(
     alloc: Global,
@@ -210,9 +211,9 @@ fn index_for<'a>(
     Ok(n)
 }
 
-/// The types of an object, and those of a kernel in which they are looked for, record by record. The kernel's types of
-/// a kind are indexed at the first record that searches them, those alone whose names the object's types have. Outcomes
-/// are cached by their questions.
+/// The types of an object, and those of a kernel in which they are looked for, relocation by relocation. The kernel's
+/// types of a kind are indexed at the first relocation that searches them, those alone whose names the object's types
+/// have. Outcomes are cached by their questions.
 ///
 /// Contracts see the two sides alone.
 #[derive(Drop)]
@@ -288,7 +289,7 @@ impl<'a> CoreSearch<'a> {
         ids_named(alloc, &self.indices[n], searched)
     }
 
-    /// The outcome of a record over the kernel's types that its local type may stand for.
+    /// The outcome of a relocation over the kernel's types that its local type may stand for.
     fn search(
         &mut self,
         alloc: Global,
@@ -313,7 +314,7 @@ impl<'a> CoreSearch<'a> {
         outcome_named(alloc, local, &self.indices[n], relocation, path, searched)
     }
 
-    /// The outcome of a record, whatever is cached.
+    /// The outcome of a relocation, whatever is cached.
     fn find(&mut self, alloc: Global, relocation: &Relocation) -> Result<Outcome, RelocationError>
         ensures outcome { Tells result (outcome_of self.old.local self.old.target relocation.now) }
         ensures stays { self.new ≡ self.old }
@@ -329,7 +330,7 @@ impl<'a> CoreSearch<'a> {
         self.search(alloc, relocation, &path)
     }
 
-    /// Caches the outcome of a record for all with the same question.
+    /// Caches the outcome of a relocation for all with the same question.
     fn cache(&mut self, relocation: &Relocation, outcome: Outcome) -> Result<(), AllocError>
         requires { outcome_of self.old.local self.old.target relocation.now ≡ Ok outcome }
         ensures { self.new ≡ self.old }
@@ -338,7 +339,7 @@ impl<'a> CoreSearch<'a> {
         Ok(())
     }
 
-    /// The outcome of a record: the one that is cached, or else the one that a search finds.
+    /// The outcome of a relocation: the one that is cached, or else the one that a search finds.
     fn cached_outcome(
         &mut self,
         alloc: Global,
@@ -355,7 +356,7 @@ impl<'a> CoreSearch<'a> {
         Ok(outcome)
     }
 
-    /// The outcome of a record.
+    /// The outcome of a relocation.
     pub fn outcome(
         &mut self,
         alloc: Global,
@@ -372,7 +373,7 @@ impl<'a> CoreSearch<'a> {
     }
 }
 
-/// The question of a record.
+/// The question of a relocation.
 pub fn question_of(relocation: &Relocation) -> Question
     ensures { result ≡ question_of relocation.now }
 {

@@ -11,6 +11,7 @@ use Rattle.std.proofs.lemmas.List.{map-append}
 use Rattle.ebpf_base.proofs.Maps.{key_exact, is_equal}
 use Rattle.ebpf_base.specs.Maps.{key_cmp, key_total}
 use Rattle.ebpf_btf_ext.specs.declared.relocation.Relocation.{Relocation}
+use Rattle.ebpf_core.proofs.SamePaths.{outcomes_are_of_same_paths}
 use Rattle.ebpf_core_candidates.proofs.Refusals.{by_answer, by_option, ok_parts, same_ok}
 use Rattle.ebpf_core.specs.Searches.{outcome_of}
 use Rattle.ebpf_core.specs.declared.error.RelocationError.{RelocationError}
@@ -220,6 +221,7 @@ module _ (inputs : RelocationInputs) (located : ℕ × Relocation) (so_far left 
           there = there;
           outcome = p.outcome;
           found = p.found;
+          same_path = outcomes_are_of_same_paths inputs.sides.local inputs.sides.target located.1 p.outcome p.found;
           slots = too.0;
           carried = subst (λ o. written located.1.number (own_slots o) p.slot p.outcome ≡ Ok too.0) there too.1;
           stands = λ i t. ap (λ s. slice_get s i) at_key ∙ touched_same i t;
@@ -344,6 +346,7 @@ carried_on inputs a b located c stay = record {
   there = c.there;
   outcome = c.outcome;
   found = c.found;
+  same_path = c.same_path;
   slots = c.slots;
   carried = c.carried;
   stands = λ i t. stay c.key i t ∙ c.stands i t;

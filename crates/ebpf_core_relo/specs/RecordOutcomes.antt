@@ -8,6 +8,7 @@ use Rattle.ebpf_base.specs.Maps.{key_cmp, text_cmp}
 use Rattle.ebpf_btf.specs.Strings.{text_at}
 use Rattle.ebpf_btf.specs.declared.error.BtfError.{BtfError}
 use Rattle.ebpf_btf_ext.specs.declared.relocation.Relocation.{Relocation}
+use Rattle.ebpf_core.specs.SamePathValue.{SamePathValue}
 use Rattle.ebpf_core.specs.Searches.{outcome_of, Sides}
 use Rattle.ebpf_core.specs.declared.outcome.Outcome.{Outcome}
 use Rattle.ebpf_parts.specs.Slots.{class_ld}
@@ -115,7 +116,8 @@ RecordsHaveSlots =
 -- ---- what slots carry
 
 -- The slots that a record touches are what they become where its outcome is written into its
--- function's own slots: other records make no difference.
+-- function's own slots: other records make no difference. The outcome is the value of the same path
+-- in the target.
 pub record Carries (inputs : RelocationInputs) (so_far : Written) (located : ℕ × Relocation)
     : Type 0 where
   pub key : FunctionKey
@@ -125,6 +127,7 @@ pub record Carries (inputs : RelocationInputs) (so_far : Written) (located : ℕ
   pub there : get inputs.functions key ≡ Some function
   pub outcome : Outcome
   pub found : outcome_of inputs.sides.local inputs.sides.target located.1 ≡ Ok outcome
+  pub same_path : SamePathValue inputs.sides.local inputs.sides.target located.1 outcome
   pub slots : List bpf_insn
   pub carried : written located.1.number function.instructions slot outcome ≡ Ok slots
   pub stands : (i : ℕ)

@@ -4,7 +4,7 @@
 -- every program is its function followed by every function its references reach, each once; under
 -- every list of branch decisions it visits the separate functions' slots in the same order; and
 -- every slot that one type relocation alone writes carries its kind's value for the same named path
--- in the target.
+-- in the target (`Carries`, whose outcome is a `SamePathValue`).
 --
 -- The program's own function stands once more where a reference names it. Visits hold where each
 -- reference of the program and of the functions that it reaches stands on a pseudo call or on a
@@ -118,7 +118,7 @@ StandsAt (Some text_sections) unlinked o key i at place =
     ((at ≡ key) × (place ≡ i))
 
 -- The slots that a record touches carry its outcome in the finished object, wherever they stand in
--- it.
+-- it. By `carries.same_path`, it is the value of the same named path in the target.
 pub record IsCarried (inputs : RelocationInputs) (left : Written) (calls : Option TextSections)
     (unlinked o : Object) (record_at : ℕ × Relocation)
     : Type 0 where
