@@ -226,6 +226,7 @@ fn check_value(values: &ByName<Items<u8>>, wanted: &KconfigExtern) -> Result<(),
 ///
 /// - `NoValue`: an extern that is not weak has no value.
 /// - `WrongSize`: a value has another size than its extern.
+/// - `OutOfMemory`: an allocation for the name in the error failed.
 pub fn check_values(
     values: &ByName<Items<u8>>,
     externs: &[KconfigExtern],
