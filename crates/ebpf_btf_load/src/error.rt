@@ -1,4 +1,4 @@
-//! Why an object's types can't be made ready for the kernel.
+//! The errors of preparing the types of an object for the kernel.
 
 ghost use Rattle.std.specs.Prelude.{◌≡◌};
 ghost use Rattle.ebpf_btf_load.specs.declared.error.KernelTypesError.TheVariants.{OutOfMemory};
@@ -8,10 +8,12 @@ use ebpf_elf::ElfReadError;
 use std::alloc::{AllocError, AllocFailed};
 use thiserror::Error;
 
-/// Why an object's types can't be made ready for the kernel. Each `type_id` is that of a type of the file's `.BTF`.
+/// The reason why the types of an object can't be prepared for the kernel.
+///
+/// Each `type_id` is the id of a type of the file's `.BTF`.
 #[derive(Debug, Drop, Error)]
 pub enum KernelTypesError {
-    /// The bytes are no ELF64 file, or `.BTF` runs past its end.
+    /// The bytes are no ELF64 file, or `.BTF` runs past the end of the file.
     #[error("{0}")]
     ElfError(ElfReadError),
     /// `.BTF` can't be read.
@@ -41,10 +43,10 @@ pub enum KernelTypesError {
         /// The id of the VAR.
         type_id: u32,
     },
-    /// What comes out does not fit: a length, an offset or an id passes 32 bits.
+    /// A length, an offset or an id of the result passes 32 bits.
     #[error("the types don't fit: their ids, offsets and lengths have 32 bits")]
     TooLarge,
-    /// No memory was found.
+    /// An allocation failed.
     #[error("out of memory")]
     OutOfMemory,
 }

@@ -1,4 +1,4 @@
-//! The words that are written, and the bytes that the kernel takes.
+//! The words that are written, and the bytes of the types that the kernel takes.
 
 ghost use Rattle.std.specs.Prelude.{◌≡◌, ◌<◌, ◌+◌, IfOk, ◌^◌, length, option_map, Ok};
 ghost use Rattle.ebpf_base.specs.Faults.{Gives, Refuses, fault_of};
@@ -23,7 +23,7 @@ use std::alloc::{AllocError, Global};
 /// The most entries that a DATASEC of a file has.
 const MOST: usize = 65_535;
 
-/// The words of a type, where it is a DATASEC: by its name.
+/// The words of a type: those of a DATASEC by its name, none of another type.
 #[tactic(auto, unfolding(crate::specs::KernelTypes::section_type_words))]
 fn section_type_words(
     alloc: Global,
@@ -79,6 +79,11 @@ fn types_words(
 }
 
 /// All words that are written, later ones over earlier ones.
+///
+/// # Errors
+///
+/// - The first fault of the DATASECs, in the order of their ids.
+/// - `OutOfMemory`: an allocation failed.
 pub fn all_words(
     alloc: Global,
     sources: &Sources<'_>,
@@ -189,7 +194,7 @@ fn written_types(
     btf_part(alloc, sources.order, &part, &strings)
 }
 
-/// What the types of some sources come to.
+/// The bytes of the types that some sources give.
 fn types_of_sources(alloc: Global, sources: &Sources<'_>) -> Result<Items<u8>, KernelTypesError>
     ensures { Gives is_kernel_types_memory result (types_of_sources (given_of sources.now)) }
 {
@@ -209,7 +214,7 @@ fn types_read(alloc: Global, order: Endianness, bytes: &[u8]) -> Result<Btf, Ker
     }
 }
 
-/// What the bytes of `.BTF` of a file come to.
+/// The bytes of the types for the kernel, from the bytes of `.BTF` of a file.
 fn types_of_bytes(
     alloc: Global,
     file: &ElfFile<'_>,
@@ -232,7 +237,7 @@ fn types_of_bytes(
     types_of_sources(alloc, &sources)
 }
 
-/// What the section `.BTF` of a file comes to.
+/// The bytes of the types for the kernel, from the section `.BTF` of a file.
 fn types_of_section(
     alloc: Global,
     file: &ElfFile<'_>,
@@ -246,7 +251,7 @@ fn types_of_section(
     }
 }
 
-/// The file that bytes are.
+/// The ELF file in some bytes.
 #[tactic(auto, unfolding(crate::specs::KernelTypes::no_file_fault))]
 fn parse_file(file: &[u8]) -> Result<ElfFile<'_>, KernelTypesError>
     ensures fault { fault_of result ≡ no_file_fault file.now }
@@ -258,7 +263,7 @@ fn parse_file(file: &[u8]) -> Result<ElfFile<'_>, KernelTypesError>
     }
 }
 
-/// What `.BTF` of a file comes to; None without one.
+/// The bytes of the types for the kernel, from a file; None without `.BTF`.
 #[tactic(auto, unfolding(crate::specs::KernelTypes::btf_section))]
 fn types_of_parsed(alloc: Global, file: &ElfFile<'_>) -> Result<Option<Items<u8>>, KernelTypesError>
     ensures { Gives is_kernel_types_memory result (types_of_found file.now (btf_section file.now)) }
@@ -269,7 +274,7 @@ fn types_of_parsed(alloc: Global, file: &ElfFile<'_>) -> Result<Option<Items<u8>
     }
 }
 
-/// What `.BTF` comes to of the file that bytes are; None without one.
+/// The bytes of the types for the kernel, from the bytes of a file; None without `.BTF`.
 #[tactic(auto, unfolding(crate::specs::KernelTypes::kernel_types_of))]
 fn types_in(alloc: Global, file: &[u8]) -> Result<Option<Items<u8>>, KernelTypesError>
     ensures { Gives is_kernel_types_memory result (kernel_types_of file.now) }
@@ -277,35 +282,51 @@ fn types_in(alloc: Global, file: &[u8]) -> Result<Option<Items<u8>>, KernelTypes
     types_of_parsed(alloc, &parse_file(file)?)
 }
 
-/// The types of an object as the kernel takes them (`BPF_BTF_LOAD`), of the bytes of an ELF64 file; None where it has no
-/// section `.BTF`.
+/// Returns the types of an object in the form that the kernel takes (`BPF_BTF_LOAD`).
 ///
-/// They are the file's `.BTF`, but for these words, so that ids of types and offsets of strings stay (libbpf 1.5 writes the
-/// same ones, where some INT has 4 bytes):
+/// `file` holds the bytes of an ELF64 file. The result is `None` where the file has no section `.BTF`.
 ///
-/// - A DATASEC but `.ksyms` and `.kconfig` that states size 0 gets the size of the file's section of its name, and the
-///   entries of its global variables the addresses of the first GLOBAL or WEAK symbols of type OBJECT with their names, in
-///   32 bits. In each such DATASEC, also where it states a size, hidden and internal variables get static linkage, and the
-///   entries stand in the order of their offsets, those of one offset as they stood.
-/// - The first global FUNC with the name of a hidden or internal function of `.text` gets static linkage.
-/// - Of a DATASEC `.ksyms` each entry has 4 bytes, one behind the other. A VAR gets the type of the first INT of 4 bytes and
-///   global linkage; a FUNC global linkage, and its parameters that have a type and no name a name, and in its entry stands
-///   the variable `ksym_func_placeholder`, which is appended. Where no INT has 4 bytes, `int` is appended before it (libbpf
-///   appends none, and gives the variables the type void, which the kernel refuses).
-/// - Of a DATASEC `.kconfig` the entries have the offsets of the externs in the value of their map, by descending alignment,
-///   ascending size and name, and stand in their order; its size is that of the value, and the VARs get global linkage.
+/// The result is the file's `.BTF` with some words written over it. Ids of types and offsets of strings stay. The
+/// header has 24 bytes; the types follow it, and then the strings. libbpf 1.5 writes the same words, where some INT has
+/// 4 bytes:
 ///
-/// The header is the one of 24 bytes, the types behind it and then the strings. Kinds of types that an older kernel lacks
-/// are not replaced.
+/// - Size of a DATASEC: a DATASEC other than `.ksyms` and `.kconfig` that states size 0 gets the size of the file's
+///   section of the same name.
+/// - Offsets: the entries of the global variables of such a DATASEC get the addresses of their symbols, cut to 32 bits.
+///   The symbol of a variable is the first GLOBAL or WEAK symbol of type OBJECT with its name.
+/// - Linkage and order: in each DATASEC other than `.ksyms` and `.kconfig`, hidden and internal variables get static
+///   linkage, and the entries are sorted by offset. Entries of one offset keep their order.
+/// - Hidden functions: the first global FUNC with the name of a hidden or internal function of `.text` gets static
+///   linkage.
+/// - `.ksyms`: each entry has 4 bytes, one behind the other. A VAR gets the type of the first INT of 4 bytes and global
+///   linkage. A FUNC gets global linkage, and its parameters that have a type and no name get a name. The entry of a
+///   FUNC names the variable `ksym_func_placeholder`, which is appended.
+/// - `.ksyms` without an INT of 4 bytes: `int` is appended first. libbpf appends none, and gives the variables the type
+///   void, which the kernel refuses.
+/// - `.kconfig`: the entries have the offsets of the externs in the value of their map, and are sorted by offset. The
+///   order of the externs is by descending alignment, ascending size and name. The size of the DATASEC is the size of
+///   the value, and the VARs get global linkage.
+///
+/// Kinds of types that an older kernel lacks are not replaced.
 ///
 /// # Errors
 ///
-/// In this order: `ElfError` where the bytes are no file or `.BTF` passes its end; `BtfError` with that of `Btf::parse`;
-/// `TooLarge` where ids or offsets of strings come near 32 bits; then the first fault of the DATASECs by id: `TooLarge` of
-/// one with more than 65,535 entries, which no file has. Of one of own variables `NoSectionSize`, and then of its entries
-/// `NotAVariable`, and `NoSymbol` of a global VAR without a symbol; of `.ksyms` `NotAVariable` of an entry that names neither
-/// a VAR nor a FUNC; of `.kconfig` `NotAVariable`, `UnsupportedExtern`, and `TooLarge` where the value passes 32 bits. At
-/// last `TooLarge` where types or strings take 2^32 bytes. `OutOfMemory` only where memory was refused.
+/// In this order:
+///
+/// - `ElfError`: the bytes are no file, or `.BTF` runs past the end of the file.
+/// - `BtfError`: `Btf::parse` refuses `.BTF` with this error.
+/// - `TooLarge`: ids or offsets of strings come near 32 bits.
+/// - The first fault of the DATASECs, by id:
+///   - `TooLarge`: the DATASEC has more than 65,535 entries (no file has one), or the value of `.kconfig` passes 32
+///     bits.
+///   - `NoSectionSize`: a DATASEC of the file's own variables has no size.
+///   - `NotAVariable`: an entry names no VAR, in `.ksyms` neither a VAR nor a FUNC.
+///   - `NoSymbol`: a global VAR of the file's own variables has no symbol.
+///   - `UnsupportedExtern`: an extern of `.kconfig` is of another type than an integer, an enumeration or an array of
+///     these.
+/// - `TooLarge`: the types or the strings take 2^32 bytes or more.
+///
+/// `OutOfMemory`: an allocation failed.
 pub fn kernel_types(alloc: Global, file: &[u8]) -> Result<Option<Vec<u8>>, KernelTypesError>
     ensures types { IfOk result (λ types.
         kernel_types_of file.now ≡ Ok (option_map (λ bytes. bytes.items) types)) }

@@ -1,4 +1,4 @@
-//! The DATASEC of the kernel's symbols, and what stands in for the kernel's functions and variables.
+//! The DATASEC of the kernel's symbols, and the types that replace the kernel's functions and variables in it.
 
 ghost use Rattle.std.specs.Prelude.{◌≡◌, ◌++◌, ◌==◌, ◌<◌, ◌^◌, IfOk, OnOk, length, ◌+◌, ◌*◌};
 ghost use Rattle.std.specs.List.{list_any, flat_map};
@@ -16,18 +16,18 @@ use ebpf_btf::strings::is_text_at;
 use ebpf_btf::{Btf, BtfParam, BtfType, DataSecEntry, Rows};
 use std::alloc::{AllocError, Global};
 
-/// The types that stand in for what `.ksyms` names.
+/// The types that replace the externs of `.ksyms`.
 #[derive(Clone, Copy)]
 pub struct Standins {
     /// The id of an INT of 4 bytes.
     pub int_id: u32,
-    /// Whether it is appended.
+    /// Whether the INT is appended.
     pub adds_int: bool,
-    /// The id of the variable that stands in for functions.
+    /// The id of the variable that replaces functions.
     pub variable_id: u32,
-    /// The offset of its name.
+    /// The offset of the variable's name.
     pub name_offset: u32,
-    /// Whether it is appended.
+    /// Whether the variable is appended.
     pub adds_variable: bool,
 }
 
@@ -131,7 +131,11 @@ fn any_functions(types: &Btf) -> bool
     false
 }
 
-/// The types that stand in. `TooLarge` where an id or an offset passes 32 bits.
+/// The types that replace the externs of `.ksyms` in some types.
+///
+/// # Errors
+///
+/// - `TooLarge`: an id or an offset of a string passes 32 bits.
 pub fn standins_for(types: &Btf) -> Result<Standins, KernelTypesError>
     ensures standins { result ≡ standins_or_fault types.now }
     ensures small { IfOk result (λ _. length types.now.strings < 2 ^ 32) }
@@ -174,7 +178,11 @@ fn append_word(order: Endianness, out: &mut Vec<u8>, word: u32) -> Result<(), Al
     }
 }
 
-/// Appends the bytes of words.
+/// Appends the bytes of words, 4 bytes each.
+///
+/// # Errors
+///
+/// - `AllocError`: an allocation failed.
 pub fn append_words(order: Endianness, out: &mut Vec<u8>, words: &[u32]) -> Result<(), AllocError>
     ensures { OnOk result (out.new.items ≡ out.old.items ++ flat_map (word_bytes order) words.now) }
 {
@@ -184,7 +192,11 @@ pub fn append_words(order: Endianness, out: &mut Vec<u8>, words: &[u32]) -> Resu
     Ok(())
 }
 
-/// Appends the types that stand in: the INT, whose name is at an offset, and the variable.
+/// Appends the INT and the variable that replace externs. The name of the INT is at the offset.
+///
+/// # Errors
+///
+/// - `AllocError`: an allocation failed.
 pub fn append_types(
     order: Endianness,
     int_name: u32,
@@ -204,7 +216,11 @@ pub fn append_types(
     Ok(())
 }
 
-/// The strings, and the names of the types that stand in.
+/// The strings of some types, with the names of the appended types behind them.
+///
+/// # Errors
+///
+/// - `AllocError`: an allocation failed.
 pub fn all_strings(alloc: Global, types: &Btf, standins: Standins) -> Result<Vec<u8>, AllocError>
     ensures { IfOk result (λ strings. strings.items ≡ all_strings types.now standins) }
 {
@@ -358,7 +374,7 @@ fn extern_words(
     }
 }
 
-/// The words of what the entries name.
+/// The words of the VARs and FUNCs that the entries name.
 fn externs_words(
     alloc: Global,
     sources: &Sources<'_>,
@@ -378,7 +394,7 @@ fn externs_words(
     Ok(words)
 }
 
-/// The type that an entry names: in place of a FUNC the variable that stands in.
+/// The type that an entry names: the placeholder variable in place of a FUNC.
 fn standing_type(types: &Btf, standins: Standins, type_id: u32) -> u32
     ensures { result ≡ standing_type types.now standins type_id }
 {
@@ -413,6 +429,11 @@ fn ksyms_rows(
 }
 
 /// The words of a DATASEC of the kernel's symbols.
+///
+/// # Errors
+///
+/// - `NotAVariable`: an entry names a type that is neither a VAR nor a FUNC.
+/// - `OutOfMemory`: an allocation failed.
 pub fn ksyms_words(
     alloc: Global,
     sources: &Sources<'_>,

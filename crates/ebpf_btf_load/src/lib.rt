@@ -1,4 +1,4 @@
-//! The types of an object as the kernel takes them.
+//! The types of an object in the form that the kernel takes.
 #![tactic(auto)]
 
 mod data_sections;

@@ -1,4 +1,4 @@
-//! What the words of sections are found from, and where each type stands.
+//! The inputs from which the words of DATASECs are computed, and the offset of each type.
 
 ghost use Rattle.std.specs.Prelude.{◌≡◌, ◌≤◌, ◌<◌, ◌^◌, ◌*◌, length, IfOk};
 ghost use Rattle.std.specs.List.{find};
@@ -16,7 +16,7 @@ use ebpf_btf::{Btf, BtfKind, BtfType};
 use ebpf_elf::{ElfFile, ElfSection, ElfSymbol};
 use std::alloc::{AllocError, Global};
 
-/// What the words of sections are found from.
+/// The inputs from which the words of DATASECs are computed.
 #[derive(Drop)]
 pub struct Sources<'a> {
     /// The byte order of the types.
@@ -25,15 +25,15 @@ pub struct Sources<'a> {
     pub part: &'a [u8],
     /// The types.
     pub types: &'a Btf,
-    /// Where each type stands.
+    /// The offset of each type in its part, in bytes, by id.
     pub starts: &'a [u32],
     /// The file.
     pub file: &'a ElfFile<'a>,
-    /// The entries of its symbols.
+    /// The bytes of the file's symbol table.
     pub table: &'a [u8],
 }
 
-/// So many bytes behind where the type with an id stands.
+/// The offset `within` bytes behind the start of the type with an id.
 pub fn place_in(sources: &Sources<'_>, type_id: u32, within: usize) -> usize
     requires { within ≤ 16 }
     ensures place { result ≡ place_in (given_of sources.now) type_id within }
@@ -43,6 +43,10 @@ pub fn place_in(sources: &Sources<'_>, type_id: u32, within: usize) -> usize
 }
 
 /// The offset of a variable's name, and its linkage.
+///
+/// # Errors
+///
+/// - `NotAVariable`: the type with the id is no VAR.
 #[tactic(auto, unfolding(crate::specs::SectionWords::linked_variable))]
 pub fn linked_variable(types: &Btf, type_id: u32) -> Result<(u32, u32), KernelTypesError>
     ensures { result ≡ linked_variable types.now type_id }
@@ -99,7 +103,11 @@ fn file_size(type_id: u32, section: Option<&ElfSection<'_>>) -> Result<u32, Kern
     }
 }
 
-/// The size that a DATASEC gets: the one that it states, or that of the file's section.
+/// The size that a DATASEC gets: the one that it states, or the size of the file's section of its name.
+///
+/// # Errors
+///
+/// - `NoSectionSize`: the DATASEC states size 0, and the file has no section of its name with a size of 32 bits.
 pub fn full_size(
     sources: &Sources<'_>,
     type_id: u32,
@@ -115,7 +123,7 @@ pub fn full_size(
     file_size(type_id, section.as_ref())
 }
 
-/// How many words follow the first three of a type.
+/// The number of words behind the first three of a type.
 #[tactic(auto, unfolding(ebpf_btf::specs::Format::further_words))]
 fn further_words(kind: BtfKind, count: u32) -> usize
     requires { count ≤ 65535 }
@@ -132,7 +140,7 @@ fn further_words(kind: BtfKind, count: u32) -> usize
     }
 }
 
-/// The vlen of an info word, its low 16 bits.
+/// The vlen of an info word: its low 16 bits.
 #[tactic(auto, unfolding(ebpf_btf::specs::Format::info_vlen))]
 fn info_vlen(info: u32) -> u32
     ensures count { result ≡ info_vlen info }
@@ -141,7 +149,7 @@ fn info_vlen(info: u32) -> u32
     info & 0xffff
 }
 
-/// Where a type of a kind that begins at an offset ends: there where it has no bytes, or passes the end.
+/// The end of a type that begins at an offset: the offset itself where the type has no bytes, or passes the end.
 #[tactic(auto, unfolding(crate::specs::TypeSources::type_end))]
 fn type_end(order: Endianness, part: &[u8], offset: u32, kind: BtfKind) -> u32
     requires small { length part.now < 2 ^ 32 }
@@ -158,7 +166,7 @@ fn type_end(order: Endianness, part: &[u8], offset: u32, kind: BtfKind) -> u32
     end as u32
 }
 
-/// Where types stand in their part, by their ids from 0 on, `void` among them.
+/// The offsets of the types in their part, by id from 0 on, with `void` among them.
 pub fn type_starts(
     alloc: Global,
     order: Endianness,
@@ -177,7 +185,7 @@ pub fn type_starts(
     Ok(starts)
 }
 
-/// Where the type with an id stands.
+/// The offset of the type with an id, in bytes.
 pub fn start_of(starts: &[u32], type_id: u32) -> u32
     ensures { result ≡ start_of starts.now type_id }
 {

@@ -1,4 +1,4 @@
-//! Symbols by binding, type and visibility, and the functions that are hidden.
+//! Symbols by binding, type and visibility (gABI, "Symbol Table"), and the functions that are hidden.
 
 ghost use Rattle.std.specs.Prelude.{◌≡◌, ◌<◌, ◌==◌, ◌&&◌, IfOk};
 ghost use Rattle.std.specs.List.{find};
@@ -34,7 +34,7 @@ fn table_section<'a>(file: &ElfFile<'a>) -> Option<ElfSection<'a>>
     None
 }
 
-/// The bytes of a section, none where they run past the end of the file.
+/// The bytes of a section; empty where they run past the end of the file.
 fn section_bytes<'a>(section: &ElfSection<'a>) -> &'a [u8]
     ensures { result.now ≡ entry_bytes section.now }
 {
@@ -44,7 +44,7 @@ fn section_bytes<'a>(section: &ElfSection<'a>) -> &'a [u8]
     }
 }
 
-/// The bytes of the symbol table; none without one.
+/// The bytes of the symbol table; empty without one.
 pub fn symbol_table<'a>(file: &ElfFile<'a>) -> &'a [u8]
     ensures { result.now ≡ symbol_table_bytes file.now }
 {
@@ -138,7 +138,7 @@ pub fn variable_symbol<'a>(
 /// The info word of a FUNC of static linkage.
 const STATIC_FUNC: u32 = 0x0c00_0000;
 
-/// Whether the FUNC with an id is of global linkage, which its info word has in place of a count.
+/// Whether the FUNC with an id has global linkage, which its info word has in place of a count.
 #[tactic(auto, unfolding(crate::specs::KsymsSections::is_global))]
 fn is_global(sources: &Sources<'_>, type_id: u32) -> bool
     ensures { result ≡ is_global (given_of sources.now) type_id }
@@ -236,7 +236,11 @@ fn hidden_words_in(
     Ok(words)
 }
 
-/// The words of the FUNCs of hidden functions.
+/// The words of the FUNCs of hidden functions, which make these static.
+///
+/// # Errors
+///
+/// - `AllocError`: an allocation failed.
 pub fn hidden_words(alloc: Global, sources: &Sources<'_>) -> Result<Items<WrittenWord>, AllocError>
     ensures { IfOk result (λ words. words ≡ hidden_words (given_of sources.now)) }
 {

@@ -13,28 +13,30 @@ use std::alloc::AllocError;
 /// The maximum number of anonymous members around a name that is looked for.
 const UNNAMED_LEVELS: u32 = 64;
 
-/// The reason why a record has no value: what the kernel's types lack. Of a field, the type counts that has the field's
-/// path furthest, and of types that have it as far the one with the lowest id.
+/// The reason why a record has no value: the part that the kernel's types lack.
+///
+/// For a field, the candidate counts that has the maximum number of steps of the field's path. Of several such
+/// candidates the one with the lowest id counts.
 #[derive(Clone, Copy, Debug, PartialEq, Eq)]
 pub enum Absence {
     /// No type has the kind and the name.
     NoType,
     /// Types have the kind and the name, and none is compatible with the local one.
     TypeOfAnotherKind,
-    /// There is no member of a name on the way to the field, or no element of a number.
+    /// The path needs a member of a name that the types lack, or an element of a number that they lack.
     NoMember,
-    /// There is a member of the name, and its type is not compatible with the local one's.
+    /// A member has the name, and the member's type is not compatible with the type of the local one.
     MemberOfAnotherKind,
     /// No enumeration has a variant of the name.
     NoEnumerator,
-    /// The field is there, and what is asked of it can't be had.
+    /// The field exists, and the value that the record asks for can't be computed.
     NoValue,
 }
 
-/// The candidate that comes furthest along a path, and the number of steps.
+/// The candidate that comes furthest along a path, and the number of its steps.
 #[derive(Clone, Copy)]
 pub struct Furthest {
-    /// The candidate's id. None where no step leads anywhere.
+    /// The id of the candidate. `None` where no step leads anywhere.
     pub candidate: Option<u32>,
     /// The number of steps that lead somewhere in the candidate.
     pub steps: usize,
@@ -57,7 +59,7 @@ fn members_of_id(target: &Btf, type_id: u32) -> Rows<'_, BtfMember>
     ty.members().unwrap_or(Rows::of(&[]))
 }
 
-/// Whether a type has a member of a name. Unnamed members are looked into, so many levels down.
+/// Whether a type has a member of a name. Unnamed members are searched, up to `levels` deep.
 fn has_member(target: &Btf, name: &str, type_id: u32, levels: u32) -> bool
     ensures { result ≡ has_member target.now name.now levels (members_of_id target.now type_id) }
 {
@@ -156,7 +158,7 @@ fn field_absence(
     }
 }
 
-/// The reason why a path of the local type has no value among candidates, the target types that it may stand for.
+/// The reason why a path of the local type has no value among its candidates, the target types of its kind and name.
 pub fn absence_among(
     local: &Btf,
     target: &Btf,
@@ -178,7 +180,7 @@ pub fn absence_among(
     }
 }
 
-/// Whether so many steps of a path lead somewhere in a candidate.
+/// Whether `steps` steps of a path lead somewhere in a candidate.
 fn leads(
     local: &Btf,
     target: &Btf,
@@ -219,8 +221,10 @@ fn reach_past(
     Ok(path.len())
 }
 
-/// The candidate that comes furthest along a path, the first of those that come as far. A candidate is tried with one
-/// step more than those before it came, and with further steps only while these lead somewhere.
+/// The candidate that comes furthest along a path. Of candidates with as many steps the first counts.
+///
+/// A candidate is tried with one step more than those before it had, and with further steps only while these lead
+/// somewhere.
 #[tactic(auto, unfolding(crate::specs::Absences::furthest))]
 pub fn furthest_candidate(
     local: &Btf,

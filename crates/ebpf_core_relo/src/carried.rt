@@ -20,13 +20,13 @@ const GREATEST_OFFSET: u64 = 32_767;
 /// The part of a slot that carries a number.
 #[derive(Clone, Copy)]
 pub enum Carrier {
-    /// In its immediate.
+    /// The immediate of the slot.
     Immediate,
-    /// In its offset.
+    /// The offset of the slot.
     Offset,
-    /// In its immediate and that of the slot behind it.
+    /// The immediates of the slot and of the slot behind it.
     WideLoad,
-    /// Nowhere.
+    /// No part of the slot.
     Nothing,
 }
 
@@ -56,7 +56,7 @@ fn high_half(number: u64) -> i32
     ((number >> 32) as u32).cast_signed()
 }
 
-/// The bits of a load's or store's code that say how many bytes it moves (RFC 9669, section 5.1).
+/// The bits of a load's or store's code for a number of bytes (RFC 9669, section 5.1).
 fn size_bits(size: u32) -> Option<u8>
     ensures bits { result ≡ size_bits size }
     ensures small { IfSome result (λ bits. bits ≤ 24) }
@@ -70,7 +70,7 @@ fn size_bits(size: u32) -> Option<u8>
     }
 }
 
-/// A load's or store's code that moves so many bytes.
+/// A load's or store's code that moves a number of bytes.
 fn resized_code(code: u8, size: u32) -> Option<u8>
     ensures { result ≡ resized_code code size }
 {
@@ -130,7 +130,7 @@ fn with_offset(slot: bpf_insn, number: u64, outcome: &Outcome) -> Option<bpf_ins
     })
 }
 
-/// A slot that fails where it is reached.
+/// A slot that fails where it is executed.
 fn poison() -> bpf_insn
     ensures { result ≡ poison }
 {
@@ -191,7 +191,7 @@ fn patched_next_slot(value: Option<u64>, next: bpf_insn) -> bpf_insn
     }
 }
 
-/// `InvalidInstructionIndex` of a slot that is not there.
+/// The error `InvalidInstructionIndex` of a slot that is missing.
 fn missing_slot<X>(
     slots: &[bpf_insn],
     slot: usize,
@@ -206,7 +206,7 @@ fn missing_slot<X>(
     })
 }
 
-/// `InvalidInstruction` of a slot that can't carry a number.
+/// The error `InvalidInstruction` of a slot that can't carry a number.
 fn no_carrier<X>(
     alloc: Global,
     slot: usize,
@@ -224,22 +224,24 @@ fn no_carrier<X>(
     })
 }
 
-/// The slot of a record with the outcome of the record, and the slot behind it where the outcome takes both.
+/// The slot of a record with the record's outcome, and the slot behind it where the outcome takes both.
 #[derive(Clone, Copy)]
 pub struct PatchedSlots {
     pub slot: bpf_insn,
     pub next: Option<bpf_insn>,
 }
 
-/// Slot `at` of a function with the outcome of a record. Nothing is written.
+/// Returns slot `at` of a function with the outcome of a record. Nothing is written.
 ///
 /// # Errors
 ///
-/// - `InvalidInstructionIndex`: the slot, or the second slot of a wide load, is not there.
-/// - `InvalidInstruction`: the slot can't carry the number: a jump, arithmetic with a source register, a load or store of
-///   a number past 32,767, or of a field of another size that is not 1, 2, 4 or 8 bytes or not a pointer or an integer
-///   without a sign on both sides.
-/// - `OutOfMemory`: memory is refused.
+/// - `InvalidInstructionIndex`: the slot, or the second slot of a wide load, is missing.
+/// - `InvalidInstruction`: the slot can't carry the number. It is one of these:
+///   - A jump, or arithmetic with a source register.
+///   - A load or store, where the number passes 32,767.
+///   - A load or store of a field whose size differs between the two sides, where the kernel's field is not 1, 2, 4 or
+///     8 bytes, or where a side is neither a pointer nor an unsigned integer.
+/// - `OutOfMemory`: an allocation failed.
 #[tactic(auto, unfolding(crate::specs::Carried::written))]
 pub fn patched_slots(
     alloc: Global,
@@ -278,7 +280,7 @@ pub fn patched_slots(
     })
 }
 
-/// Writes slot `at` of a function with the outcome of a record.
+/// Writes the outcome of a record to slot `at` of a function.
 pub fn put_slots_at(slots: &mut [bpf_insn], at: usize, patched: PatchedSlots)
     requires slot { at < length slots.old }
     requires next { HasRoom slots.old at patched.next }

@@ -1,4 +1,4 @@
-//! The errors of relocating the slots of a section to another kernel's types.
+//! The errors of relocating the slots of a section to the types of another kernel.
 
 ghost use Rattle.std.specs.Prelude.{◌≡◌, [], false, IfOk, OnOk};
 ghost use Rattle.ebpf_core.specs.declared.error.RelocationError.TheVariants.{OutOfMemory};
@@ -13,19 +13,19 @@ use ebpf_parts::Within;
 use std::alloc::{AllocError, Global};
 use thiserror::Error;
 
-/// The error of a record of `.BTF.ext` that can't be applied, and the section of the record.
+/// The error of a record of `.BTF.ext` that can't be applied, with the section of the record.
 #[derive(Debug, Drop, Error)]
 #[error("{}{error}", Within {what: "section", name: .section.as_str()})]
 pub struct BtfRelocationError {
-    /// The section's name; `section@OFFSET` where the name at that offset can't be read, and empty where memory was
-    /// refused.
+    /// The section's name. It is `section@OFFSET` where the name at that offset can't be read, and empty for
+    /// `OutOfMemory`.
     pub section: Text,
     /// The error of the record.
     pub error: RelocationError,
 }
 
 impl BtfRelocationError {
-    /// Out of memory, with an empty name.
+    /// Returns the error `OutOfMemory` with an empty name.
     pub fn memory(alloc: Global) -> BtfRelocationError
         ensures section { result.section ≡ [] }
         ensures error { result.error ≡ OutOfMemory }
@@ -37,7 +37,11 @@ impl BtfRelocationError {
     }
 }
 
-/// `AllocError` where memory was refused; gives any other fault back.
+/// Returns a fault that is not an allocation failure.
+///
+/// # Errors
+///
+/// - `AllocError`: the fault is an allocation failure.
 pub fn unless_memory(fault: RelocationError) -> Result<RelocationError, AllocError>
     ensures same { IfOk result (λ e. e ≡ fault) }
     ensures other { OnOk result (is_record_memory fault ≡ false) }
@@ -48,7 +52,11 @@ pub fn unless_memory(fault: RelocationError) -> Result<RelocationError, AllocErr
     }
 }
 
-/// `AllocError` where memory was refused to a look at types.
+/// Drops an error of reading types that is not an allocation failure.
+///
+/// # Errors
+///
+/// - `AllocError`: the error is an allocation failure.
 pub fn unless_memory_of_types(error: BtfError) -> Result<(), AllocError>
     ensures { OnOk result (types.is_btf_memory error ≡ false) }
 {
@@ -58,7 +66,11 @@ pub fn unless_memory_of_types(error: BtfError) -> Result<(), AllocError>
     }
 }
 
-/// `AllocError` where memory was refused to a look at a place.
+/// Drops a fault of following a path that is not an allocation failure.
+///
+/// # Errors
+///
+/// - `AllocError`: the fault is an allocation failure.
 pub fn unless_memory_of_places(fault: PlaceFault) -> Result<(), AllocError>
     ensures { OnOk result (places.is_place_memory fault ≡ false) }
 {

@@ -1,4 +1,4 @@
-//! CO-RE relocations written into the slots of functions.
+//! CO-RE relocations, written into the slots of functions.
 #![tactic(auto)]
 
 mod absence;

@@ -24,9 +24,9 @@ use std::alloc::{AllocError, Global};
 /// The outcome of each CO-RE record of an object, and the slots that all of them write.
 #[derive(Debug, Drop)]
 pub struct RecordOutcomes {
-    /// The records in order, also those behind one that is refused.
+    /// The outcomes of the records in order, also behind a record that is refused.
     pub records: Items<RecordOutcome>,
-    /// The slots that the records write, those that are refused aside, each over those before it, by the functions' keys.
+    /// The slots that the records write, by the functions' keys. A record that is refused writes none.
     pub written: ByKey<Items<bpf_insn>>,
 }
 
@@ -37,7 +37,7 @@ pub struct RecordOutcome {
     pub section_name: u32,
     /// The position among the records of the section, from 0 on.
     pub number: usize,
-    /// The slot of the record, where a function of the section has it.
+    /// The slot of the record. `None` where no function of the section has it.
     pub slot: Option<RecordSlot>,
     /// The result of the record.
     pub result: RecordResult,
@@ -55,18 +55,19 @@ pub struct RecordSlot {
 /// The result of a record.
 #[derive(Debug, Drop)]
 pub enum RecordResult {
-    /// The instruction carries a number: also the 0 that says that something is not there, where that is asked.
+    /// The instruction carries a number. The number is 0 where the record asks whether something exists, and it does
+    /// not.
     Value(Outcome),
-    /// There is no number, and the instruction fails where it is reached.
+    /// There is no number, and the instruction fails where it is executed.
     Absent(Absence),
-    /// The record can't be applied, and the instruction is as it was.
+    /// The record can't be applied, and the instruction is unchanged.
     Refused(RelocationError),
 }
 
-/// The result of a look-up of a section by the offset of its name.
+/// The result of a search for a section by the offset of its name.
 #[derive(Clone, Copy)]
 pub enum FoundSection {
-    /// The section has this number.
+    /// The number of the section.
     Number(usize),
     /// No name can be read at the offset.
     NoName(usize),
@@ -286,18 +287,21 @@ fn add_sections(
     Ok(())
 }
 
-/// The outcome of each CO-RE relocation of an object over a kernel's types, also behind one that is refused, and the slots
-/// of the functions that the relocations write. Sections come in order, and in a section the relocations. Each is applied
-/// over those before it; a refused one writes nothing.
+/// Returns the outcome of each CO-RE relocation of an object over the types of a kernel, and the slots that the
+/// relocations write.
 ///
-/// A relocation has a value, also the 0 that says that a type, field or variant is not there where that is asked. Or it
-/// has none, with what the kernel's types lack, and its instruction fails where it is reached. Or it is refused with the
-/// error that `relocate_slots` gives where it is the first: also where its section's name can't be read, the object has
-/// no section of the name, or no function of the section has the slot.
+/// The relocations come section by section, in their order. Each is applied over those before it. The list goes on
+/// behind a relocation that is refused, which writes nothing. A relocation has one of these results:
+///
+/// - `Value`: the instruction carries a number. It is 0 where the relocation asks whether a type, field or enumerator
+///   exists, and it does not.
+/// - `Absent`: no number, with the part that the kernel's types lack. The instruction fails where it is executed.
+/// - `Refused`: the error that `relocate_slots` returns where this relocation is the first refused one. This includes a
+///   section whose name can't be read, a name that no section has, and a slot that no function of the section has.
 ///
 /// # Errors
 ///
-/// - `AllocError`: memory is refused.
+/// - `AllocError`: an allocation failed.
 pub fn record_outcomes(
     alloc: Global,
     functions: &ByKey<Function>,

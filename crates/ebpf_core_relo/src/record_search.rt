@@ -21,7 +21,7 @@ use std::alloc::{AllocError, Global};
 use std::collections::BTreeMap;
 use std::marker::Model;
 
-/// The question of a record, without the position of the record.
+/// A record without its position.
 fn without_position(relocation: &Relocation) -> Relocation
     ensures { result ≡ without_position relocation.now }
 {
@@ -32,10 +32,9 @@ fn without_position(relocation: &Relocation) -> Relocation
     }
 }
 
-/// A search for the outcomes of records, and for the reasons of those that have no value. Absences are cached by their
-/// questions.
+/// A search for the outcomes of records, and for the reasons of records that have no value.
 ///
-/// Contracts see the two sides alone.
+/// Absences are cached by their questions. Contracts see the two sides alone.
 #[derive(Drop)]
 pub struct RecordSearch<'a> {
     search: CoreSearch<'a>,
@@ -58,7 +57,7 @@ impl<'a> Model for RecordSearch<'a> {
 }
 
 impl<'a> RecordSearch<'a> {
-    /// A search in the types of a kernel for those of an object. It takes no memory.
+    /// Returns a search in the types of a kernel for the types of an object. No memory is allocated.
     pub fn new(alloc: Global, local: &'a Btf, target: &'a Btf) -> RecordSearch<'a>
         ensures local { result.local ≡ local.now }
         ensures target { result.target ≡ target.now }
@@ -121,7 +120,11 @@ impl<'a> RecordSearch<'a> {
         Ok(())
     }
 
-    /// The reason why a record has no value.
+    /// Returns the reason why a record has no value.
+    ///
+    /// # Errors
+    ///
+    /// - `AllocError`: an allocation failed.
     pub fn absence(&mut self, alloc: Global, relocation: &Relocation) -> Result<Absence, AllocError>
         ensures absence { IfOk result (λ absence.
             absence ≡ absence_of self.old.local self.old.target relocation.now) }
@@ -153,8 +156,9 @@ impl<'a> RecordSearch<'a> {
         Ok(RecordResult::Absent(absence))
     }
 
-    /// The result of a record of a section, applied to the function that holds its instruction. A refused record writes
-    /// nothing.
+    /// Returns the result of a record of a section, and applies the record to the function that holds its instruction.
+    ///
+    /// A refused record writes nothing.
     pub fn result_in(
         &mut self,
         alloc: Global,

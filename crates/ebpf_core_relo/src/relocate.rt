@@ -54,9 +54,11 @@ fn written_slots(
     Ok(written)
 }
 
-/// The slots of the functions that the CO-RE relocations of an object write, by the functions' keys: each relocation's
-/// instruction carries the number that it asks of the target types. Sections come in order, and in a section the
-/// relocations, each over those before it. The other slots of a function are as before.
+/// Returns the slots of the functions that the CO-RE relocations of an object write, by the functions' keys.
+///
+/// The instruction of each relocation carries the number that the relocation asks of the target types. The relocations
+/// are applied section by section, in their order, each over those before it. The other slots of a function are
+/// unchanged.
 ///
 /// # Errors
 ///
@@ -65,9 +67,9 @@ fn written_slots(
 /// - `BtfError` in `section@OFFSET`: the section's name can't be read.
 /// - `SectionNotFound`: the object has no section of the name.
 /// - `FunctionNotFound`: no function of the section has the slot.
-/// - The errors of the search for the type, field or variant.
+/// - The errors of the search for the type, field or enumerator.
 /// - `InvalidInstruction`, `InvalidInstructionIndex`: the slot can't carry the outcome.
-/// - `OutOfMemory`, with an empty name: memory is refused.
+/// - `OutOfMemory`, with an empty name: an allocation failed.
 pub fn relocate_slots(
     alloc: Global,
     functions: &ByKey<Function>,
@@ -113,7 +115,7 @@ fn set_slots_at(functions: &mut ByKey<Function>, key: (usize, u64), slots: Items
     set_slots(function, slots);
 }
 
-/// Replaces the slots of functions by those at their keys. No memory is taken.
+/// Replaces the slots of functions by those at their keys. No memory is allocated.
 pub fn put_slots(functions: &mut ByKey<Function>, written: ByKey<Items<bpf_insn>>)
     ensures { (q : FunctionKey)
         → map.get functions.new q ≡ with_slots (map.get written q) (map.get functions.old q) }

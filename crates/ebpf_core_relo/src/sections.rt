@@ -106,6 +106,11 @@ fn apply_named(
 }
 
 /// Applies all records, section by section.
+///
+/// # Errors
+///
+/// - The first fault, with the name of its section.
+/// - `OutOfMemory`, with an empty name: an allocation failed.
 pub fn apply_all(
     alloc: Global,
     search: &mut CoreSearch<'_>,
@@ -129,7 +134,7 @@ pub fn apply_all(
     Ok(())
 }
 
-/// Takes the slots of a function out of those that are written, or copies its own.
+/// Takes the slots of a function out of those that are written, or copies the function's own.
 fn take_slots(
     alloc: Global,
     function_spans: &FunctionSpans<'_>,
@@ -203,7 +208,7 @@ fn with_patched_slots(slots: Items<bpf_insn>, at: usize, patched: PatchedSlots) 
     Items::from_vec(slots)
 }
 
-/// Puts the outcome of a record into the function that takes a span. A refused record writes nothing.
+/// Puts the outcome of a record into the function with a span. A refused record writes nothing.
 #[tactic(auto, unfolding(crate::specs::Records::put_outcome))]
 fn put_outcome(
     alloc: Global,
@@ -242,6 +247,13 @@ fn put_outcome(
 }
 
 /// Applies a record of a section to the function that holds its instruction. A refused record writes nothing.
+///
+/// # Errors
+///
+/// - `FunctionNotFound`: no function of the section has the slot.
+/// - The errors of the search for the type, field or enumerator.
+/// - `InvalidInstruction`, `InvalidInstructionIndex`: the slot can't carry the outcome.
+/// - `OutOfMemory`: an allocation failed.
 #[tactic(auto, unfolding(crate::specs::Records::record_applied))]
 pub fn apply_record(
     alloc: Global,
@@ -267,6 +279,10 @@ pub fn apply_record(
 }
 
 /// Applies the records of a section in order.
+///
+/// # Errors
+///
+/// The error of `apply_record` for the first record that has one.
 pub fn apply_records(
     alloc: Global,
     search: &mut CoreSearch<'_>,

@@ -25,7 +25,9 @@ pub struct Span {
     pub end: usize,
 }
 
-/// Spans of which each begins no earlier than the one before it. Contracts see their list.
+/// Spans of which each begins no earlier than the one before it.
+///
+/// Contracts see the list of the spans.
 #[derive(Drop)]
 pub struct RisingSpans {
     spans: Vec<Span>,
@@ -46,10 +48,10 @@ impl Model for RisingSpans {
     ghost invariant = { λ s. IsTopped s.spans.items s.ends.items s.top s.last_start };
 }
 
-/// The spans of the functions of one section, in the order of their addresses. They are kept as runs, in each of which
-/// no span begins before the one in front of it. Where no address wraps past 2^64 there is one, else there are two.
+/// The spans of the functions of one section, in the order of their addresses.
 ///
-/// Contracts see their list.
+/// The spans are kept as runs. In a run no span begins before the one in front of it. There is one run where no address
+/// wraps past 2^64, else there are two. Contracts see the list of the spans.
 #[derive(Drop)]
 pub struct Spans {
     before: Vec<RisingSpans>,
@@ -101,7 +103,11 @@ impl Spans {
         Ok(())
     }
 
-    /// Adds a span behind the others. After an `AllocError` nothing is known of these spans.
+    /// Adds a span behind the others.
+    ///
+    /// # Errors
+    ///
+    /// - `AllocError`: an allocation failed. The content of these spans is unknown afterwards.
     #[tactic(auto, using(crate::proofs::Tops::behind_last))]
     pub fn push(&mut self, alloc: Global, span: Span) -> Result<(), AllocError>
         ensures { OnOk result (self.new ≡ self.old ++ span ∷ []) }
@@ -144,14 +150,18 @@ impl RisingSpans {
         }
     }
 
-    /// The start of the last span, in bytes; 0 where there is none.
+    /// Returns the start of the last span, in bytes; 0 where there is none.
     pub fn last_start(&self) -> usize
         ensures { result ≡ last_start 0 self.now }
     {
         self.last_start
     }
 
-    /// Adds a span that begins no earlier than the last. After an `AllocError` nothing is known of these spans.
+    /// Adds a span that begins no earlier than the last.
+    ///
+    /// # Errors
+    ///
+    /// - `AllocError`: an allocation failed. The content of these spans is unknown afterwards.
     pub fn push(&mut self, span: Span) -> Result<(), AllocError>
         requires { last_start 0 self.old ≤ span.start }
         ensures { OnOk result (self.new ≡ self.old ++ span ∷ []) }
@@ -220,6 +230,10 @@ fn add(
 }
 
 /// The spans of all functions, by the sections of their keys, in the order of their addresses.
+///
+/// # Errors
+///
+/// - `AllocError`: an allocation failed.
 #[tactic(auto, using(crate::proofs::Tops::span_more, crate::proofs::Tops::span_none, crate::proofs::Tops::span_all))]
 pub fn section_spans(
     alloc: Global,
@@ -235,7 +249,7 @@ pub fn section_spans(
     Ok(sections)
 }
 
-/// The span in a section that holds an offset, in bytes, and has the lowest address.
+/// The span in a section that holds an offset in bytes. Of several the one with the lowest address counts.
 pub fn span_in(sections: &BySection<Spans>, section: usize, offset: usize) -> Option<Span>
     ensures { result ≡ span_at offset (spans_or_none (map.get sections.now section)) }
 {
@@ -245,14 +259,21 @@ pub fn span_in(sections: &BySection<Spans>, section: usize, offset: usize) -> Op
 /// Functions with their spans, and the sections' indexes by name.
 #[derive(Drop)]
 pub struct FunctionSpans<'a> {
+    /// The functions by section and address.
     pub functions: &'a ByKey<Function>,
+    /// The indexes of the sections by name.
     pub section_infos: &'a ByName<SectionIndex>,
+    /// The spans of the functions by section.
     pub spans: BySection<Spans>,
     ghost spans_are: { (q : ℕ) → spans_or_none (map.get spans q) ≡ spans_of functions.now q },
 }
 
 impl<'a> FunctionSpans<'a> {
-    /// The spans of functions. `AllocError` where memory is refused.
+    /// Returns the spans of functions.
+    ///
+    /// # Errors
+    ///
+    /// - `AllocError`: an allocation failed.
     pub fn new(
         alloc: Global,
         functions: &'a ByKey<Function>,

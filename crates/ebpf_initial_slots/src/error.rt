@@ -1,4 +1,4 @@
-//! Why the initial values of maps can't be told.
+//! The errors of finding the initial values of maps.
 
 ghost use Rattle.std.specs.Prelude.{◌≡◌};
 ghost use Rattle.ebpf_initial_slots.specs.declared.error.InitialSlotError.TheVariants.{OutOfMemory};
@@ -8,11 +8,14 @@ use ebpf_elf::ElfReadError;
 use std::alloc::{AllocError, AllocFailed};
 use thiserror::Error;
 
-/// Why the initial values of maps can't be told. `map` is the map that they are for, `target` the symbol that a relocation
-/// names, `place` the relocation's offset in the section `.maps`, in bytes.
+/// The reason why the initial values of maps can't be found.
+///
+/// - `map`: the name of the map that has the values.
+/// - `target`: the name of the symbol that a relocation names.
+/// - `place`: the relocation's offset in the section `.maps`, in bytes.
 #[derive(Debug, Drop, Error)]
 pub enum InitialSlotError {
-    /// The bytes are no file.
+    /// The bytes are no ELF64 file.
     #[error("{0}")]
     ElfError(ElfReadError),
     /// The object has no symbol of the index that a relocation names.
@@ -26,20 +29,20 @@ pub enum InitialSlotError {
     OutsideMaps {
         place: u64,
     },
-    /// A map has initial values that holds neither maps nor programs.
+    /// A map with initial values is neither a map of maps nor an array of programs.
     #[error("the map {:?} of type {map_type} has initial values, but is neither a map of maps nor an array of programs", .map.as_str())]
     UnsupportedMapType {
         map: Text,
         /// The number of its type.
         map_type: u32,
     },
-    /// A value of a map of maps doesn't stand in the section `.maps`.
+    /// A value of a map of maps is not in the section `.maps`.
     #[error("the value {:?} of the map of maps {:?} is not in .maps", .target.as_str(), .map.as_str())]
     NotInMaps {
         map: Text,
         target: Text,
     },
-    /// A hash of maps has initial values, and keys of another size than 4 bytes.
+    /// A hash of maps with initial values has keys of another size than 4 bytes.
     #[error("the hash of maps {:?} has initial values and keys of {key_size} bytes: only of 4 can be", .map.as_str())]
     UnsupportedKeySize {
         map: Text,
@@ -75,13 +78,13 @@ pub enum InitialSlotError {
         map: Text,
         place: u64,
     },
-    /// The place is no multiple of 8 bytes behind the begin of the map's `values`.
+    /// The place is not a multiple of 8 bytes behind the start of the map's `values`.
     #[error("the relocation at offset {place:#x} of .maps is at no whole value of the map {:?}", .map.as_str())]
     Misaligned {
         map: Text,
         place: u64,
     },
-    /// No memory was found.
+    /// An allocation failed.
     #[error("out of memory")]
     OutOfMemory,
 }

@@ -1,4 +1,5 @@
-//! The initial values of maps of maps and of arrays of programs: which maps and programs stand in them before anything runs.
+//! The initial values of maps of maps and of arrays of programs: the maps and programs that they hold before anything
+//! runs.
 #![tactic(auto)]
 
 mod error;

@@ -41,7 +41,7 @@ impl Clone for InitialSlot {
     }
 }
 
-/// Whether a variable holds the 8 bytes at a place of the section.
+/// Whether a variable holds the 8 bytes at an offset of the section.
 fn holds_slot(place: u64, variable: &MapVariable) -> bool
     ensures { result ≡ holds_slot place variable.now }
 {
@@ -49,7 +49,7 @@ fn holds_slot(place: u64, variable: &MapVariable) -> bool
     variable.offset <= place && u128::from(place) + 8 <= end
 }
 
-/// The first variable that holds the 8 bytes at a place.
+/// The first variable that holds the 8 bytes at an offset.
 fn holder(place: u64, variables: &[MapVariable]) -> Option<&MapVariable>
     ensures first { option_copied result ≡ find (holds_slot place) variables.now }
     ensures holds { IfSome result (λ v. IsTrue (holds_slot place v.now)) }
@@ -62,7 +62,7 @@ fn holder(place: u64, variables: &[MapVariable]) -> Option<&MapVariable>
     None
 }
 
-/// The index of the value that begins so many bytes behind the first one, in a variable of a size.
+/// The index of the value at an offset behind the first one, in a variable of a size.
 fn value_index(behind: u64, size: u32) -> u32
     requires { behind < size }
     ensures { result ≡ behind / 8 }
@@ -70,7 +70,7 @@ fn value_index(behind: u64, size: u32) -> u32
     (behind / 8) as u32
 }
 
-/// The index of a place in `values` that begin at an offset in a variable.
+/// The index of an offset in `values` that begin at an offset of a variable.
 fn index_from(variable: &MapVariable, place: u64, values: u32) -> Result<u32, InitialSlotError>
     requires { IsTrue (holds_slot place variable.now) }
     ensures { Gives is_initial_slot_memory result (index_from variable.now place values) }
@@ -88,7 +88,7 @@ fn index_from(variable: &MapVariable, place: u64, values: u32) -> Result<u32, In
     Ok(value_index(behind - values, variable.size))
 }
 
-/// The index of a place in the `values` of a variable.
+/// The index of an offset in the `values` of a variable.
 #[tactic(auto, unfolding(crate::specs::InitialSlots::slot_index))]
 fn slot_index(variable: &MapVariable, place: u64) -> Result<u32, InitialSlotError>
     requires { IsTrue (holds_slot place variable.now) }
@@ -131,7 +131,7 @@ fn initial_slot(
     Ok(InitialSlot { map, index, target })
 }
 
-/// The slots of a map that has this one alone.
+/// The slots of a map that has one slot alone.
 fn one_slot(alloc: Global, slot: InitialSlot) -> Result<ByNumber<InitialSlot>, AllocError>
     ensures { IfOk result (λ own. own ≡ finite.insert finite.empty slot.index slot) }
 {
@@ -140,7 +140,7 @@ fn one_slot(alloc: Global, slot: InitialSlot) -> Result<ByNumber<InitialSlot>, A
     Ok(own)
 }
 
-/// Adds a slot to those of its map; the later of two at one index stands.
+/// Adds a slot to those of its map. The later of two at one index replaces the earlier.
 fn add_slot(
     alloc: Global,
     found: &mut ByName<ByNumber<InitialSlot>>,
@@ -162,6 +162,11 @@ fn add_slot(
 }
 
 /// The initial values that relocations give maps, by map and index.
+///
+/// # Errors
+///
+/// - The fault of the first relocation that has one.
+/// - `OutOfMemory`: an allocation failed.
 pub fn gather(
     alloc: Global,
     object: &Object,
@@ -267,35 +272,50 @@ fn slots_of_section(
     }
 }
 
-/// The initial values of the maps of an object that hold maps or programs: for each relocation of the section `.maps`, by
-/// map and index, the map or the program that stands there, in the order of the maps' names by their bytes, then of the
-/// indices. Of two relocations at one index of a map the later stands. An index is a key of the map, too.
+/// Returns the initial values of an object's maps of maps and arrays of programs.
 ///
-/// `file` are the bytes of the file that the object was parsed from; of other bytes the answer is that of their relocations
-/// over this object. An object with an array of programs is read in `ParseMode::Lenient` alone.
+/// Each relocation of the section `.maps` gives a map or program at an index of a map. The index is a key of the map,
+/// too. The result is sorted by the maps' names in byte order, then by index. Of two relocations at one index of a map
+/// the later one counts.
 ///
-/// A relocation's map is that whose variable holds the 8 bytes from the relocation's offset on: the first in the order of
-/// the entries of the first DATASEC `.maps` that names a map of the section. It has the entry's offset and size, or, where
-/// the size of the DATASEC is 0, as compilers write it, the address of its symbol as offset. The index is
-/// (the relocation's offset - the variable's offset - the offset of `values`) / 8.
+/// `file` holds the bytes of the file that the object was parsed from. For other bytes the result is that of their
+/// relocations over this object. An object with an array of programs is read in `ParseMode::Lenient` alone.
+///
+/// The map of a relocation is the one whose variable holds the 8 bytes from the relocation's offset on. The first such
+/// variable counts, in the order of the entries of the first DATASEC `.maps`; an entry counts where it names a map of
+/// the section. The variable has the offset and size of its entry. Where the DATASEC states size 0, as compilers write
+/// it, the offset is the address of the variable's symbol. The index is (the relocation's offset - the variable's
+/// offset - the offset of `values`) / 8.
 ///
 /// A loader puts the maps once all maps exist, and the programs once all are loaded.
 ///
-/// As libbpf 1.5 does (`bpf_object__collect_map_relos`): of several sections `.maps` the last counts, and those of longer
-/// names, as `.maps.a`, have no initial values. Unlike it, relocations that lead to no variable for want of types or of
-/// the DATASEC are `OutsideMaps`, and a section without relocations is never refused.
+/// libbpf 1.5 does the same (`bpf_object__collect_map_relos`): of several sections `.maps` the last counts, and
+/// sections with longer names, such as `.maps.a`, have no initial values. There are two exceptions. A relocation that
+/// leads to no variable, since types or the DATASEC are missing, is `OutsideMaps` here. A section without relocations
+/// is never refused here.
 ///
 /// # Errors
 ///
-/// `ElfError` where the bytes are no file. Then the first fault of the first relocation that has one, by section of
-/// relocations and entry: `UnknownSymbol` where the object has no symbol of its index; `OutsideMaps` where no variable
-/// holds its place; of a map of maps (types 12 and 13) `NotInMaps` where the symbol stands in another section than
-/// `.maps` or in none, `UnsupportedKeySize` where a hash of maps has keys of other than 4 bytes, `UnknownMap` where no map
-/// has the symbol's name; of an array of programs (type 3) `UnknownProgram` where no program has the symbol's name,
-/// `NotAnEntryPoint` where that program has another section or address than the symbol; `UnsupportedMapType` of another
-/// map; `NoValues` where the variable's type, TYPEDEFs, CONST, VOLATILE, RESTRICT and TYPE_TAGs followed, is no STRUCT
-/// whose last member is `values`; `OutsideValues` where the place is before them; `Misaligned` where it is no multiple of
-/// 8 bytes behind their begin. `OutOfMemory` only where memory was refused.
+/// - `ElfError`: the bytes are no ELF64 file. It comes first.
+///
+/// Then the first fault of the first relocation that has one, in the order of relocation sections and entries:
+///
+/// - `UnknownSymbol`: the object has no symbol with the relocation's index.
+/// - `OutsideMaps`: no variable holds the 8 bytes at the relocation's offset.
+/// - For a map of maps (types 12 and 13):
+///   - `NotInMaps`: the symbol is in another section than `.maps`, or in none.
+///   - `UnsupportedKeySize`: a hash of maps has keys of another size than 4 bytes.
+///   - `UnknownMap`: no map has the symbol's name.
+/// - For an array of programs (type 3):
+///   - `UnknownProgram`: no program has the symbol's name.
+///   - `NotAnEntryPoint`: the program has another section or address than the symbol.
+/// - `UnsupportedMapType`: the map is of another type.
+/// - `NoValues`: the variable's type is no STRUCT whose last member is `values`. TYPEDEFs, CONST, VOLATILE, RESTRICT
+///   and TYPE_TAGs are skipped.
+/// - `OutsideValues`: the relocation's offset is before `values`.
+/// - `Misaligned`: the relocation's offset is not a multiple of 8 bytes behind the start of `values`.
+///
+/// `OutOfMemory`: an allocation failed.
 #[tactic(auto, unfolding(crate::specs::InitialSlots::initial_slots, crate::specs::InitialSlots::initial_slots_fault))]
 pub fn initial_slots(
     alloc: Global,
@@ -337,7 +357,7 @@ fn values_at(types: &Btf, ty: &BtfType<'_>, member: &BtfMember) -> Option<u32>
     None
 }
 
-/// The offset in bytes of `values` in the type of an id, where it ends in them.
+/// The offset in bytes of `values` in the type with an id, where the type ends in `values`.
 #[tactic(auto, unfolding(crate::specs::MapVariables::values_offset))]
 pub fn values_offset(types: &Btf, type_id: u32) -> Option<u32>
     ensures { result ≡ values_offset types.now type_id }

@@ -1,4 +1,4 @@
-//! The maps and the programs that stand in maps.
+//! The maps and programs that initial slots hold.
 
 ghost use Rattle.std.specs.Prelude.{◌≡◌, ◌==◌};
 ghost use Rattle.ebpf_base.specs.Faults.{Gives};
@@ -40,7 +40,7 @@ impl Clone for InitialTarget {
     }
 }
 
-/// The name of a symbol, empty where it has none.
+/// The name of a symbol; empty where it has none.
 fn symbol_text(symbol: &Symbol) -> &str
     ensures { result.now ≡ symbol_text symbol.now }
 {
@@ -50,7 +50,7 @@ fn symbol_text(symbol: &Symbol) -> &str
     }
 }
 
-/// Whether a symbol stands in the section with an index.
+/// Whether a symbol is in the section with an index.
 fn stands_in(symbol: &Symbol, section: usize) -> bool
     ensures { result ≡ stands_in section symbol.now.section_index }
 {
@@ -87,7 +87,7 @@ fn target_map(
     Err(InitialSlotError::UnknownMap { map, target })
 }
 
-/// Whether a program stands where a symbol does.
+/// Whether a program has the section and address of a symbol.
 fn is_entry_point(symbol: &Symbol, program: &Program) -> bool
     ensures { result ≡ is_entry_point symbol.now program.now }
 {
@@ -117,6 +117,13 @@ fn target_program(
 }
 
 /// The target that a symbol gives a slot of a variable's map.
+///
+/// # Errors
+///
+/// - `UnsupportedMapType`: the map is neither a map of maps nor an array of programs.
+/// - `NotInMaps`, `UnsupportedKeySize`, `UnknownMap`: the symbol names no value of a map of maps.
+/// - `UnknownProgram`, `NotAnEntryPoint`: the symbol names no value of an array of programs.
+/// - `OutOfMemory`: an allocation failed.
 pub fn initial_target(
     alloc: Global,
     object: &Object,

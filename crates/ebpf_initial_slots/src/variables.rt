@@ -18,13 +18,13 @@ use ebpf_object::Object;
 use ebpf_parts::maps::{BtfMap, Map};
 use std::alloc::{AllocError, Global};
 
-/// The name of the section and of its DATASEC.
+/// The name of the section and of its DATASEC: `.maps`.
 pub const MAPS: &str = ".maps";
 
-/// A variable of the section, which declares a map.
+/// A variable of the section `.maps`, which declares a map.
 #[derive(Debug, Drop)]
 pub struct MapVariable {
-    /// The variable's name, which is the map's.
+    /// The name of the variable, and of the map.
     pub name: Text,
     /// The offset in the section, in bytes.
     pub offset: u64,
@@ -34,7 +34,7 @@ pub struct MapVariable {
     pub map_type: u32,
     /// The size of the map's keys in bytes.
     pub key_size: u32,
-    /// The offset of `values` in the variable, in bytes, where its type ends in them.
+    /// The offset of `values` in the variable, in bytes. `None` where the variable's type does not end in `values`.
     pub values: Option<u32>,
 }
 
@@ -206,6 +206,10 @@ fn maps_datasec(types: &Btf) -> Result<Option<BtfType<'_>>, InitialSlotError>
 }
 
 /// The variables that declare the maps of the section with an index, in the order of the DATASEC's entries.
+///
+/// # Errors
+///
+/// - `OutOfMemory`: an allocation failed.
 pub fn map_variables(
     alloc: Global,
     object: &Object,

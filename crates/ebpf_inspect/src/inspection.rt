@@ -1,4 +1,4 @@
-//! The programs of a file, linked, with what they are made of.
+//! The linked programs of a file, with the functions that each holds.
 
 ghost use Rattle.std.specs.Prelude.{◌≡◌, ℕ, List, false, true, IfOk, IfErr};
 ghost use Rattle.ebpf_inspect.specs.Inspected.{with_linking, AreReportsOf, IsInspected};
@@ -16,7 +16,7 @@ use ebpf_object::prepare::{PrepareError, Steps, SymbolSource, prepare_object};
 use ebpf_object::relocation::programs_in_order;
 use std::alloc::Global;
 
-/// The chosen passes, but for the linking of programs.
+/// The chosen passes without the linking of programs.
 fn without_calls<'a>(steps: &Steps<'a>) -> Steps<'a>
     ensures { chosen result ≡ record (chosen steps.now) { calls = false } }
 {
@@ -42,7 +42,7 @@ fn report(alloc: Global, object: &Object) -> Result<Items<ProgramReport>, Prepar
     reports_of(alloc, &of.functions, &programs)
 }
 
-/// Prepares an object with the chosen passes, links its programs, and reports what each is made of.
+/// Prepares an object with the chosen passes, links its programs, and returns their reports.
 fn inspect_all<K: SymbolSource>(
     alloc: Global,
     object: Object,
@@ -61,12 +61,11 @@ fn inspect_all<K: SymbolSource>(
     report(alloc, &prepared)
 }
 
-/// The programs of an object after the chosen passes, as `inspect` gives them of a file. After a refusal the object is
-/// gone.
+/// Returns the reports of an object's programs after the chosen passes, as `inspect` does for a file.
 ///
 /// # Errors
 ///
-/// Those of `inspect`, but `Parse`.
+/// The errors of `inspect`, except `Parse`. The object is consumed, also on error.
 pub fn inspect_object<K: SymbolSource>(
     alloc: Global,
     object: Object,
@@ -90,14 +89,18 @@ pub fn inspect_object<K: SymbolSource>(
     inspect_all(alloc, object, steps, kallsyms)
 }
 
-/// The programs of a file after the chosen passes, each linked with the functions that it reaches, whatever `steps`
-/// says of that: in byte order of their names, with their slots and what these are made of. `kallsyms` has the lines
-/// of the kernel's symbols.
+/// Returns the reports of a file's programs after the chosen passes.
+///
+/// Each program is linked with the functions that it reaches, also where `steps` leaves linking out. The reports are
+/// sorted by name in byte order. Each has the program's slots, its copies of functions, and the references between
+/// these. `kallsyms` has the lines of the kernel's symbols.
 ///
 /// # Errors
 ///
-/// Those of `prepare` with the same steps where it links programs: the fault of the first pass that has one, in that
-/// pass's own error. `OutOfMemory`, and the passes' own, only where memory was refused.
+/// The errors of `prepare` with the same steps and linking: the fault of the first pass that has one, in that pass's
+/// own error.
+///
+/// `OutOfMemory`, or that of a pass: an allocation failed.
 pub fn inspect<K: SymbolSource>(
     alloc: Global,
     bytes: &[u8],

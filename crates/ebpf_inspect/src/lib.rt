@@ -1,4 +1,4 @@
-//! What the programs of an eBPF object are made of, once they are linked.
+//! Reports of the linked programs of an eBPF object.
 #![tactic(auto)]
 
 mod inspection;

@@ -1,4 +1,4 @@
-//! What is told of a program, which is linked as a value beside the object.
+//! The report of a program, which is linked as a value apart from the object.
 
 ghost use Rattle.std.specs.Prelude.{◌≡◌, IfOk, IfErr};
 ghost use Rattle.std.specs.List.{AllZip};
@@ -17,16 +17,16 @@ use ebpf_object::relocation::{
 };
 use std::alloc::Global;
 
-/// A linked program: its slots, the copies of functions that they are, and the references between these.
+/// The report of a linked program: its slots, its copies of functions, and the references between these.
 #[derive(Debug, Drop)]
 pub struct ProgramReport {
     /// The program's name.
     pub name: Text,
-    /// Its slots.
+    /// The program's slots, of 8 bytes each.
     pub slots: Items<bpf_insn>,
-    /// The copies of functions in it, its own function first.
+    /// The copies of functions in the program, its own function first.
     pub copies: Items<CodeCopy>,
-    /// The references between them, by the slots that hold them.
+    /// The references between the copies, by the slots that hold them.
     pub references: Items<PlacedReference>,
 }
 
@@ -56,7 +56,12 @@ fn report_of(
     })
 }
 
-/// The reports of programs, up to the first that can't be linked.
+/// The reports of programs.
+///
+/// # Errors
+///
+/// - The error of the first program that can't be linked.
+/// - `OutOfMemory`: an allocation failed.
 pub fn reports_of(
     alloc: Global,
     functions: &NumberedFunctions<'_>,

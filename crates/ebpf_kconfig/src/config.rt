@@ -1,4 +1,4 @@
-//! Values by a kernel's configuration as text.
+//! The values of externs, read from the text of a kernel's configuration.
 
 ghost use Rattle.std.specs.Prelude.{◌≡◌, ◌<◌, ◌≤◌, ◌==◌, drop, ℕ, List, length, Err, IfSome, IfNone};
 ghost use Rattle.std.specs.List.{position};
@@ -23,7 +23,7 @@ fn behind<'a>(prefix: &[u8], bytes: &'a [u8]) -> Option<&'a [u8]>
     None
 }
 
-/// The value that a line gives a name.
+/// The value that a line sets for a name.
 fn given_in_line<'a>(name: &[u8], line: &'a [u8]) -> Option<&'a [u8]>
     ensures { option_copied result ≡ given_in_line name.now line.now }
 {
@@ -46,7 +46,7 @@ fn from_index(text: &[u8], start: usize) -> &[u8]
     &text[start..]
 }
 
-/// The first line, and what follows it; nothing where the text is one line.
+/// The first line and the text behind it. `None` where the text is one line.
 #[tactic(auto, using(crate::proofs::ConfigLines::setting_more, crate::proofs::ConfigLines::setting_last))]
 fn first_line(text: &[u8]) -> Option<(&[u8], &[u8])>
     ensures more { IfSome result (λ parts.
@@ -61,7 +61,7 @@ fn first_line(text: &[u8]) -> Option<(&[u8], &[u8])>
     Some((&text[..end], from_index(text, end + 1)))
 }
 
-/// The value of a name in the first line that gives one.
+/// The value of a name in the first line that sets it.
 fn setting<'a>(config: &'a [u8], name: &[u8]) -> Option<&'a [u8]>
     ensures { option_copied result ≡ setting config.now name.now }
 {
@@ -75,7 +75,7 @@ fn setting<'a>(config: &'a [u8], name: &[u8]) -> Option<&'a [u8]>
     given_in_line(name, rest)
 }
 
-/// The refusal of a value, with the name of its extern.
+/// The error of a value, with the name of its extern.
 fn named_fault(name: &Text, fault: ValueFault) -> Result<Items<u8>, KconfigError>
     ensures { Gives is_kconfig_memory result (with_name name.now (Err fault)) }
 {
@@ -87,7 +87,7 @@ fn named_fault(name: &Text, fault: ValueFault) -> Result<Items<u8>, KconfigError
     }
 }
 
-/// The value that a text of the configuration is to an extern.
+/// The value of an extern, from a text of the configuration.
 fn value_of_text(
     alloc: Global,
     order: Endianness,
@@ -103,24 +103,30 @@ fn value_of_text(
     }
 }
 
-/// The value of an extern by a kernel's configuration as text: its lines as in `/proc/config.gz` once unpacked. The first
-/// line that begins with the extern's name and `=` counts. `None` where there is none, and for a name that doesn't begin
-/// with `CONFIG_`, of which a configuration says nothing. What follows the `=` is by its first byte
+/// Returns the value of an extern, read from the text of a kernel's configuration.
 ///
-/// - `y`, `n` or `m`: to a bool 1 or 0, to a tristate 1, 0 or 2, to a char the letter itself;
-/// - a double quote: a string that a double quote ends, to an array of char: its bytes between the quotes, cut to the
-///   array's length less one, and zeros up to that length;
-/// - else a number, to a char or an integer: hexadecimal behind `0x`, octal behind `0`, else decimal, maybe with `-` before
-///   it. Of 8 bytes each number of 64 bits is in range, also a negative one where the extern is unsigned.
+/// `config` holds lines in the format of `/proc/config.gz`, unpacked. The first line that begins with the extern's name
+/// and `=` counts. The result is `None` where there is no such line, and for a name that does not begin with `CONFIG_`,
+/// since a configuration has no other names. Numbers are written in the byte order `order`.
 ///
-/// Numbers are in the byte order `order`. This is what libbpf 1.5 does (`bpf_object__process_kconfig_line`), except that
-/// only the lines of the name are read: other lines can't be at fault.
+/// The first byte behind the `=` decides the reading:
+///
+/// - `y`, `n` or `m`: 1 or 0 for a bool; 1, 0 or 2 for a tristate; the letter itself for a char.
+/// - A double quote: a string, for an array of char. The text must end with a double quote. The value is the bytes
+///   between the quotes, cut to the array's length minus 1, with zeros up to the array's length.
+/// - Any other byte: a number, for a char or an integer. It is hexadecimal behind `0x`, octal behind `0`, else decimal,
+///   and may have a leading `-`. For an extern of 8 bytes each number of 64 bits is in range, also a negative one where
+///   the extern is unsigned.
+///
+/// libbpf 1.5 does the same (`bpf_object__process_kconfig_line`), with one exception: only the lines of the name are
+/// read, so other lines cause no error.
 ///
 /// # Errors
 ///
-/// `UnsuitedValue` where nothing follows the `=`, where the value is none for the extern's type, as `m` for a bool, where a
-/// string doesn't end with a double quote, or a number can't be read to its end; `ValueOutOfRange` where a number is out of
-/// the extern's range, or of 64 bits. `OutOfMemory` only where memory was refused.
+/// - `UnsuitedValue`: nothing follows the `=`; the value does not suit the extern's type, for example `m` for a bool; a
+///   string does not end with a double quote; or a number can't be read to its end.
+/// - `ValueOutOfRange`: a number is out of the range of the extern, or of 64 bits.
+/// - `OutOfMemory`: an allocation failed.
 #[tactic(auto, unfolding(crate::specs::ConfiguredValues::configured_value))]
 pub fn kconfig_value(
     alloc: Global,
@@ -139,15 +145,19 @@ pub fn kconfig_value(
     }
 }
 
-/// The value of an extern that is a number: what a loader knows, as `LINUX_KERNEL_VERSION` (of the version a.b.c
-/// `a << 16 | b << 8 | c`), `LINUX_HAS_BPF_COOKIE` and `LINUX_HAS_SYSCALL_WRAPPER` (1 where the kernel has them), in the byte
-/// order `order`. A char and an integer take a number in their range, those of 8 bytes each; a bool takes 0 and 1 (libbpf
+/// Returns the bytes of an extern whose value is a number that the loader knows.
+///
+/// Examples are `LINUX_KERNEL_VERSION` (`a << 16 | b << 8 | c` for version a.b.c), `LINUX_HAS_BPF_COOKIE` and
+/// `LINUX_HAS_SYSCALL_WRAPPER` (1 where the kernel has them). The bytes are in the byte order `order`.
+///
+/// A char and an integer take a number in their range; one of 8 bytes takes each number. A bool takes 0 and 1 (libbpf
 /// 1.5, `set_kcfg_value_num`).
 ///
 /// # Errors
 ///
-/// `UnsuitedValue` for an extern of another type; `ValueOutOfRange` where the number is out of its range. `OutOfMemory` only
-/// where memory was refused.
+/// - `UnsuitedValue`: the extern is of another type.
+/// - `ValueOutOfRange`: the number is out of the extern's range.
+/// - `OutOfMemory`: an allocation failed.
 pub fn kconfig_number(
     alloc: Global,
     number: u64,

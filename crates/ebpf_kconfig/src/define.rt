@@ -1,4 +1,4 @@
-//! The externs of an object that the kernel's configuration gives, and their definition.
+//! The list of an object's kconfig externs, and their definition.
 
 ghost use Rattle.std.specs.Prelude.{◌≡◌, IfOk, OnOk, OnErr, if◌then◌else◌};
 ghost use Rattle.ebpf_base.specs.Faults.{Refuses};
@@ -52,7 +52,7 @@ fn kconfig_map(value_size: u32, bytes: Items<u8>) -> Map
     })
 }
 
-/// What externs in a row ask for.
+/// The plan of sorted externs.
 fn plan_in_order(
     alloc: Global,
     values: &ByName<Items<u8>>,
@@ -74,7 +74,7 @@ fn plan_in_order(
     Ok(Plan { offsets, map })
 }
 
-/// What externs ask for.
+/// The plan of some externs.
 fn plan_of(
     alloc: Global,
     values: &ByName<Items<u8>>,
@@ -89,7 +89,14 @@ fn plan_of(
     plan_in_order(alloc, values, order.as_slice())
 }
 
-/// What externs with these values ask for.
+/// The plan of externs with their values.
+///
+/// # Errors
+///
+/// - `NoValue`: an extern that is not weak has no value.
+/// - `WrongSize`: a value has another size than its extern.
+/// - `TooLarge`: the data end past 32 bits.
+/// - `OutOfMemory`: an allocation failed.
 #[tactic(auto, unfolding(crate::specs::KconfigMaps::values_fault))]
 pub fn plan_with(
     alloc: Global,
@@ -106,21 +113,31 @@ pub fn plan_with(
     }
 }
 
-/// The externs of an object that the kernel's configuration gives: the variables of the first DATASEC `.kconfig`, in the
-/// order of its entries. There are none where the object has no type information or no such DATASEC. An extern is weak
-/// where its symbol is: of equal names the one with the greatest index counts, and without a symbol it isn't.
+/// Returns the kconfig externs of an object: the variables of the first DATASEC `.kconfig`, in the order of its
+/// entries.
 ///
-/// As libbpf 1.5 does (`bpf_object__collect_externs`), but by the entries of the DATASEC, whose order this keeps, and not
-/// by the symbols; and an ENUM64 that is no enumeration of 1, 2, 4 or 8 bytes is refused.
+/// The list is empty where the object has no type information or no such DATASEC. An extern is weak where its symbol is
+/// weak. Of symbols of one name the one with the greatest index counts. An extern without a symbol is not weak.
+///
+/// libbpf 1.5 does the same (`bpf_object__collect_externs`), with two exceptions. It goes by the symbols, and this
+/// function by the entries of the DATASEC, whose order it keeps. This function refuses an ENUM64 of another size than
+/// 1, 2, 4 or 8 bytes.
 ///
 /// # Errors
 ///
-/// The first fault of the first entry that has one, also where the extern is weak: `NotAVariable` where its type is no
-/// VAR; `UnreadableName` where the variable's name can't be read; `UnknownName` where that begins neither with `CONFIG_`
-/// nor with `LINUX_`; `UnsupportedType` where the variable, TYPEDEFs, CONST, VOLATILE, RESTRICT and TYPE_TAGs aside, is none
-/// of these: an INT that is a bool, of 1 byte; another INT of 1, 2, 4 or 8 bytes; `enum libbpf_tristate`, an ENUM of 4
-/// bytes or an ENUM64; an ARRAY that has elements, of INTs of 1 byte that are no bools. `OutOfMemory` only where memory was
-/// refused.
+/// The first fault of the first entry that has one, also where the extern is weak:
+///
+/// - `NotAVariable`: the entry's type is no VAR.
+/// - `UnreadableName`: the variable's name can't be read.
+/// - `UnknownName`: the name begins neither with `CONFIG_` nor with `LINUX_`.
+/// - `UnsupportedType`: the variable's type is none of those below. TYPEDEFs, CONST, VOLATILE, RESTRICT and TYPE_TAGs
+///   are skipped.
+///   - An INT that is a bool, of 1 byte.
+///   - Another INT of 1, 2, 4 or 8 bytes.
+///   - `enum libbpf_tristate`: an ENUM of 4 bytes, or an ENUM64.
+///   - An ARRAY with at least one element, of INTs of 1 byte that are no bools.
+///
+/// `OutOfMemory`: an allocation failed.
 pub fn kconfig(object: &Object) -> Result<Items<KconfigExtern>, KconfigError>
     ensures externs { IfOk result (λ externs.
         externs ≡ kconfig_externs object.now.btf object.now.symbol_table) }
@@ -131,7 +148,7 @@ pub fn kconfig(object: &Object) -> Result<Items<KconfigExtern>, KconfigError>
     kconfig_externs(alloc, &object.btf, &object.symbol_table)
 }
 
-/// Puts the map of some externs, where there are any.
+/// Puts the map of some externs into an object, where there are any.
 fn put_map(
     alloc: Global,
     maps: &mut ByName<Map>,
@@ -150,25 +167,35 @@ fn put_map(
     Ok(())
 }
 
-/// Defines the externs of an object that the kernel's configuration gives. `values` has their values by name, each the
-/// bytes of an extern's size as they are to stand in memory (`kconfig_value` reads them from a kernel's configuration); a
-/// weak extern without a value is zeros, and a value of another name is passed over. Where the object has such externs,
+/// Defines the kconfig externs of an object.
 ///
-/// - the map `.kconfig` is put to its maps: an array of one entry that programs only read (flags 128), whose data are the
-///   values, by descending alignment, then ascending size, then name, each at the next offset that its alignment divides,
-///   zeros between them. It stands in section 0, no section's index, and has no symbol. Its value's type is the DATASEC
-///   (`ebpf_load_info::map_types`, where the DATASEC states this size or 0);
-/// - each extern symbol that has the name of one is a definition in section 0 at the extern's offset, so that
-///   `Object::relocate_maps` with the map among those handed in writes what refers to it.
+/// `values` holds the values of externs by name. Each is as many bytes as the extern's size, in the form that they have
+/// in memory; `kconfig_value` reads them from a kernel's configuration. A weak extern without a value is zeros. A value
+/// of another name is ignored.
 ///
-/// All else stays, the types too: unlike libbpf 1.5 (`bpf_object__collect_externs`), which writes the offsets and the size
-/// into the DATASEC and makes its variables global. A second call puts the map with other values.
+/// Where the object has such externs:
+///
+/// - The map `.kconfig` is put into its maps: an array of one entry that programs only read (flags 128). Its data are
+///   the values, sorted by descending alignment, then ascending size, then name. Each begins at the next offset that
+///   its alignment divides, with zeros in between. The map is in section 0, which is no section's index, and has no
+///   symbol. The type of its value is the DATASEC (`ebpf_load_info::map_types`, where the DATASEC states this size or
+///   0).
+/// - Each extern symbol with the name of such an extern becomes a definition in section 0 at the extern's offset. So
+///   `Object::relocate_maps`, with the map among those that it is given, writes the slots that refer to it.
+///
+/// Everything else stays, the types too. libbpf 1.5 (`bpf_object__collect_externs`) also writes the offsets and the
+/// size into the DATASEC, and makes its variables global. A second call puts the map with new values.
 ///
 /// # Errors
 ///
-/// Those of `kconfig`; then, in the order of the externs, `NoValue` where one that isn't weak has no value and `WrongSize`
-/// where a value has another size than its extern; then `TooLarge` where the data would end past 32 bits. `OutOfMemory`
-/// only where memory was refused. After a refusal the object is as it was.
+/// In this order:
+///
+/// - The errors of `kconfig`.
+/// - `NoValue`, `WrongSize`: in the order of the externs, one that is not weak has no value, or a value has another
+///   size than its extern.
+/// - `TooLarge`: the data end past 32 bits.
+///
+/// `OutOfMemory`: an allocation failed. On error the object is unchanged.
 #[tactic(auto, unfolding(crate::specs::KconfigMaps::kconfig_fault, crate::specs::KconfigMaps::symbols_defined))]
 pub fn define_kconfig(object: &mut Object, values: &ByName<Items<u8>>) -> Result<(), KconfigError>
     ensures maps { OnOk result

@@ -1,4 +1,4 @@
-//! Why externs of the kernel's configuration can't be listed or defined.
+//! The errors of listing and defining externs of the kernel's configuration.
 
 ghost use Rattle.std.specs.Prelude.{◌≡◌};
 ghost use Rattle.ebpf_kconfig.specs.declared.error.KconfigError.TheVariants.{OutOfMemory};
@@ -7,10 +7,10 @@ use ebpf_base::Text;
 use std::alloc::{AllocError, AllocFailed};
 use thiserror::Error;
 
-/// Why externs of the kernel's configuration can't be listed or defined.
+/// The reason why externs of the kernel's configuration can't be listed or defined. `name` is the extern's name.
 #[derive(Debug, Drop, Error)]
 pub enum KconfigError {
-    /// An entry of the DATASEC `.kconfig` is of a type that is no VAR, or that the object lacks.
+    /// The type that an entry of the DATASEC `.kconfig` names is no VAR, or is missing in the object.
     #[error("BTF type {type_id}, which an entry of .kconfig names, is no variable")]
     NotAVariable {
         /// The id of the type.
@@ -49,7 +49,7 @@ pub enum KconfigError {
     /// The values together pass 32 bits.
     #[error("the externs of .kconfig are too large together: a map's value has 32 bits of size")]
     TooLarge,
-    /// What the configuration says is no value of an extern of its type, or no value at all.
+    /// The text of the configuration is no value for the type of the extern, or no value at all.
     #[error("what the configuration says of {:?} does not suit its type in .kconfig", .name.as_str())]
     UnsuitedValue {
         name: Text,
@@ -59,7 +59,7 @@ pub enum KconfigError {
     ValueOutOfRange {
         name: Text,
     },
-    /// No memory was found.
+    /// An allocation failed.
     #[error("out of memory")]
     OutOfMemory,
 }

@@ -146,7 +146,7 @@ fn externs_in(
     Ok(externs)
 }
 
-/// The externs of an object with these types and symbols, in the order of the entries.
+/// The kconfig externs of an object with these types and symbols, in the order of the entries.
 #[tactic(auto, unfolding(crate::specs::KconfigExterns::kconfig_externs, crate::specs::KconfigExterns::kconfig_externs_fault))]
 pub fn kconfig_externs(
     alloc: Global,
@@ -164,7 +164,7 @@ pub fn kconfig_externs(
     externs_in(alloc, types, &weak, &rows)
 }
 
-/// The name of the DATASEC and of the map.
+/// The name of the DATASEC and of the map: `.kconfig`.
 pub const KCONFIG: &str = ".kconfig";
 
 /// The entries of a DATASEC; other types have none.
@@ -200,7 +200,7 @@ fn kconfig_id(types: &Btf) -> Result<Option<u32>, KconfigError>
     }
 }
 
-/// The entries of the first DATASEC of the externs.
+/// The entries of the first DATASEC `.kconfig`; empty without one.
 pub fn kconfig_entries(types: &Btf) -> Result<Rows<'_, DataSecEntry>, KconfigError>
     ensures rows { IfOk result (λ rows. rows ≡ kconfig_entries types.now) }
     ensures memory { IfErr result (λ e. is_kconfig_memory e ≡ true) }
@@ -237,7 +237,11 @@ fn put_weak(
     Ok(weak)
 }
 
-/// Whether the symbols are weak, by name: of equal names that with the greatest index.
+/// Whether symbols are weak, by name. Of symbols of one name the one with the greatest index counts.
+///
+/// # Errors
+///
+/// - `AllocError`: an allocation failed.
 pub fn weak_symbols(alloc: Global, symbols: &ByIndex<Symbol>) -> Result<ByName<bool>, AllocError>
     ensures { IfOk result (λ weak. weak ≡ weak_symbols symbols.now) }
 {
@@ -287,7 +291,7 @@ fn define_all(offsets: &ByName<u64>, symbols: &mut ByIndex<Symbol>, indices: &[u
     }
 }
 
-/// Makes the externs' symbols stand in the map; the indices are those of all symbols.
+/// Makes the symbols of externs definitions in the map. `indices` holds the indices of all symbols.
 #[tactic(auto, using(crate::proofs::DefinedSymbols::all_defined))]
 pub fn define_symbols(offsets: &ByName<u64>, symbols: &mut ByIndex<Symbol>, indices: &[usize])
     requires { indices.now ≡ keys_of (finite.entries symbols.old) }

@@ -31,13 +31,13 @@ pub enum KconfigType {
     },
     /// An array of integers of 1 byte: a string and a zero byte.
     CharArray {
-        /// How many there are, at least 1.
+        /// The number of elements, at least 1.
         len: u32,
     },
 }
 
 impl KconfigType {
-    /// The size in bytes.
+    /// Returns the size in bytes.
     pub fn size(self) -> u32
         ensures { result ≡ kconfig_size self }
     {
@@ -48,7 +48,7 @@ impl KconfigType {
         }
     }
 
-    /// The alignment in bytes: of an array 1, of other types the size, from 1 to 8.
+    /// Returns the alignment in bytes, from 1 to 8: 1 for an array, else the size.
     pub fn alignment(self) -> u32
         ensures value { result ≡ kconfig_alignment self }
         ensures positive { 0 < result }
@@ -182,7 +182,7 @@ fn value_type(types: &Btf, ty: &BtfType<'_>) -> Option<KconfigType>
     }
 }
 
-/// The kconfig type of a type by its id. `None` where the type is none of these, or can't be followed.
+/// The kconfig type of the type with an id. `None` where the type is no kconfig type, or its chain can't be followed.
 pub fn kconfig_type(types: &Btf, type_id: u32) -> Option<KconfigType>
     ensures { result ≡ kconfig_type types.now type_id }
 {

@@ -1,16 +1,17 @@
-//! What holds of the map of externs, and of objects with values set.
+//! Theorems about externs of the kernel's configuration.
 
 ghost use Rattle.ebpf_kconfig.specs.KconfigMaps.{DataIsValueSized, PreparedIsFinished};
 
-/// The data of the map `.kconfig` is as long as its value, where no value is at fault.
+/// Where no value has a fault, the data of the map `.kconfig` are as long as the map's value.
 #[tactic(auto, using(crate::proofs::DefinedSymbols::data_sized))]
 pub fn data_is_value_sized()
     ensures { DataIsValueSized }
 {}
 
-/// What `prepare_object` and its neighbours make of any object is finished as what they make of a parsed one is: also of one
-/// on which values of variables, sizes of maps or the kernel's configuration were set before. Its premise, `Stages`, is
-/// what their contracts say of each object that they give.
+/// The result of `prepare_object` and its neighbours on any object is finished in the same way as on a parsed object.
+///
+/// This holds also for an object whose variables, map sizes or kconfig values were set before. The premise `Stages` is
+/// what the contracts of these functions state of each object that they return.
 pub fn prepared_is_finished()
     ensures { PreparedIsFinished }
 {}

@@ -55,7 +55,11 @@ fn add_extern(
     Ok(())
 }
 
-/// Externs in groups of one alignment and size.
+/// Groups externs by alignment and size.
+///
+/// # Errors
+///
+/// - `AllocError`: an allocation failed.
 pub fn extern_groups(
     alloc: Global,
     externs: Vec<KconfigExtern>,
@@ -105,7 +109,7 @@ fn add_group<'a>(
     add_names(alloc, all, group, names.as_slice())
 }
 
-/// The externs of groups in order.
+/// The externs of groups: by descending alignment, then ascending size, then name.
 pub fn in_order<'a>(
     alloc: Global,
     groups: &'a ByKey<ByName<KconfigExtern>>,
@@ -121,7 +125,7 @@ pub fn in_order<'a>(
     Ok(all)
 }
 
-/// The offset of an extern behind data that end at an offset.
+/// The offset of an extern behind data that end at an offset, in bytes.
 pub fn extern_offset(end: u64, wanted: &KconfigExtern) -> u64
     requires { end < 2 ^ 32 }
     ensures value { result ≡ extern_offset end wanted.now }
@@ -132,7 +136,7 @@ pub fn extern_offset(end: u64, wanted: &KconfigExtern) -> u64
     (end + (alignment - 1)) / alignment * alignment
 }
 
-/// The end of an extern behind data that end at an offset.
+/// The end of an extern behind data that end at an offset, in bytes.
 pub fn extern_end(end: u64, wanted: &KconfigExtern) -> u64
     requires { end < 2 ^ 32 }
     ensures value { result ≡ extern_end end wanted.now }
@@ -141,7 +145,11 @@ pub fn extern_end(end: u64, wanted: &KconfigExtern) -> u64
     extern_offset(end, wanted) + u64::from(wanted.kind.size())
 }
 
-/// The end of the last of externs in a row.
+/// The end of the last of some externs, one behind the other, in bytes.
+///
+/// # Errors
+///
+/// - `TooLarge`: the end passes 32 bits.
 pub fn layout_end(externs: &[&KconfigExtern]) -> Result<u32, KconfigError>
     ensures end { IfOk result (λ end. end ≡ layout_end 0 (lent_externs externs.now)) }
     ensures fault { fault_of result ≡ size_fault_from 0 (lent_externs externs.now) }
@@ -156,7 +164,11 @@ pub fn layout_end(externs: &[&KconfigExtern]) -> Result<u32, KconfigError>
     Ok(end as u32)
 }
 
-/// The offsets of externs in a row, by name.
+/// The offsets of some externs, one behind the other, by name.
+///
+/// # Errors
+///
+/// - `AllocError`: an allocation failed.
 pub fn extern_offsets(alloc: Global, externs: &[&KconfigExtern]) -> Result<ByName<u64>, AllocError>
     requires { size_fault_from 0 (lent_externs externs.now) ≡ None }
     ensures { IfOk result (λ offsets.
@@ -172,7 +184,7 @@ pub fn extern_offsets(alloc: Global, externs: &[&KconfigExtern]) -> Result<ByNam
     Ok(offsets)
 }
 
-/// Whether an extern that has no value may stay without one.
+/// Checks an extern without a value: it must be weak.
 fn check_without(wanted: &KconfigExtern) -> Result<(), KconfigError>
     ensures { Refuses is_kconfig_memory result (given_fault wanted.now None) }
 {
@@ -183,7 +195,7 @@ fn check_without(wanted: &KconfigExtern) -> Result<(), KconfigError>
     Err(KconfigError::NoValue { name })
 }
 
-/// Whether a value has the size of its extern.
+/// Checks that a value has the size of its extern.
 fn check_given(wanted: &KconfigExtern, value: &[u8]) -> Result<(), KconfigError>
     ensures { Refuses is_kconfig_memory result (given_fault wanted.now (Some value.now)) }
 {
@@ -198,7 +210,7 @@ fn check_given(wanted: &KconfigExtern, value: &[u8]) -> Result<(), KconfigError>
     })
 }
 
-/// Whether an extern can have its value.
+/// Checks that an extern has a value that fits.
 fn check_value(values: &ByName<Items<u8>>, wanted: &KconfigExtern) -> Result<(), KconfigError>
     ensures { Refuses is_kconfig_memory result (value_fault values.now wanted.now) }
 {
@@ -208,7 +220,13 @@ fn check_value(values: &ByName<Items<u8>>, wanted: &KconfigExtern) -> Result<(),
     }
 }
 
-/// Whether all externs can have their values.
+/// Checks that each extern has a value that fits.
+///
+/// # Errors
+///
+/// - `NoValue`: an extern that is not weak has no value.
+/// - `WrongSize`: a value has another size than its extern.
+/// - `OutOfMemory`: an allocation for the name in the error failed.
 pub fn check_values(
     values: &ByName<Items<u8>>,
     externs: &[KconfigExtern],
@@ -221,7 +239,7 @@ pub fn check_values(
     Ok(())
 }
 
-/// Adds so many zeros.
+/// Adds `count` zeros.
 fn add_zeros(bytes: &mut Items<u8>, count: usize) -> Result<(), AllocError>
     ensures { OnOk result (bytes.new ≡ bytes.old ++ replicate count 0) }
 {
@@ -244,7 +262,11 @@ fn add_value(
     }
 }
 
-/// The values of externs in a row, each behind zeros up to its offset.
+/// The values of some externs, one behind the other. Zeros fill the bytes up to each offset.
+///
+/// # Errors
+///
+/// - `AllocError`: an allocation failed.
 pub fn bytes_of(
     alloc: Global,
     values: &ByName<Items<u8>>,

@@ -1,4 +1,4 @@
-//! The externs that the kernel's configuration gives: what an object wants of it, and their values.
+//! The externs that the kernel's configuration gives: their list and their values.
 #![tactic(auto)]
 
 mod config;

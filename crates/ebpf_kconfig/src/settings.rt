@@ -1,4 +1,4 @@
-//! The value that a text of a configuration is to an extern of a type, and numbers as text and as bytes.
+//! The bytes of an extern's value, from a text of a configuration or from a number.
 
 ghost use Rattle.std.specs.Prelude.{◌≡◌, ◌≤◌, ◌∷◌, [], IfOk};
 ghost use Rattle.std.specs.Char.{digit_value};
@@ -11,14 +11,14 @@ use crate::kconfig_type::KconfigType;
 use ebpf_base::{Endianness, Items};
 use std::alloc::{AllocError, Global};
 
-/// Why a text or a number is no value.
+/// The reason why a text or a number is no value.
 #[derive(Clone, Copy, Debug)]
 pub enum ValueFault {
     /// The text is no value of the type, or can't be read.
     Unsuited,
     /// The number is out of range.
     OutOfRange,
-    /// No memory was found.
+    /// An allocation failed.
     OutOfMemory,
 }
 
@@ -105,7 +105,12 @@ fn negative_bits(number: u64) -> u64
     u64::MAX - number + 1
 }
 
-/// A number that may be negative, as 64 bits.
+/// Reads a number, maybe with a leading `-`, as 64 bits.
+///
+/// # Errors
+///
+/// - `Unsuited`: the text can't be read to its end as a number.
+/// - `OutOfRange`: 64 bits do not hold the number.
 pub fn text_number(text: &[u8]) -> Result<u64, ValueFault>
     ensures { result ≡ text_number text.now }
 {
@@ -115,7 +120,11 @@ pub fn text_number(text: &[u8]) -> Result<u64, ValueFault>
     Ok(negative_bits(unsigned_number(&text[1..])?))
 }
 
-/// The low bytes of a number, as they stand in memory.
+/// The low `size` bytes of a number, in a byte order.
+///
+/// # Errors
+///
+/// - `AllocError`: an allocation failed.
 pub fn number_bytes(
     alloc: Global,
     order: Endianness,
@@ -132,7 +141,7 @@ pub fn number_bytes(
     Ok(Items::from_vec(bytes))
 }
 
-/// How many numbers fewer than 8 bytes hold.
+/// The number of values that fewer than 8 bytes hold.
 fn number_count(size: u32) -> u64
     ensures count { result ≡ number_count size }
     ensures few { result ≤ 4294967296 }
@@ -144,7 +153,7 @@ fn number_count(size: u32) -> u64
     }
 }
 
-/// Whether bytes hold the number that 64 bits are.
+/// Whether `size` bytes hold the number that 64 bits encode.
 pub fn is_in_range(size: u32, signed: bool, number: u64) -> bool
     ensures { result ≡ is_in_range size signed number }
 {
@@ -174,7 +183,7 @@ fn ranged_value(
     Ok(number_bytes(alloc, order, size, number)?)
 }
 
-/// The value that a number is to an integer.
+/// The bytes of an integer with the value of a number.
 #[tactic(auto, unfolding(crate::specs::ConfiguredValues::integer_value))]
 fn integer_value(
     alloc: Global,
@@ -191,7 +200,13 @@ fn integer_value(
     }
 }
 
-/// The value that a number is to an integer or a bool.
+/// The bytes of an integer or a bool with the value of a number.
+///
+/// # Errors
+///
+/// - `Unsuited`: the type is neither an integer nor a bool.
+/// - `OutOfRange`: the number is out of the type's range.
+/// - `OutOfMemory`: an allocation failed.
 #[tactic(auto, unfolding(crate::specs::ConfiguredValues::loader_value))]
 pub fn loader_value(
     alloc: Global,
@@ -217,7 +232,7 @@ fn is_letter(byte: u8) -> bool
     byte == b'n' || byte == b'y' || byte == b'm'
 }
 
-/// The number that a letter is to a tristate.
+/// The number of a letter for a tristate.
 fn tristate_number(letter: u8) -> u8
     ensures { result ≡ tristate_number letter }
 {
@@ -235,7 +250,7 @@ fn one_byte(alloc: Global, byte: u8) -> Result<Items<u8>, AllocError>
     Ok(Items::from_vec(Vec::from_slice(alloc, &[byte])?))
 }
 
-/// The value that a letter is.
+/// The bytes of the value that a letter encodes.
 #[tactic(auto, unfolding(crate::specs::ConfiguredValues::letter_value))]
 fn letter_value(
     alloc: Global,
@@ -271,7 +286,7 @@ fn is_quoted(text: &[u8]) -> bool
     text[text.len() - 1] == b'"'
 }
 
-/// So many bytes of a text that leave room for a zero, and zeros.
+/// The bytes of a text, cut to leave room for a zero, with zeros up to a length.
 fn cut_string(alloc: Global, len: u32, text: &[u8]) -> Result<Items<u8>, AllocError>
     ensures { IfOk result (λ bytes. bytes ≡ cut_string len text.now) }
 {
@@ -283,7 +298,7 @@ fn cut_string(alloc: Global, len: u32, text: &[u8]) -> Result<Items<u8>, AllocEr
     Ok(bytes)
 }
 
-/// The value that a quoted string is.
+/// The bytes of the value that a quoted string encodes.
 #[tactic(auto, unfolding(crate::specs::ConfiguredValues::string_value))]
 fn string_value(alloc: Global, kind: KconfigType, text: &[u8]) -> Result<Items<u8>, ValueFault>
     ensures { Gives is_value_memory result (string_value kind text.now) }
@@ -297,7 +312,13 @@ fn string_value(alloc: Global, kind: KconfigType, text: &[u8]) -> Result<Items<u
     Ok(cut_string(alloc, len, &text[1..text.len() - 1])?)
 }
 
-/// The value that a text is to an extern of a type.
+/// The bytes of an extern of a type, from a text of a configuration.
+///
+/// # Errors
+///
+/// - `Unsuited`: the text is no value of the type, or can't be read.
+/// - `OutOfRange`: the number is out of the type's range, or of 64 bits.
+/// - `OutOfMemory`: an allocation failed.
 #[tactic(auto, unfolding(crate::specs::ConfiguredValues::text_value))]
 pub fn text_value(
     alloc: Global,

@@ -1,4 +1,4 @@
-//! The counts of a section's symbols: of its kind, its address, its size, and its func info and line info.
+//! The facts of a section that count for its symbols: its kind, address and size, its func info and line info.
 
 ghost use Rattle.std.specs.Prelude.{◌≡◌, true, filter, length, ◌<◌, ◌^◌};
 ghost use Rattle.ebpf_limits.specs.OwnedBytes.{contents_by, func_count, line_count, first_slot, offset_by, function_bytes, placed_by, record_bytes};
@@ -16,7 +16,7 @@ use ebpf_sections::sections::name_or_empty;
 use std::alloc::{AllocError, Global};
 use std::marker::Model;
 
-/// The number of rows that name one of `count` slots from a slot on.
+/// The number of rows that name one of `count` slots from slot `first` on.
 pub fn count_among<R: NamesSlot>(rows: &[R], first: u64, count: u64) -> usize
     requires { rises_from R.slot_of 0 rows.now ≡ true }
     ensures { result ≡ length (filter (is_among_slots R.slot_of first count) rows.now) }
@@ -26,7 +26,7 @@ pub fn count_among<R: NamesSlot>(rows: &[R], first: u64, count: u64) -> usize
     end - start
 }
 
-/// The names of a file's sections of code; none where the file has no `.BTF.ext`.
+/// The names of a file's sections of code; empty where the file has no `.BTF.ext`.
 pub fn code_names<'a>(
     alloc: Global,
     file: &ElfFile<'a>,
@@ -46,8 +46,10 @@ pub fn code_names<'a>(
     Ok(names)
 }
 
+/// The facts of a section that count for its symbols.
 #[derive(Drop)]
 pub struct Facts<'e> {
+    /// The kind of the section.
     pub kind: EbpfSectionKind,
     address: u64,
     size: u64,
@@ -151,7 +153,7 @@ impl<'e> Facts<'e> {
         named + code + record_bytes(funcs, lines)
     }
 
-    /// The bytes of a symbol in the section, beside its own entry.
+    /// The number of bytes of a symbol in the section, without the symbol's own entry.
     pub fn placed_bytes(&self, license: usize, named: u128, symbol: &ElfSymbol<'_>) -> u128
         requires { named < 2 ^ 65 }
         ensures exact { result
@@ -171,7 +173,7 @@ impl<'e> Facts<'e> {
     }
 }
 
-/// The bytes of records: 8 each of func info, 16 each of line info.
+/// The number of bytes of info entries: 8 for each func info entry, 16 for each line info entry.
 fn record_bytes(funcs: u128, lines: u128) -> u128
     requires few_funcs { funcs < 2 ^ 64 }
     requires few_lines { lines < 2 ^ 64 }
@@ -181,7 +183,7 @@ fn record_bytes(funcs: u128, lines: u128) -> u128
     8 * funcs + 16 * lines
 }
 
-/// The bytes of a section itself, before its info entries are looked at.
+/// The number of bytes of a section itself, before its info entries are counted.
 pub fn contents_bytes(
     kind: EbpfSectionKind,
     named: u128,

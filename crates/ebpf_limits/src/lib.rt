@@ -1,4 +1,4 @@
-//! Objects that own no more than a stated number of bytes: what is made of a file is counted before it is made.
+//! Objects that own at most a stated number of bytes: the bytes are counted before they are allocated.
 #![tactic(auto)]
 
 mod facts;

@@ -1,4 +1,4 @@
-//! How many bytes are made of a file, and parsing within a limit.
+//! The number of bytes that are made of a file, and parsing within a limit.
 
 ghost use Rattle.std.specs.Prelude.{◌≡◌, ◌+◌, ◌<◌, IfOk, nat_le, Some, ◌≤◌, ◌^◌, OnOk, length, option_map};
 ghost use Rattle.std.specs.Bool.{OnTrue, OnFalse};
@@ -20,7 +20,9 @@ use ebpf_parts::{EbpfSectionKind, ParseError, ParseMode};
 use ebpf_sections::section_records::FoundRecords;
 use std::alloc::{AllocError, Global};
 
-/// The number of bytes that may still be made. It counts down, since a sum over a file may pass 64 bits.
+/// The number of bytes that may still be made.
+///
+/// The number counts down, since a sum over a file may pass 64 bits.
 #[derive(Drop)]
 pub struct Room {
     pub left: u64,
@@ -40,14 +42,14 @@ impl Room {
     }
 }
 
-/// A limit on what is made of a file.
+/// The limit on the bytes that are made of a file.
 #[derive(Clone, Copy, Debug, PartialEq, Eq)]
 pub struct Limits {
-    /// How many bytes the object may own at most.
+    /// The maximum number of bytes that the object may own.
     pub most_bytes: u64,
 }
 
-/// Takes the names of sections and the license. The names come first: sections are looked for by their names then.
+/// Takes the bytes of the section names and the license. Names come first, since sections are searched by name next.
 fn take_first(room: &mut Room, bytes: &[u8], file: &ElfFile<'_>) -> bool
     requires { file.now ≡ bytes.now }
     ensures fits { OnTrue result (room.new.left + first_bytes file.now ≡ room.old.left) }
@@ -145,7 +147,7 @@ pub fn take_relocations(room: &mut Room, file: &ElfFile<'_>, all: &[Facts<'_>]) 
     true
 }
 
-/// The ELF file in bytes.
+/// The ELF file in some bytes.
 fn read_elf(bytes: &[u8]) -> Result<ElfFile<'_>, ParseError>
     ensures file { IfOk result (λ file. file ≡ bytes.now) }
     ensures fault { fault_of result ≡ option_map ElfError (first_in (faults bytes.now)) }
@@ -156,7 +158,7 @@ fn read_elf(bytes: &[u8]) -> Result<ElfFile<'_>, ParseError>
     }
 }
 
-/// Refuses bytes that are no file, or of which more would be made than is allowed.
+/// Refuses bytes that are no ELF file, or whose count passes the limit.
 #[tactic(auto, unfolding(crate::specs::Within::size_fault))]
 fn check_size(alloc: Global, bytes: &[u8], most_bytes: u64) -> Result<(), ParseError>
     ensures fault { Refuses is_parse_memory result (size_fault most_bytes bytes.now) }
@@ -170,18 +172,29 @@ fn check_size(alloc: Global, bytes: &[u8], most_bytes: u64) -> Result<(), ParseE
     Ok(())
 }
 
-/// The object that the bytes of an ELF64 file are by a parse mode, as `Object::parse_as` gives it, where what is made of the
-/// file owns at most `most_bytes` bytes. That is counted before anything is made: 8 bytes for each slot, 1 for each byte of
-/// data, of the license and of names, 64 for each entry of a table, 8 and 16 for each record of func info and of line info,
-/// the license once more for each program, the type information as it stands in the file; each entry that is put into a
-/// table, also where a later one takes its place, and 64 and the name once more for each symbol, since it may name an extern.
-/// The records of a section of code are counted once more, and all of them at each of its functions where they don't stand in
-/// the order of their slots. A name that can't be read counts as many bytes as the file has.
+/// Returns the object in the bytes of an ELF64 file, where the bytes that it owns are within a limit.
+///
+/// The object is the one that `Object::parse_as` returns for the parse mode. Before anything is allocated, these bytes
+/// are counted and compared with `most_bytes`:
+///
+/// - 8 bytes for each slot.
+/// - 1 byte for each byte of data, of the license and of names. The license counts once more for each program.
+/// - 64 bytes for each entry of a table, also where a later entry replaces it.
+/// - 64 bytes and the name once more for each symbol, since it may name an extern.
+/// - 8 bytes for each func info entry, 16 bytes for each line info entry. The info entries of a section of code count
+///   once more. All of them count at each function of the section where they are not sorted by slot.
+/// - The type information with its length in the file.
+/// - The length of the file for each name that can't be read.
 ///
 /// # Errors
 ///
-/// `ElfError` where the bytes are no file; then `TooLarge` where more would be made; then those of `Object::parse_as` in
-/// their order. `OutOfMemory` only where memory was refused.
+/// In this order:
+///
+/// - `ElfError`: the bytes are no ELF64 file.
+/// - `TooLarge`: the count passes the limit.
+/// - The errors of `Object::parse_as`, in their order.
+///
+/// `OutOfMemory`: an allocation failed.
 pub fn parse_within(
     alloc: Global,
     bytes: &[u8],

@@ -22,7 +22,7 @@ pub fn facts_at<'f, 'e>(all: &'f [Facts<'e>], index: Option<usize>) -> Option<&'
     all.get(index?.saturating_sub(1))
 }
 
-/// The bytes of a symbol in a section, beside its own entry.
+/// The number of bytes of a symbol in a section, without the symbol's own entry.
 fn placed_bytes(
     facts: Option<&Facts<'_>>,
     license: usize,
@@ -40,7 +40,7 @@ fn placed_bytes(
     }
 }
 
-/// The bytes of a symbol.
+/// The number of bytes of a symbol.
 #[tactic(auto, unfolding(crate::specs::OwnedBytes::symbol_bytes))]
 fn symbol_bytes(bytes: &[u8], license: usize, all: &[Facts<'_>], symbol: &ElfSymbol<'_>) -> u128
     ensures { result ≡ symbol_bytes bytes.now license all.now symbol.now }
@@ -72,10 +72,10 @@ pub fn take_symbols(
     true
 }
 
-/// The bytes of an entry of a table, beside its name and its lists.
+/// The number of bytes of an entry of a table, without its name and its lists.
 pub const ENTRY: u128 = 64;
 
-/// The bytes of an entry by a section's name.
+/// The number of bytes of an entry with a section's name.
 pub fn section_named_bytes(bytes: &[u8], section: &ElfSection<'_>) -> u128
     ensures exact { result ≡ named_bytes bytes.now (section_name section.now) }
     ensures few { result < 2 ^ 65 }
@@ -86,7 +86,7 @@ pub fn section_named_bytes(bytes: &[u8], section: &ElfSection<'_>) -> u128
     }
 }
 
-/// The bytes of an entry by a symbol's name.
+/// The number of bytes of an entry with a symbol's name.
 pub fn symbol_named_bytes(bytes: &[u8], symbol: &ElfSymbol<'_>) -> u128
     ensures exact { result ≡ named_bytes bytes.now (symbol_name symbol.now) }
     ensures few { result < 2 ^ 65 }
@@ -97,7 +97,7 @@ pub fn symbol_named_bytes(bytes: &[u8], symbol: &ElfSymbol<'_>) -> u128
     }
 }
 
-/// The bytes of a section's index by its name.
+/// The number of bytes of a section's index by its name.
 #[tactic(auto, unfolding(crate::specs::OwnedBytes::section_entry_bytes))]
 fn entry_bytes(bytes: &[u8], section: &ElfSection<'_>) -> u128
     ensures { result ≡ section_entry_bytes bytes.now section.now }
@@ -121,7 +121,7 @@ pub fn take_names(room: &mut Room, bytes: &[u8], file: &ElfFile<'_>) -> bool
     true
 }
 
-/// Takes the bytes of a section itself, and gives its facts. Its info entries are looked at once they are taken.
+/// Takes the bytes of a section itself, and returns its facts. The info entries are counted afterwards.
 #[tactic(auto, unfolding(crate::specs::OwnedBytes::contents_bytes, crate::specs::OwnedBytes::facts_of))]
 fn take_section<'e>(
     room: &mut Room,
@@ -144,7 +144,7 @@ fn take_section<'e>(
     Some(Facts::new(kind, section, funcs, lines))
 }
 
-/// Takes the bytes of the sections themselves, and gives the facts of each. `None` if they pass the limit.
+/// Takes the bytes of the sections themselves, and returns the facts of each. `None` if they pass the limit.
 pub fn take_sections<'e>(
     alloc: Global,
     room: &mut Room,

@@ -1,4 +1,4 @@
-//! The types that programs are attached to.
+//! The kernel types to which programs are attached.
 
 ghost use Rattle.std.specs.Prelude.{◌≡◌, ◌==◌, ◌++◌, IfOk, string_bytes};
 ghost use Rattle.std.specs.List.{after_first};
@@ -11,20 +11,20 @@ use ebpf_base::Text;
 use ebpf_btf::{Btf, BtfKind};
 use std::alloc::{AllocError, Global};
 
-/// What a program is attached to, where that is a type.
+/// The kind of a target to which a program is attached, where the target is a type.
 #[derive(Clone, Copy)]
 pub enum TargetKind {
-    /// A trace point of the kernel.
+    /// A tracepoint of the kernel.
     TracePoint,
-    /// A place where the kernel asks its security modules.
+    /// A hook of the kernel's security modules (LSM).
     SecurityHook,
-    /// A walk over things of the kernel.
+    /// An iterator over objects of the kernel.
     Iterator,
     /// A function, of the kernel or of another program.
     Function,
 }
 
-/// What the programs of a section are attached to, by the first piece of the section's name.
+/// The kind of target of the programs of a section, by the first part of the section's name. `None` for other programs.
 #[tactic(auto, unfolding(crate::specs::AttachTargets::targets))]
 pub fn target_by(piece: &str) -> Option<TargetKind>
     ensures { result ≡ lookup_piece targets piece.now }
@@ -42,7 +42,7 @@ pub fn target_by(piece: &str) -> Option<TargetKind>
 }
 
 impl TargetKind {
-    /// What stands before a target's name in the name of its type.
+    /// The prefix of a target's name in the name of its type.
     #[tactic(auto, unfolding(crate::specs::AttachTargets::prefix_of))]
     pub fn prefix(self) -> &'static str
         ensures { result.now ≡ prefix_of self }
@@ -55,7 +55,7 @@ impl TargetKind {
         }
     }
 
-    /// The kind of that type.
+    /// The BTF kind of the target's type.
     #[tactic(auto, unfolding(crate::specs::AttachTargets::kind_of_target))]
     pub fn kind(self) -> BtfKind
         ensures { result ≡ kind_of_target self }
@@ -67,26 +67,26 @@ impl TargetKind {
     }
 }
 
-/// What the programs of a section are attached to, as a type.
+/// The target to which the programs of a section are attached, as a type.
 #[derive(Debug, Drop)]
 pub enum AttachTarget {
-    /// They are loaded without the id of a type.
+    /// The programs are loaded without the id of a type.
     NotWanted,
-    /// They are loaded with the id of a type, and the section's name has no name of a target.
+    /// The programs are loaded with the id of a type, and the section's name holds no name of a target.
     Unnamed,
-    /// The type of the target.
+    /// The target has a type.
     Found {
-        /// Its id.
+        /// The id of the target's type.
         type_id: u32,
     },
-    /// There is no type of the target.
+    /// No type has the name of the target.
     NotFound {
-        /// The name that the type would have.
+        /// The name of the missing type.
         name: Text,
     },
 }
 
-/// A section's name without the mark before it, `?`.
+/// The name of a section without a leading `?`.
 fn without_mark(section_name: &str) -> &str
     ensures { result.now ≡ without_mark section_name.now }
 {
@@ -96,7 +96,7 @@ fn without_mark(section_name: &str) -> &str
     }
 }
 
-/// What stands before the first slash.
+/// The part of a name before the first slash.
 fn before_slash(name: &str) -> &str
     ensures { result.now ≡ first_piece name.now }
 {
@@ -106,7 +106,7 @@ fn before_slash(name: &str) -> &str
     }
 }
 
-/// What follows the first slash: nothing where there is none.
+/// The part of a name behind the first slash; empty where there is no slash.
 fn behind_slash(name: &str) -> &str
     ensures { result.now ≡ after_first (λ b. b == 47) name.now }
 {
@@ -116,7 +116,7 @@ fn behind_slash(name: &str) -> &str
     }
 }
 
-/// A target's name without the kernel's before it.
+/// The name of a target without a leading `vmlinux:`.
 fn in_kernel(name: &str) -> &str
     ensures { result.now ≡ in_kernel name.now }
 {
@@ -160,20 +160,30 @@ fn target_in(
     Ok(type_named(name, target.kind(), types))
 }
 
-/// What the programs of a section of this name are attached to, as a type of these types: those of the kernel, or for
-/// `freplace` those of the program that is replaced.
+/// Returns the target of the programs of a section, as a type.
 ///
-/// The name of the target follows the first slash; `vmlinux:` before it is skipped, as is a `?` before the section's
-/// name. The type of `tp_btf/NAME` is the TYPEDEF `btf_trace_NAME`, of `lsm`, `lsm.s` and `lsm_cgroup` the FUNC
-/// `bpf_lsm_NAME`, of `iter` and `iter.s` the FUNC `bpf_iter_NAME`; of `fentry`, `fexit` and `fmod_ret`, each with `.s`
-/// behind it too, and of `freplace` the FUNC `NAME`. Of several types the one with the lowest id is found. A type whose
-/// name can't be read is passed over; names are compared in place, and none of the types' is copied.
+/// `types` are the types of the kernel, or for `freplace` the types of the program that is replaced.
 ///
-/// Unlike libbpf, which refuses the name of a type of 128 bytes or more, this looks for names of any length; and a
-/// target in a module, as `fentry/MODULE:NAME`, for which libbpf reads the module's types, is looked for here by all
-/// that follows the slash.
+/// The name of the target is the part of the section's name behind the first slash. A leading `?` of the section's name
+/// and a leading `vmlinux:` of the target's name are skipped. The type is searched by kind and name:
 ///
-/// An error only where memory for the name of the type is refused.
+/// - `tp_btf/NAME`: the TYPEDEF `btf_trace_NAME`.
+/// - `lsm`, `lsm.s` and `lsm_cgroup`: the FUNC `bpf_lsm_NAME`.
+/// - `iter` and `iter.s`: the FUNC `bpf_iter_NAME`.
+/// - `fentry`, `fexit` and `fmod_ret`, each also with `.s`, and `freplace`: the FUNC `NAME`.
+///
+/// Of several types the one with the lowest id is found. A type whose name can't be read is skipped. Names are compared
+/// in place: no name of the types is copied.
+///
+/// Two differences to libbpf 1.5:
+///
+/// - libbpf refuses type names of 128 bytes or more. This function searches for names of any length.
+/// - libbpf reads the types of the module for `fentry/MODULE:NAME`. This function searches for a type with the whole
+///   name behind the slash.
+///
+/// # Errors
+///
+/// - `AllocError`: an allocation for the name of the type failed.
 #[tactic(auto, unfolding(crate::specs::AttachTargets::attach_target))]
 pub fn attach_target(
     alloc: Global,

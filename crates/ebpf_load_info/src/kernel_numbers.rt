@@ -1,4 +1,4 @@
-//! The numbers of helpers and of types of maps that a kernel knows.
+//! The numbers of helpers and of map types that a kernel knows.
 
 ghost use Rattle.std.specs.Prelude.{◌≡◌, find};
 ghost use Rattle.std.specs.List.{list_any};
@@ -18,7 +18,7 @@ struct Enumerations<'a> {
     map_types: Option<Rows<'a, BtfEnum>>,
 }
 
-/// The enumerators of an ENUM; other types have none.
+/// The enumerators of an ENUM; empty for other types.
 #[tactic(auto, unfolding(crate::specs::KernelNumbers::enumerators_of))]
 fn enumerators_of<'a>(ty: &BtfType<'a>) -> Rows<'a, BtfEnum>
     ensures { result ≡ enumerators_of ty.now }
@@ -29,7 +29,7 @@ fn enumerators_of<'a>(ty: &BtfType<'a>) -> Rows<'a, BtfEnum>
     }
 }
 
-/// What was found, or else the enumerators of one more type, where it is the enumeration of this name.
+/// The enumerators that were found, or else those of one more type, where that is the enumeration of this name.
 fn found_or<'a>(
     found: Option<Rows<'a, BtfEnum>>,
     types: &Btf,
@@ -103,7 +103,7 @@ fn name_by<'a>(types: &'a Btf, enumerator: &BtfEnum) -> Option<&'a str>
     without_prefix(as_text(bytes)?, "BPF_FUNC_")
 }
 
-/// The numbers that a kernel knows, by its types.
+/// The numbers of helpers and of map types that a kernel knows, by its types.
 ///
 /// Contracts see the types.
 #[derive(Drop)]
@@ -127,7 +127,9 @@ impl<'a> Model for KernelNumbers<'a> {
 }
 
 impl<'a> KernelNumbers<'a> {
-    /// The numbers that the kernel with these types knows. The types are gone over once, and no memory is taken.
+    /// Returns the numbers that the kernel with these types knows.
+    ///
+    /// The types are read once. No memory is allocated.
     pub fn of(types: &'a Btf) -> KernelNumbers<'a>
         ensures { result ≡ types.now }
     {
@@ -137,8 +139,10 @@ impl<'a> KernelNumbers<'a> {
         }
     }
 
-    /// Whether the kernel knows the helper with a number: whether an enumerator of its `enum bpf_func_id` has it, but
-    /// for `__BPF_FUNC_MAX_ID`. So 0, `BPF_FUNC_unspec`, is known. `None` where its types have no such ENUM.
+    /// Whether the kernel knows the helper with a number.
+    ///
+    /// The kernel knows it where an enumerator of `enum bpf_func_id` other than `__BPF_FUNC_MAX_ID` has the number. So
+    /// 0 (`BPF_FUNC_unspec`) is known. The result is `None` where the kernel's types have no such ENUM.
     #[tactic(auto, unfolding(crate::specs::KernelNumbers::knows_helper))]
     pub fn knows_helper(&self, number: u32) -> Option<bool>
         ensures { result ≡ knows_helper self.now number }
@@ -149,9 +153,10 @@ impl<'a> KernelNumbers<'a> {
         }
     }
 
-    /// Whether the kernel knows the type of maps with a number: whether an enumerator of its `enum bpf_map_type` has
-    /// it, but for `__MAX_BPF_MAP_TYPE`. So 0, `BPF_MAP_TYPE_UNSPEC`, is known. `None` where its types have no such
-    /// ENUM.
+    /// Whether the kernel knows the map type with a number.
+    ///
+    /// The kernel knows it where an enumerator of `enum bpf_map_type` other than `__MAX_BPF_MAP_TYPE` has the number.
+    /// So 0 (`BPF_MAP_TYPE_UNSPEC`) is known. The result is `None` where the kernel's types have no such ENUM.
     #[tactic(auto, unfolding(crate::specs::KernelNumbers::knows_map_type))]
     pub fn knows_map_type(&self, number: u32) -> Option<bool>
         ensures { result ≡ knows_map_type self.now number }
@@ -162,9 +167,11 @@ impl<'a> KernelNumbers<'a> {
         }
     }
 
-    /// The name of the helper with a number: that of the first enumerator of the kernel's `enum bpf_func_id` that has
-    /// it, behind `BPF_FUNC_`. `None` where none has it but `__BPF_FUNC_MAX_ID`, or its name is no text or doesn't begin
-    /// so. No memory is taken.
+    /// Returns the name of the helper with a number, without the prefix `BPF_FUNC_`.
+    ///
+    /// The name is that of the first enumerator of `enum bpf_func_id` with the number, `__BPF_FUNC_MAX_ID` aside. The
+    /// result is `None` where no enumerator has the number, or its name is no text or lacks the prefix. No memory is
+    /// allocated.
     #[tactic(auto, unfolding(crate::specs::KernelNumbers::helper_name))]
     pub fn helper_name(&self, number: u32) -> Option<&'a str>
         ensures { option_copied result ≡ helper_name self.now number }

@@ -1,5 +1,5 @@
-//! What a loader of eBPF programs needs beside their slots: the types that programs are attached to, the numbers that a
-//! kernel knows, and the types of maps.
+//! The values that a loader of eBPF programs needs apart from their slots: the types to which programs are attached,
+//! the numbers that a kernel knows, and the types of maps.
 #![tactic(auto)]
 
 mod attach;

@@ -1,4 +1,4 @@
-//! The types of keys and values that maps are created with.
+//! The types of the keys and values with which maps are created.
 
 ghost use Rattle.std.specs.Prelude.{◌≡◌, nat_eq};
 ghost use Rattle.std.specs.List.{list_any};
@@ -12,9 +12,9 @@ use ebpf_parts::maps::{LegacyMap, Map};
 /// The types of a map's keys and values, as `BPF_MAP_CREATE` takes them (`btf_key_type_id` and `btf_value_type_id`).
 #[derive(Clone, Copy, Debug, Default, PartialEq, Eq)]
 pub struct MapTypeIds {
-    /// The id of the type of keys, 0 where there is none.
+    /// The id of the type of the keys; 0 where there is none.
     pub key: u32,
-    /// The id of the type of values, 0 where there is none.
+    /// The id of the type of the values; 0 where there is none.
     pub value: u32,
 }
 
@@ -47,7 +47,7 @@ fn is_untyped(map_type: u32) -> bool
     UNTYPED_MAPS.contains(&map_type)
 }
 
-/// What a type of maps takes of some ids.
+/// The ids that a map type takes, out of some ids.
 fn ids_of_map_type(map_type: u32, ids: MapTypeIds) -> MapTypeIds
     ensures { result ≡ ids_of_map_type map_type ids }
 {
@@ -71,7 +71,7 @@ fn has_value_type(kind: EbpfSectionKind) -> bool
     )
 }
 
-/// The size that a type states, 0 where it states none.
+/// The size that a type states in bytes; 0 where it states none.
 fn stated_size(types: &Btf, type_id: u32) -> u32
     ensures { result ≡ stated_size types.now type_id }
 {
@@ -89,7 +89,7 @@ fn is_type_of(types: &Btf, map: &LegacyMap, type_id: u32) -> bool
     map.def.value_size as usize == map.bytes.len() && (size == 0 || size == map.def.value_size)
 }
 
-/// The type of the value of a data section's map, 0 where it has none.
+/// The type of the value of a data section's map; 0 where it has none.
 fn data_type(types: &Btf, name: &str, map: &LegacyMap) -> u32
     ensures { result ≡ data_type types.now name.now map.now }
 {
@@ -116,15 +116,16 @@ fn stated_ids(types: &Btf, name: &str, map: &Map) -> MapTypeIds
     }
 }
 
-/// The types of keys and values that a map of this name is created with, where `types` are those of its object. An inner
-/// map is asked as any other.
+/// Returns the types of the keys and values with which a map is created.
 ///
-/// Maps of the types 4, 7, 8, 12 to 18, 22, 23, 25 and 33 take none, and of type 26 (`BPF_MAP_TYPE_STRUCT_OPS`) no type
-/// of values. Others have the types that their definitions state; one by a fixed struct states none.
+/// `types` are the types of the map's object. The same holds for an inner map.
 ///
-/// The value of a data section's map has the first DATASEC of the section's name as its type, and its key has none. It
-/// has no type where the size of the value has been changed: where it is not that of the map's data, or another than the
-/// DATASEC states. A DATASEC that states size 0, as compilers write it, is of any size.
+/// - Map types 4, 7, 8, 12 to 18, 22, 23, 25 and 33: no types.
+/// - Map type 26 (`BPF_MAP_TYPE_STRUCT_OPS`): no type of values.
+/// - Other map types: the types that the definition states. A map by a fixed struct states none.
+/// - The map of a data section: no type of keys. The type of the value is the first DATASEC of the section's name.
+///   There is none where the size of the value was changed: where it differs from the length of the map's data, or from
+///   the size that the DATASEC states. A DATASEC that states size 0, as compilers write it, fits any size.
 #[tactic(auto, unfolding(crate::specs::MapTypeIds::map_type_ids))]
 pub fn map_types(name: &str, map: &Map, types: &Btf) -> MapTypeIds
     ensures { result ≡ map_type_ids name.now map.now types.now }

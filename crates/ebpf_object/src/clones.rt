@@ -19,7 +19,11 @@ struct Carried {
     btf_ext: Option<BtfExt>,
 }
 
-/// A copy of a map by names.
+/// Returns a copy of a map by names.
+///
+/// # Errors
+///
+/// - `AllocError`: an allocation failed.
 #[tactic(auto, using(ebpf_base::proofs::SameMaps::exact_copy))]
 pub fn copy_names<V: Clone>(values: &ByName<V>) -> Result<ByName<V>, AllocError>
     requires { (x y : V) → V.is_clone x y → y ≡ x }
@@ -28,7 +32,11 @@ pub fn copy_names<V: Clone>(values: &ByName<V>) -> Result<ByName<V>, AllocError>
     values.clone()
 }
 
-/// A copy of a map by sections and addresses.
+/// Returns a copy of a map by sections and addresses.
+///
+/// # Errors
+///
+/// - `AllocError`: an allocation failed.
 #[tactic(auto, using(ebpf_base::proofs::SameMaps::exact_copy))]
 pub fn copy_keys<V: Clone>(values: &ByKey<V>) -> Result<ByKey<V>, AllocError>
     requires { (x y : V) → V.is_clone x y → y ≡ x }

@@ -13,7 +13,7 @@ use ebpf_model::{EbpfRelocationError, Program};
 use ebpf_reloc::{LinkMap, Linkable, NumberedFunctions, ProgramKey, number_functions};
 use std::collections::HashSet;
 
-/// An object whose functions have numbers, for what each of its linked programs is made of.
+/// An object whose functions have numbers, for the link maps of its programs.
 #[derive(Drop)]
 pub struct ProgramMaps<'a> {
     /// The object.
@@ -43,11 +43,11 @@ impl ProgramMaps<'_> {
         self.functions.program_link_map(alloc, &key)
     }
 
-    /// The link map of the program with this name, as `Object::link_map` gives it.
+    /// Returns the link map of the program with this name, as `Object::link_map` does.
     ///
     /// # Errors
     ///
-    /// Those of `Object::link_map`.
+    /// The errors of `Object::link_map`.
     pub fn of(&self, name: &str) -> Result<Option<LinkMap>, EbpfRelocationError>
         ensures program { MatchOption (map.get self.now.object.now.programs name.now)
             (result ≡ Ok None) (λ p.
@@ -65,12 +65,14 @@ impl ProgramMaps<'_> {
 }
 
 impl Object {
-    /// The object with numbers for its functions, whose calls are found once for the maps of all programs.
-    /// `text_sections` has the indices of the sections whose symbols are functions.
+    /// Returns the object with numbers for its functions, for the link maps of several programs.
+    ///
+    /// The calls of the functions are found once for all programs. `text_sections` holds the indices of the sections
+    /// whose symbols are functions.
     ///
     /// # Errors
     ///
-    /// `OutOfMemory`, with the empty name, only where memory was refused.
+    /// - `OutOfMemory`, with an empty name: an allocation failed.
     pub fn program_maps<'a>(
         &'a self,
         text_sections: &'a HashSet<usize>,
@@ -96,19 +98,29 @@ impl Object {
         })
     }
 
-    /// What the program with this name is made of once `relocate_calls` has linked it: its own function, at base 0,
-    /// and then a copy of each function that its references reach, in the order of their key paths, with the places
-    /// at which they begin and their numbers of slots; and the references of all copies, in the order of their
-    /// places, with the places at which the copies begin that they lead to. `None` exactly where no program has
-    /// the name. Nothing is linked, and no slot is written. `text_sections` has the indices of the sections whose
-    /// symbols are functions. For several programs `program_maps` looks the functions over once.
+    /// Returns the link map of the program with this name: the functions that it holds once `relocate_calls` has linked
+    /// it.
+    ///
+    /// The link map has two parts:
+    ///
+    /// - The program's own function at base 0, and then a copy of each function that its references reach, in the order
+    ///   of their key paths (depth-first pre-order by slot). Each copy has its first slot in the program and its number
+    ///   of slots.
+    /// - The references of all copies, in the order of their slots, each with the first slot of the copy that it leads
+    ///   to.
+    ///
+    /// The result is `None` exactly where no program has the name. Nothing is linked, and no slot is written.
+    /// `text_sections` holds the indices of the sections whose symbols are functions. For several programs,
+    /// `program_maps` finds the calls once.
     ///
     /// # Errors
     ///
-    /// Those of `relocate_calls` for this program alone, with its name: `UnknownProgram` where it has no function; else
-    /// at the first slot in the order of the copies `UnsupportedTextSymbol`, `UnknownFunction`,
-    /// `FunctionInfoMismatch`, `ProgramTooLong` past 2,147,483,647 slots, `InvalidLineInfo`. `OutOfMemory`, with the
-    /// empty name, only where memory was refused.
+    /// The errors of `relocate_calls` for this program alone, with the program's name:
+    ///
+    /// - `UnknownProgram`: the program has no function.
+    /// - The first of these, in the order of the slots of the copies: `UnsupportedTextSymbol`, `UnknownFunction`,
+    ///   `FunctionInfoMismatch`, `ProgramTooLong` (more than 2,147,483,647 slots), `InvalidLineInfo`.
+    /// - `OutOfMemory`, with an empty name: an allocation failed.
     pub fn link_map(
         &self,
         name: &str,

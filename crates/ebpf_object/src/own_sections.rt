@@ -1,4 +1,4 @@
-//! Calls by the sections that an object's own functions stand in.
+//! The linking of calls over the sections that hold an object's own functions.
 
 ghost use Rattle.std.specs.Prelude.{◌≡◌, ⊤, IfErr, OnOk, OnErr, MatchBool, MatchOption, Ok, None};
 ghost use Rattle.std.specs.FinMap as map;
@@ -12,12 +12,13 @@ use ebpf_model::EbpfRelocationError;
 use ebpf_reloc::LinkMap;
 
 impl Object {
-    /// Links each program with every function that its references reach, as `relocate_calls` does with the sections that
-    /// the object's functions stand in.
+    /// Links each program with every function that its references reach.
+    ///
+    /// It does what `relocate_calls` does with the sections that hold the object's functions.
     ///
     /// # Errors
     ///
-    /// Those of `relocate_calls`. After a refusal the object is as it was.
+    /// The errors of `relocate_calls`. On error the object is unchanged.
     pub fn relocate_own_calls(&mut self) -> Result<(), EbpfRelocationError>
         ensures functions { OnOk result
             (ProgramsAreLinked (linkable_of self.old (has_function_in self.old.functions))
@@ -37,12 +38,14 @@ impl Object {
         self.relocate_calls(&sections)
     }
 
-    /// The link map of the program with this name, as `link_map` gives it with the sections that the object's functions
-    /// stand in. `None` exactly where no program has the name.
+    /// Returns the link map of the program with this name.
+    ///
+    /// It does what `link_map` does with the sections that hold the object's functions. The result is `None` exactly
+    /// where no program has the name.
     ///
     /// # Errors
     ///
-    /// Those of `link_map`.
+    /// The errors of `link_map`.
     pub fn own_link_map(&self, name: &str) -> Result<Option<LinkMap>, EbpfRelocationError>
         ensures program { MatchOption (map.get self.now.programs name.now) (result ≡ Ok None) (λ p.
             MapsProgram (linkable_of self.now (has_function_in self.now.functions))

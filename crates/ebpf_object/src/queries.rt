@@ -55,23 +55,25 @@ fn any_strong_typed(externs: &ByName<ExternDesc>) -> bool
 }
 
 impl Object {
-    /// Whether the object has type information, and an extern whose type is compared with the kernel's.
+    /// Whether the object has type information, and an extern whose type is compared with the kernel's type.
     pub fn has_typed_ksyms(&self) -> bool
         ensures { result ≡ has_typed self.now.btf self.now.externs }
     {
         self.btf.is_some() && any_typed(&self.externs)
     }
 
-    /// Whether the object has type information, and an extern whose type is compared with the kernel's and that
-    /// may not stay unresolved.
+    /// Whether the object has type information, and an extern that must be resolved and whose type is compared with the
+    /// kernel's type.
     pub fn has_strong_typed_ksyms(&self) -> bool
         ensures { result ≡ has_strong_typed self.now.btf self.now.externs }
     {
         self.btf.is_some() && any_strong_typed(&self.externs)
     }
 
-    /// The function of the program with this name: its own slots as parsed, and after `relocate_calls` those of every
-    /// function that it reaches behind them. `None` where no program has the name, or the program no function, as never
+    /// Returns the function of the program with this name.
+    ///
+    /// The function holds its own slots as parsed. After `relocate_calls` the slots of every function that it reaches
+    /// follow. The result is `None` where no program has the name, or the program has no function, which never occurs
     /// in a parsed object.
     pub fn program_function(&self, name: &str) -> Option<&Function>
         ensures { option_copied result ≡ function_of_named_program self.now name.now }
@@ -83,9 +85,11 @@ impl Object {
     }
 }
 
-/// The name of the section with this index in a file. So a program's `section_index` gives the name of its section, by
-/// which it says where it is to be attached; also where two sections share one name, of which `Object::section_infos`
-/// has the later one alone. `None` where no section has the index, or its name can't be read.
+/// Returns the name of the section with this index in a file.
+///
+/// A program's `section_index` so gives the name of its section, by which the program is attached. This holds also
+/// where two sections share one name, of which `Object::section_infos` has only the later one. The result is `None`
+/// where no section has the index, or the section's name can't be read.
 pub fn section_name<'a>(file: &ElfFile<'a>, index: usize) -> Option<&'a str>
     ensures { option_copied result ≡ name_in_file file.now index }
 {
@@ -99,7 +103,11 @@ pub fn section_name<'a>(file: &ElfFile<'a>, index: usize) -> Option<&'a str>
 }
 
 impl Object {
-    /// The indices of the sections that functions stand in, by their keys. `Err` only where memory was refused.
+    /// Returns the indices of the sections that hold functions, by the functions' keys.
+    ///
+    /// # Errors
+    ///
+    /// - `AllocError`: an allocation failed.
     pub fn text_sections(&self, alloc: Global) -> Result<HashSet<usize>, AllocError>
         ensures { IfOk result (λ sections.
             text_sections_in sections ≡ has_function_in self.now.functions) }
@@ -111,7 +119,7 @@ impl Object {
         Ok(sections)
     }
 
-    /// Whether the file has a section `license`, and so states the license. Else `license` is the default `GPL`.
+    /// Whether the file has a section `license`, which states the license. Else `license` is the default `GPL`.
     pub fn states_license(&self) -> bool
         ensures named { result ≡ map.contains_key self.now.section_infos (codes "license") }
         ensures stated { (mode : ParseMode) (file : List ℕ)
@@ -121,7 +129,7 @@ impl Object {
         self.section_infos.contains_key("license")
     }
 
-    /// The allocator that the object was made with. A pass over the object takes its memory from it.
+    /// Returns the allocator that the object was made with. A pass over the object allocates from it.
     pub fn allocator(&self) -> Global
         ensures { (other : Global) → result ≡ other }
     {

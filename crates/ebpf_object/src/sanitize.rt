@@ -105,11 +105,14 @@ fn have_newer(functions: &ByKey<Function>) -> bool
 }
 
 impl Object {
-    /// Makes the functions fit for the kernel. Where one of them calls one of the helper functions 112 to 115
-    /// (`probe_read_user`, `probe_read_kernel` and the same for texts), the closure is asked once whether the
-    /// kernel has these. Where it has not, 4 (`probe_read`) takes the place of 112 and 113, and 45
-    /// (`probe_read_str`) that of 114 and 115, in all functions. Without such a call the closure isn't asked. No
-    /// memory is taken.
+    /// Replaces helper functions that an older kernel lacks.
+    ///
+    /// The helpers are 112 to 115: `probe_read_user`, `probe_read_kernel`, and the same for strings. Where a function
+    /// calls one of them, the closure is called once. It returns whether the kernel has these helpers. Where the kernel
+    /// lacks them, in all functions 4 (`probe_read`) replaces 112 and 113, and 45 (`probe_read_str`) replaces 114 and
+    /// 115.
+    ///
+    /// Without such a call the closure is not called. No memory is allocated.
     #[tactic(auto, using(crate::proofs::Sanitizing::stay))]
     pub fn sanitize_functions<F: FnOnce() -> bool + Drop>(&mut self, has_newer: F)
         requires { F.pre has_newer }

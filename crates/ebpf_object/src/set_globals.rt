@@ -118,17 +118,23 @@ impl Object {
         add_all(alloc, &lookup, globals, names.as_slice())
     }
 
-    /// Writes the values of global variables into the data of the maps that hold them, in the byte order of the
-    /// variables' names, later ones over earlier ones. A value comes with whether the object has to have the
-    /// variable; where it has no symbol of the name and need not, it is passed over. Of equal symbol names the
-    /// greatest index counts. The map is the first by name that the symbol's section has.
+    /// Writes the values of global variables into the data of the maps that hold them.
+    ///
+    /// The values are written in the byte order of the variables' names, later ones over earlier ones. Each value comes
+    /// with a flag that says whether the object must have the variable. Without the flag, a value whose name no symbol
+    /// has is ignored. Of symbols of one name the one with the greatest index counts. The map is the first by name that
+    /// the symbol's section has.
     ///
     /// # Errors
     ///
-    /// The first fault in the order of names: `SymbolNotFound` where there is no symbol and has to be one;
-    /// `InvalidGlobalData` where the value has not the symbol's size; `MapNotFound` with the symbol's section (0
-    /// without one) where that has no map; `InvalidGlobalData` where the symbol's range passes the map's data.
-    /// `OutOfMemory` only where memory was refused. After a refusal the object is as it was.
+    /// The first fault in the order of names:
+    ///
+    /// - `SymbolNotFound`: the variable must exist, and no symbol has the name.
+    /// - `InvalidGlobalData`: the value has another size than the symbol.
+    /// - `MapNotFound`, with the index of the symbol's section (0 without one): the section has no map.
+    /// - `InvalidGlobalData`: the symbol's range passes the end of the map's data.
+    ///
+    /// `OutOfMemory`: an allocation failed. On error the object is unchanged.
     pub fn patch_map_data(
         &mut self,
         globals: HashMap<&str, (&[u8], bool)>,

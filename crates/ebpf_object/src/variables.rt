@@ -19,26 +19,26 @@ use ebpf_parts::maps::Map;
 use std::alloc::{AllocError, Global};
 use thiserror::Error;
 
-/// A global variable: a symbol that has some bytes, all of them inside the data of a map.
+/// A global variable: a symbol with at least one byte, all of them inside the data of a map.
 #[derive(Clone, Copy, Debug)]
 pub struct Variable<'a> {
-    /// Its name.
+    /// The name of the variable.
     pub name: &'a str,
-    /// The name of its map: the first by name that the symbol's section has.
+    /// The name of the variable's map: the first map by name that the symbol's section has.
     pub map: &'a str,
-    /// Where it begins in the data of its map, in bytes.
+    /// The offset of the variable in the data of its map, in bytes.
     pub offset: u64,
-    /// Its size in bytes.
+    /// The size of the variable in bytes.
     pub size: u64,
 }
 
-/// Why the value of a variable could not be written.
+/// The reason why the value of a variable could not be written.
 #[derive(Clone, Copy, Debug, Drop, Error)]
 pub enum VariableError {
     /// No symbol has the name, or its bytes are not inside the data of a map.
     #[error("no variable in the data of a map has this name")]
     NotAVariable,
-    /// The value has not the variable's size.
+    /// The value has another size than the variable.
     #[error("a value of {given} bytes does not fit the variable of {size} bytes")]
     WrongSize {
         /// The size of the variable in bytes.
@@ -59,7 +59,7 @@ impl From<AllocError> for VariableError {
     }
 }
 
-/// The bytes at an offset of a block, where it is inside.
+/// The bytes at an offset of a block. `None` where they are not all inside.
 pub fn bytes_in(bytes: &[u8], at: usize, count: usize) -> Option<&[u8]>
     ensures { option_copied result ≡ bytes_in bytes.now at count }
 {
@@ -126,7 +126,7 @@ fn map_if_inside<'b>(symbol: &Symbol, name: &'b str, map: &Map) -> Option<&'b st
     }
 }
 
-/// The name of the map that has a symbol's bytes, where it has some.
+/// The name of the map that holds a symbol's bytes. `None` where no map holds them.
 pub fn variable_map<'b>(maps: &'b ByName<Map>, symbol: &Symbol) -> Option<&'b str>
     ensures { option_copied result ≡ variable_map (entries maps.now) symbol.now }
 {
@@ -197,8 +197,14 @@ fn variables_among<'a>(
 }
 
 impl Object {
-    /// The global variables, in byte order of their names: the symbols that have some bytes, all of them inside the data
-    /// of a map. Of symbols of one name that with the greatest index counts.
+    /// Returns the global variables, in byte order of their names.
+    ///
+    /// A variable is a symbol with at least one byte, all of them inside the data of a map. Of symbols of one name the
+    /// one with the greatest index counts.
+    ///
+    /// # Errors
+    ///
+    /// - `AllocError`: an allocation failed.
     pub fn variables(&self) -> Result<Items<Variable<'_>>, AllocError>
         ensures { IfOk result (λ all. map variable_value all ≡ variables self.now) }
     {
@@ -209,8 +215,13 @@ impl Object {
         }
     }
 
-    /// The bytes of a variable, as they stand in the data of its map. `None` where no symbol has the name, or its bytes
-    /// are not inside the data of a map.
+    /// Returns the bytes of a variable, as they are in the data of its map.
+    ///
+    /// The result is `None` where no symbol has the name, or its bytes are not all inside the data of a map.
+    ///
+    /// # Errors
+    ///
+    /// - `AllocError`: an allocation failed.
     pub fn value(&self, name: &str) -> Result<Option<&[u8]>, AllocError>
         ensures { IfOk result (λ value. option_copied value ≡ value_named self.now name.now) }
     {
@@ -244,13 +255,14 @@ impl Object {
         Ok(())
     }
 
-    /// Writes the value of a variable into the data of its map, as `patch_map_data` does for one that must exist.
+    /// Writes the value of a variable into the data of its map, as `patch_map_data` does for a variable that must
+    /// exist.
     ///
     /// # Errors
     ///
-    /// - `NotAVariable`: no symbol has the name, or it is one of a program, a function or a map: its bytes are not
-    ///   inside the data of a map.
-    /// - `WrongSize`: the value has not the variable's size.
+    /// - `NotAVariable`: no symbol has the name, or the symbol's bytes are not all inside the data of a map. So it is
+    ///   for the symbol of a program, a function or a map.
+    /// - `WrongSize`: the value has another size than the variable.
     /// - `OutOfMemory`: an allocation failed.
     ///
     /// On error the object is unchanged.
