@@ -3,6 +3,7 @@ pub mod Renamed
 pub mod OneResult
 pub mod Paths
 pub mod Visits
+pub mod Behaves
 pub mod Cursor
 pub mod Searched
 pub mod Whole

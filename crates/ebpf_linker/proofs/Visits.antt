@@ -4,8 +4,9 @@ use Rattle.std.specs.Prelude.{ℤ, pos, negsuc, ◌+ℤ◌, ◌==◌, slice_get}
 use Rattle.std.proofs.lemmas.Int.{ints}
 use Rattle.std.proofs.lemmas.Bool.{lt-ltb, le-ltb}
 use Rattle.std.proofs.lemmas.Option.{slice_get_within}
-use Rattle.ebpf_linker.specs.Functions.{Flow, Return, PseudoCall, WideLoad, Jump, Branch, Next, flow, slot_at_integer, is_branch, relinked, SlotReference, Nothing, Faulty, Names, Functions, body, Among, BeginsAt, Becomes, Linked, References, FunctionContent}
+use Rattle.ebpf_linker.specs.Functions.{Flow, Return, PseudoCall, WideLoad, Jump, Branch, Next, flow, slot_at_integer, is_branch, relinked, SlotReference, Nothing, Faulty, Names, Functions, body, Among, BeginsAt, Becomes, Linked, References, FunctionContent, Walk}
 use Rattle.ebpf_linker.specs.Machine.{State, StepResult, Goes, Ends, Waits, Leaves, Left, Run, pops, enters, decides, follow, step_at, after_step, run_steps, begin, referred_key, reference_at, start_of, separate, flat_code, name_from, name, SameVisits, OnCallsOrLoads, Ended, Waiting}
+use Rattle.ebpf_linker.specs.Order.{Before}
 use Rattle.ebpf_parts.specs.Slots.{is_pseudo_call}
 use Rattle.ebpf_parts.specs.declared.insn.bpf_insn.{bpf_insn}
 
@@ -44,7 +45,7 @@ module _ {K E : Type 0} (F : Functions K E) where
   begins_among (m ∷ ks) k b (inr h) = inr (begins_among ks k h.0 h.2)
 
   -- the name of a place inside a copy
-  named_at : (ks : List K) (k : K) (b i : ℕ) → BeginsAt F ks k b → i < length (body F k) → name_from F ks (b + i) ≡ Some (k, pos i)
+  pub named_at : (ks : List K) (k : K) (b i : ℕ) → BeginsAt F ks k b → i < length (body F k) → name_from F ks (b + i) ≡ Some (k, pos i)
   named_at [] k b i h lt = absurd h
   named_at (m ∷ ks) k b i (inl h) lt =
       let same : b + i ≡ i = omega (arith, h.1) in
@@ -57,21 +58,21 @@ module _ {K E : Type 0} (F : Functions K E) where
 
 module _ {K E : Type 0} (F : Functions K E) (p : K) (ks : List K) (out : List bpf_insn) where
   -- a place of the linked program stands for a slot of a function
-  abbrev Stands : K × ℤ → ℤ → Type 0
+  abbrev pub Stands : K × ℤ → ℤ → Type 0
   Stands x y = (b : ℕ) × BeginsAt F (p ∷ ks) x.0 b × (y ≡ pos b +ℤ x.1)
 
-  abbrev AllStand : List (K × ℤ) → List ℤ → Type 0
+  abbrev pub AllStand : List (K × ℤ) → List ℤ → Type 0
   AllStand [] [] = Unit {0}
   AllStand (x ∷ xs) (y ∷ ys) = Stands x y × AllStand xs ys
   AllStand [] (y ∷ ys) = ⊥
   AllStand (x ∷ xs) [] = ⊥
 
-  record Alike (s : State (K × ℤ)) (t : State ℤ) : Type 0 where
-    place : Stands s.place t.place
-    stack : AllStand s.stack t.stack
-    decisions : t.decisions ≡ s.decisions
+  pub record Alike (s : State (K × ℤ)) (t : State ℤ) : Type 0 where
+    pub place : Stands s.place t.place
+    pub stack : AllStand s.stack t.stack
+    pub decisions : t.decisions ≡ s.decisions
 
-  abbrev StepsAlike : StepResult (K × ℤ) → StepResult ℤ → Type 0
+  abbrev pub StepsAlike : StepResult (K × ℤ) → StepResult ℤ → Type 0
   StepsAlike (Goes s) (Goes t) = Alike s t
   StepsAlike Ends Ends = Unit {0}
   StepsAlike Waits Waits = Unit {0}
@@ -86,7 +87,7 @@ module _ {K E : Type 0} (F : Functions K E) (p : K) (ks : List K) (out : List bp
   StepsAlike Waits Ends = ⊥
   StepsAlike Waits Leaves = ⊥
 
-  stands_moved : (x : K × ℤ) (y d : ℤ) → Stands x y → Stands (x.0, x.1 +ℤ d) (y +ℤ d)
+  pub stands_moved : (x : K × ℤ) (y d : ℤ) → Stands x y → Stands (x.0, x.1 +ℤ d) (y +ℤ d)
   stands_moved x y d (b, h, e) = (b, h, omega (arith, ints))
 
   pops_alike : (ds es : List Bool) (xs : List (K × ℤ)) (ys : List ℤ) → es ≡ ds → AllStand xs ys → StepsAlike (pops ds xs) (pops es ys)
@@ -105,15 +106,15 @@ module _ {K E : Type 0} (F : Functions K E) (p : K) (ks : List K) (out : List bp
   decides_alike x x' y y' xs ys (d ∷ ds) [] e h h' all = cc
 
   -- what is known of a slot and of its linked slot, at a place
-  record Fits (x : K × ℤ) (y : ℤ) (s t : bpf_insn) : Type 0 where
-    flow_is : flow t ≡ flow s
-    enters_at : flow s ≡ PseudoCall → (m : K) × (c : ℕ) × (start_of (referred_key (reference_at F x.0 x.1)) ≡ Some (m, pos 0)) × BeginsAt F (p ∷ ks) m c × ((y +ℤ pos 1) +ℤ t.imm ≡ pos c)
+  pub record Fits (x : K × ℤ) (y : ℤ) (s t : bpf_insn) : Type 0 where
+    pub flow_is : flow t ≡ flow s
+    pub enters_at : flow s ≡ PseudoCall → (m : K) × (c : ℕ) × (start_of (referred_key (reference_at F x.0 x.1)) ≡ Some (m, pos 0)) × BeginsAt F (p ∷ ks) m c × ((y +ℤ pos 1) +ℤ t.imm ≡ pos c)
 
   enters_alike : (x x' : K × ℤ) (y y' : ℤ) (o : Option (K × ℤ)) (xs : List (K × ℤ)) (ys : List ℤ) (ds es : List Bool) → es ≡ ds → Stands x y → AllStand xs ys → o ≡ Some x' → Stands x' y' → StepsAlike (enters x xs ds o) (enters y ys es (Some y'))
   enters_alike x x' y y' o xs ys ds es e h all is h' =
       subst (λ (u : Option (K × ℤ)). StepsAlike (enters x xs ds u) (enters y ys es (Some y'))) (sym is) (record { place = h'; stack = (h, all); decisions = e })
 
-  follow_alike : (s : State (K × ℤ)) (t : State ℤ) (i j : bpf_insn) (f : Flow) → Alike s t → flow i ≡ f → Fits s.place t.place i j → StepsAlike (follow (separate F) s i f) (follow (flat_code out) t j f)
+  pub follow_alike : (s : State (K × ℤ)) (t : State ℤ) (i j : bpf_insn) (f : Flow) → Alike s t → flow i ≡ f → Fits s.place t.place i j → StepsAlike (follow (separate F) s i f) (follow (flat_code out) t j f)
   follow_alike s t i j Return a e fits = pops_alike s.decisions t.decisions s.stack t.stack a.decisions a.stack
   follow_alike s t i j PseudoCall a e fits =
       let (m, c, is, h, to) = fits.enters_at e in
@@ -135,7 +136,7 @@ module _ {K E : Type 0} (F : Functions K E) (p : K) (ks : List K) (out : List bp
         enters_at = λ f. (m, length (body F p) + c, ap (λ (r : SlotReference K E). start_of (referred_key r)) e, inr (c, refl, begins), ap (λ (u : bpf_insn). pos (b + i + 1) +ℤ u.imm) is ∙ omega (arith, ints));
       }
 
-  fits_at : Linked F p ks out → CallsRefer F → OnCallsOrLoads F (p ∷ ks) → (x : K × ℤ) (y : ℤ) (s : bpf_insn) → Stands x y → slot_at_integer (body F x.0) x.1 ≡ Some s → (t : bpf_insn) × (slot_at_integer out y ≡ Some t) × Fits x y s t × (name F (p ∷ ks) y ≡ Some x)
+  pub fits_at : Linked F p ks out → CallsRefer F → OnCallsOrLoads F (p ∷ ks) → (x : K × ℤ) (y : ℤ) (s : bpf_insn) → Stands x y → slot_at_integer (body F x.0) x.1 ≡ Some s → (t : bpf_insn) × (slot_at_integer out y ≡ Some t) × Fits x y s t × (name F (p ∷ ks) y ≡ Some x)
   fits_at linked refer on (k, negsuc i) y s h e = cc
   fits_at linked refer on (k, pos i) y s (b, h, is) e =
       let g = linked.slots k b i s h e in
@@ -178,20 +179,20 @@ module _ {K E : Type 0} (F : Functions K E) (p : K) (ks : List K) (out : List bp
 
 -- ---- what the machines visit in small programs
 
-abbrev call : ℤ → bpf_insn
+abbrev pub call : ℤ → bpf_insn
 call d = record { code = 0x85; regs = 16; off = pos 0; imm = d }
 
-abbrev exit : bpf_insn
+abbrev pub exit : bpf_insn
 exit = record { code = 0x95; regs = 0; off = pos 0; imm = pos 0 }
 
 -- a jump over one slot, where a register is not 0
 abbrev skip : bpf_insn
 skip = record { code = 0x55; regs = 0; off = pos 1; imm = pos 0 }
 
-abbrev plain : List bpf_insn → Option FunctionContent
+abbrev pub plain : List bpf_insn → Option FunctionContent
 plain slots = Some (record { slots = slots; func_info = []; line_info = [] })
 
-abbrev of_slots : (ℕ → Option FunctionContent) → References ℕ ℕ → Functions ℕ ℕ
+abbrev pub of_slots : (ℕ → Option FunctionContent) → References ℕ ℕ → Functions ℕ ℕ
 of_slots content refers = record { content = content; reference = refers; mismatch = λ k. k; too_long = λ k. k; stray_line = λ k. k }
 
 -- a program that calls itself
@@ -218,12 +219,12 @@ itself_separate = refl
 
 -- P calls f and g, f calls g
 
-abbrev three : ℕ → Option FunctionContent
+abbrev pub three : ℕ → Option FunctionContent
 three zero = plain (call (negsuc 0) ∷ call (negsuc 0) ∷ exit ∷ [])
 three (suc zero) = plain (call (negsuc 0) ∷ exit ∷ [])
 three (suc (suc n)) = plain (exit ∷ [])
 
-abbrev in_turn : References ℕ ℕ
+abbrev pub in_turn : References ℕ ℕ
 in_turn zero zero = Names 1
 in_turn zero (suc zero) = Names 2
 in_turn zero (suc (suc n)) = Nothing
@@ -239,7 +240,7 @@ three_ends : (run_steps (separate (of_slots three in_turn)) 20 (begin (0, pos 0)
 unfolding flow
 three_ends = refl
 
-abbrev three_linked : List bpf_insn
+abbrev pub three_linked : List bpf_insn
 three_linked = call (pos 2) ∷ call (pos 3) ∷ exit ∷ call (pos 1) ∷ exit ∷ exit ∷ []
 
 three_flat : (run_steps (flat_code three_linked) 20 (begin (pos 0) [])).visited ≡ pos 0 ∷ pos 3 ∷ pos 5 ∷ pos 4 ∷ pos 1 ∷ pos 5 ∷ pos 2 ∷ []
@@ -248,6 +249,17 @@ three_flat = refl
 
 three_names : map (name (of_slots three in_turn) (0 ∷ 1 ∷ 2 ∷ [])) (pos 0 ∷ pos 3 ∷ pos 5 ∷ pos 4 ∷ pos 1 ∷ pos 5 ∷ pos 2 ∷ []) ≡ map Some ((0, pos 0) ∷ (1, pos 0) ∷ (2, pos 0) ∷ (1, pos 1) ∷ (0, pos 1) ∷ (2, pos 0) ∷ (0, pos 2) ∷ [])
 three_names = refl
+
+-- two paths lead to g: the one through f is its key path
+
+g_through_f : Walk in_turn 0 (0 ∷ 0 ∷ []) (1 ∷ 2 ∷ [])
+g_through_f = (refl, (refl, tt))
+
+g_from_p : Walk in_turn 0 (1 ∷ []) (2 ∷ [])
+g_from_p = (refl, tt)
+
+through_f_first : Before (0 ∷ 0 ∷ []) (1 ∷ [])
+through_f_first = inl (omega arith)
 
 -- a branch over a call
 

@@ -2,6 +2,7 @@ pub mod Functions
 pub mod Order
 pub mod Faults
 pub mod Machine
+pub mod Behaviour
 pub mod Result
 pub mod Numbered
 pub mod Copies

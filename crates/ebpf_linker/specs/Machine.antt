@@ -1,4 +1,12 @@
 -- The flow of control of the separate functions and of the linked program.
+--
+-- A run visits the slots that it executes, in their order. A decision is the outcome of a
+-- conditional jump: taken or not. Both runs visit the same slots under the same decisions
+-- (`SameVisits`). A wide load is visited at its first slot alone.
+--
+-- Example: P is 'call f; call g; exit', f is 'call g; exit', g is 'exit'. The separate run visits
+-- P.0, f.0, g.0, f.1, P.1, g.0, P.2. The linked program is P, then f at slot 3, then g at slot 5.
+-- Its run visits 0, 3, 5, 4, 1, 5, 2.
 use Rattle.std.specs.Prelude.{◌≡◌, ◌≢◌, ℕ, zero, suc, ◌-◌, ℤ, pos, negsuc, ◌+ℤ◌, Bool, true, nat_lt}
 use Rattle.std.specs.Prelude.{if◌then◌else◌, ◌⊎◌, List, [], ◌∷◌, map, length, Option, Some, None}
 use Rattle.std.specs.Prelude.{slice_get}

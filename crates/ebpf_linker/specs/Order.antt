@@ -1,5 +1,11 @@
--- The order of the linked functions: the depth-first pre-order by slot, also called the order of
--- key paths.
+-- The order of the linked functions: the depth-first pre-order by slot. Its other name is the order
+-- of key paths.
+--
+-- A path is a list of slot numbers. Each leads from a function to the function that its slot refers
+-- to. The key path of a function is the least path to it on which no function occurs twice.
+--
+-- Example: P's slot 0 refers to f, P's slot 1 to g, and f's slot 0 to g. The key path of f is 0.
+-- Two paths lead to g, 1 and 0.0. Its key path is 0.0. So the order is f, g.
 use Rattle.std.specs.Prelude.{◌≡◌, ◌≢◌, ℕ, ◌<◌, ◌⊎◌, List, [], ◌∷◌, Some, slice_get}
 use Rattle.ebpf_linker.specs.Functions.{Faulty, References, Among, Distinct, Walk, last_key_or}
 

@@ -10,7 +10,7 @@ use Rattle.ebpf_reachability.proofs.Order.{Tells, below_itself, learned_below, f
 use Rattle.ebpf_reachability.specs.Effects.{IsBelow, unknown, learned, after, arithmetic, calculated, class, decided, destination, byte_swapped, is_atomic, moved, operation, source, stored, takes_register, negation, called, wide_load_result}
 use Rattle.ebpf_reachability.specs.PrivateContracts.{common, commons}
 use Rattle.ebpf_reachability.specs.Reached.{AreBelow, Assignment, Holds, IsStateBelow, state_at}
-use Rattle.ebpf_reachability.specs.Steps.{next_index, callback, steps_by_flow, target_index, steps_to, steps, steps_at, ways}
+use Rattle.ebpf_reachability.specs.Steps.{next_index, callback, steps_by_flow, jumps_anywhere, target_index, steps_to, steps, steps_at, ways}
 use Rattle.ebpf_reachability.specs.declared.registers.Registers.{Registers}
 use Rattle.ebpf_reachability.specs.declared.steps.SlotState.{SlotState}
 
@@ -138,7 +138,9 @@ steps_at_below slots A i None a b p h = tt
 steps_at_below slots A i (Some slot) a b p h = follow_below slots A i slot a b (flow slot) p h
 
 pub steps_below : (slots : List bpf_insn) (A : Assignment) (i : ℕ) (a b : Registers) → IsBelow a b → Holds A (steps slots i b) → Holds A (steps slots i a)
-steps_below slots A i a b p h = steps_at_below slots A i (slice_get slots i) a b p h
+steps_below slots A i a b p h =
+    let there = jumps_anywhere slots (slice_get slots i) in
+    holds_both A (steps_at slots i a (slice_get slots i)) there (steps_at_below slots A i (slice_get slots i) a b p (holds_first A (steps_at slots i b (slice_get slots i)) there h)) (holds_second A (steps_at slots i b (slice_get slots i)) there h)
 
 within_true : (n m : ℕ) → n < m → nat_lt n m ≡ true
 within_true n m h = grind (arith, nat_tests)

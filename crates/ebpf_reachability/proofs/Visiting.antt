@@ -1,5 +1,5 @@
 -- Steps that the search takes in.
-use Rattle.std.proofs.Common.{◌≡◌, ◌≢◌, ℕ, ◌<◌, ◌≤◌, ◌⊎◌, List, [], ◌∷◌, ◌++◌, length, Option, Some, None, refl, sym, ap, ◌∙◌, subst, inl, inr, arith, set, length-set, length-append, get_or-set_same, get_or-set_other, get_or, pos, replicate, zero, suc, Bool, true, false, cond, negsuc, ℤ, ◌+ℤ◌}
+use Rattle.std.proofs.Common.{◌≡◌, ◌≢◌, ℕ, ◌+◌, ◌<◌, ◌≤◌, ◌⊎◌, List, [], ◌∷◌, ◌++◌, length, Option, Some, None, refl, sym, ap, ◌∙◌, subst, inl, inr, arith, set, length-set, length-append, get_or-set_same, get_or-set_other, get_or, pos, replicate, zero, suc, Bool, true, false, cond, negsuc, ℤ, ◌+ℤ◌}
 use Rattle.std.proofs.lemmas.List.Sums.{sum_by-set}
 use Rattle.std.proofs.lemmas.Bool.Decides.{eqb_tells, leb_tells}
 use Rattle.std.proofs.lemmas.List.{get_or-replicate, get_or_past, length-replicate}
@@ -52,6 +52,25 @@ taken_then s t A B C old mid new p q = record {
   kept = λ i h. q.kept i (p.kept i h);
   less = let one = p.less in let two = q.less in omega arith;
 }
+
+-- nothing is taken in
+pub none_taken : (A : Assignment) (old : List ℕ) → TakesIn [] A A old old
+none_taken A old = record {
+  as_many = refl;
+  holds = tt;
+  above = λ i. state_below_itself (state_at A i);
+  least = λ C h _. h;
+  changed = λ i. inl refl;
+  kept = λ i h. h;
+  less = omega arith;
+}
+
+-- one slot more is reached with nothing known
+pub next_taken : (n : ℕ) (a : Registers) (A B C : Assignment) (old mid new : List ℕ) → a ≡ unknown → TakesIn (ours.first_slots n) A B old mid → TakesIn (record { place = n; registers = a } ∷ []) B C mid new → TakesIn (ours.first_slots (n + 1)) A C old new
+next_taken n a A B C old mid new e p q =
+    let more : ours.first_slots (n + 1) ≡ ours.first_slots n ++ record { place = n; registers = unknown } ∷ [] = ap ours.first_slots (let e : n + 1 ≡ suc n = omega arith in e) in
+    let here = subst (λ (a : Registers). TakesIn (record { place = n; registers = a } ∷ []) B C mid new) e q in
+    subst (λ (s : List SlotState). TakesIn s A C old new) (sym more) (taken_then _ _ A B C old mid new p here)
 
 -- a state is written at a place
 written_here : (A : Assignment) (p : ℕ) (c : Registers) → p < length A → state_at (set A p (Some c)) p ≡ Some c
@@ -239,7 +258,7 @@ visit_by slots A n i slot a Next stack decisions rest one turn h q here =
 visit_slot : (slots : List bpf_insn) (A : Assignment) (n i : ℕ) (slot : bpf_insn) (z : Option Registers) (stack : List ℤ) (decisions : List Bool) → IsClosed slots A → Visits slots A n → HeedsOne (known_way z slot (flow slot)) decisions → HeedsTurn (Heeds slots A n) (follow (flat_code slots) (at_place (pos i) stack decisions) slot (flow slot)) → slice_get slots i ≡ Some slot → state_at A i ≡ z → IsSome z → AllReady slots A stack → AllReached A (after_step (run_steps (flat_code slots) n) (pos i) (follow (flat_code slots) (at_place (pos i) stack decisions) slot (flow slot))).visited
 visit_slot slots A n i slot None stack decisions closed rest one turn there is some q = cc
 visit_slot slots A n i slot (Some a) stack decisions closed rest one turn there is some q =
-    let held : Holds A (ours.steps_by_flow slots i slot a (flow slot)) = subst (λ (x : Option bpf_insn). Holds A (ours.steps_at slots i a x)) there (closed.steps i a is) in
+    let held : Holds A (ours.steps_by_flow slots i slot a (flow slot)) = subst (λ (x : Option bpf_insn). Holds A (ours.steps_at slots i a x)) there (holds_first A (ours.steps_at slots i a (slice_get slots i)) (ours.jumps_anywhere slots (slice_get slots i)) (closed.steps i a is)) in
     let here : IsSome (state_at A i) = subst (λ (x : Option Registers). IsSome x) (sym is) refl in
     visit_by slots A n i slot a (flow slot) stack decisions rest one turn held q here
 

@@ -76,3 +76,7 @@ jslt = 0xc
 
 abbrev pub jsle : ℕ
 jsle = 0xd
+
+-- the code of an indirect jump: to the slot whose address a register has (BPF_JMP, BPF_JA, BPF_X)
+abbrev pub indirect_jump : ℕ
+indirect_jump = 0x0d

@@ -5,7 +5,6 @@ use Rattle.ebpf_reachability.specs.declared.registers.Registers.{Registers}
 use Rattle.std.specs.Option.{option_to_list}
 use Rattle.ebpf_parts.specs.declared.insn.bpf_insn.{bpf_insn}
 use Rattle.ebpf_reachability.specs.declared.steps.SlotState.{SlotState}
-use Rattle.ebpf_reachability.specs.Steps.{steps}
 
 -- where two paths meet, equal numbers stay
 abbrev pub common : Option ℕ → Option ℕ → Option ℕ

@@ -1,7 +1,9 @@
 -- The steps of a program: from a slot and what is known of the registers there, to which slots, and
--- what is known there.
-use Rattle.std.specs.Prelude.{ℕ, ℤ, pos, negsuc, ◌+ℤ◌, Bool, true, false, Option, Some, None, List}
-use Rattle.std.specs.Prelude.{[], ◌∷◌, ◌++◌, length, nat_lt, slice_get, if◌then◌else◌, ◌==◌}
+-- what is known there. A step that the program may take is among them; an indirect jump has a step
+-- to every slot.
+use Rattle.std.specs.Prelude.{ℕ, zero, suc, ℤ, pos, negsuc, ◌+ℤ◌, Bool, true, false, Option, Some}
+use Rattle.std.specs.Prelude.{None, List, [], ◌∷◌, ◌++◌, length, nat_lt, slice_get, ◌==◌}
+use Rattle.std.specs.Prelude.{if◌then◌else◌}
 use Rattle.ebpf_parts.specs.declared.insn.bpf_insn.{bpf_insn}
 use Rattle.ebpf_parts.specs.Slots.{pseudo_func, dst_of, src_of}
 use Rattle.ebpf_linker.specs.Functions.{Flow, Return, PseudoCall, WideLoad, Jump, Branch, Next}
@@ -10,6 +12,7 @@ use Rattle.ebpf_reachability.specs.declared.registers.Registers.{Registers}
 use Rattle.ebpf_reachability.specs.declared.steps.SlotState.{SlotState}
 use Rattle.ebpf_reachability.specs.Effects.{unknown, learned, called, after, decided}
 use Rattle.ebpf_reachability.specs.Effects.{wide_load_result}
+use Rattle.ebpf_reachability.specs.Operations.{indirect_jump}
 
 -- a step to a place, which leads nowhere where it leaves the program
 abbrev pub steps_to : List bpf_insn → ℤ → Registers → List SlotState
@@ -52,5 +55,17 @@ abbrev pub steps_at : List bpf_insn → ℕ → Registers → Option bpf_insn �
 steps_at slots i a None = []
 steps_at slots i a (Some slot) = steps_by_flow slots i slot a (flow slot)
 
+-- the first slots, so many, with nothing known
+abbrev pub first_slots : ℕ → List SlotState
+first_slots zero = []
+first_slots (suc n) = first_slots n ++ record { place = n; registers = unknown } ∷ []
+
+-- An indirect jump may go to any slot: no register is known to hold a slot's address.
+abbrev pub jumps_anywhere : List bpf_insn → Option bpf_insn → List SlotState
+jumps_anywhere slots None = []
+jumps_anywhere slots (Some slot) =
+    if slot.code == indirect_jump then first_slots (length slots) else []
+
 abbrev pub steps : List bpf_insn → ℕ → Registers → List SlotState
-steps slots i a = steps_at slots i a (slice_get slots i)
+steps slots i a =
+    steps_at slots i a (slice_get slots i) ++ jumps_anywhere slots (slice_get slots i)

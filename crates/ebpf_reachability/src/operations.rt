@@ -51,3 +51,6 @@ pub const JLE: u8 = 0xb;
 pub const JSLT: u8 = 0xc;
 /// Jump where less or equal, with signs.
 pub const JSLE: u8 = 0xd;
+
+/// The code of an indirect jump, to the slot whose address a register has: `BPF_JMP | BPF_JA | BPF_X`.
+pub const INDIRECT_JUMP: u8 = 0x0d;

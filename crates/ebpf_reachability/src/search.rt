@@ -1,10 +1,11 @@
 //! The search for the slots that are reached.
 
-ghost use Rattle.std.specs.Prelude.{◌≡◌, ◌<◌, [], ◌∷◌, ◌++◌, length, vec_len, IfOk, IfSome, None, OnOk, Some, replicate, slice_set};
+ghost use Rattle.std.specs.Prelude.{◌≡◌, ◌<◌, [], ◌∷◌, ◌++◌, length, vec_len, IfOk, IfSome, None, OnOk, Some, replicate, slice_get, slice_set};
 ghost use Rattle.std.specs.Option.{option_to_list};
 ghost use Rattle.ebpf_reachability.specs.Reached.{AreReached, IsLeast, reached, state_at, Searched, TakesIn, steps_if_reached};
-ghost use Rattle.ebpf_reachability.specs.Steps.{steps};
+ghost use Rattle.ebpf_reachability.specs.Steps.{first_slots, jumps_anywhere, steps, steps_at};
 
+use crate::operations::INDIRECT_JUMP;
 use crate::registers::Registers;
 use crate::steps::{SlotState, step_to, steps_from};
 use ebpf_base::Items;
@@ -75,6 +76,58 @@ impl Search {
         }
     }
 
+    /// Takes the steps from a slot, but for those of an indirect jump to any slot.
+    fn take_ways(
+        &mut self,
+        slots: &[bpf_insn],
+        place: usize,
+        registers: Registers,
+    ) -> Result<(), AllocError>
+        requires within { place < length slots.now }
+        requires as_many { vec_len self.old.states ≡ length slots.now }
+        ensures { OnOk result
+            (TakesIn (steps_at slots.now place registers (slice_get slots.now place))
+            self.old.states.items self.new.states.items self.old.pending.items
+            self.new.pending.items) }
+    {
+        let (first, second) = steps_from(slots, place, registers);
+        self.take(first)?;
+        self.take(second)
+    }
+
+    /// Reaches every slot with nothing known of the registers.
+    #[tactic(auto, using(crate::proofs::Visiting::none_taken))]
+    fn reach_all(&mut self, count: usize) -> Result<(), AllocError>
+        requires { vec_len self.old.states ≡ count }
+        ensures { OnOk result
+            (TakesIn (first_slots count) self.old.states.items self.new.states.items
+            self.old.pending.items self.new.pending.items) }
+    {
+        for place in 0..count {
+            self.reach(SlotState {
+                place,
+                registers: Registers::unknown(),
+            })?;
+        }
+        Ok(())
+    }
+
+    /// Takes the steps of an indirect jump to any slot, if the slot is one.
+    #[tactic(auto, using(crate::proofs::Visiting::none_taken))]
+    fn take_targets(&mut self, slots: &[bpf_insn], place: usize) -> Result<(), AllocError>
+        requires within { place < length slots.now }
+        requires as_many { vec_len self.old.states ≡ length slots.now }
+        ensures { OnOk result
+            (TakesIn (jumps_anywhere slots.now (slice_get slots.now place))
+            self.old.states.items self.new.states.items self.old.pending.items
+            self.new.pending.items) }
+    {
+        if slots[place].code != INDIRECT_JUMP {
+            return Ok(());
+        }
+        self.reach_all(slots.len())
+    }
+
     /// Takes the steps from a slot, of which so much is known.
     fn take_steps(
         &mut self,
@@ -88,9 +141,8 @@ impl Search {
             (TakesIn (steps slots.now place registers) self.old.states.items
             self.new.states.items self.old.pending.items self.new.pending.items) }
     {
-        let (first, second) = steps_from(slots, place, registers);
-        self.take(first)?;
-        self.take(second)
+        self.take_ways(slots, place, registers)?;
+        self.take_targets(slots, place)
     }
 
     /// Takes the steps from a slot, if it was reached.
@@ -151,9 +203,9 @@ fn flags(alloc: Global, states: &[Option<Registers>]) -> Result<Vec<bool>, Alloc
 }
 
 /// Which slots of a finished program, linked and relocated, can be reached from its first one: for each slot whether it
-/// is. A jump whose test is decided by numbers that registers are known to hold goes one way, any other both; a slot that
-/// a CO-RE relocation poisoned is walked past. Each slot is followed at most twelve times: once it is reached, and
-/// whenever one of its eleven registers is forgotten.
+/// is. A jump whose test is decided by numbers that registers are known to hold goes one way, any other both. An indirect
+/// jump reaches every slot. A slot that a CO-RE relocation poisoned is walked past. Each slot is followed at most twelve
+/// times: once it is reached, and whenever one of its eleven registers is forgotten.
 ///
 /// # Errors
 ///

@@ -1,10 +1,10 @@
 //! To which slots a slot goes on, and what is known of the registers there.
 
-ghost use Rattle.std.specs.Prelude.{◌≡◌, ◌+◌, ◌<◌, pos, length, IfSome};
+ghost use Rattle.std.specs.Prelude.{◌≡◌, ◌+◌, ◌<◌, pos, length, IfSome, slice_get};
 ghost use Rattle.std.specs.Option.{option_to_list};
 ghost use Rattle.ebpf_linker.specs.Functions.{flow, is_branch};
 ghost use Rattle.ebpf_reachability.specs.Effects.{decided};
-ghost use Rattle.ebpf_reachability.specs.Steps.{next_index, callback, steps_by_flow, target_index, steps_to, steps, ways};
+ghost use Rattle.ebpf_reachability.specs.Steps.{next_index, callback, steps_at, steps_by_flow, target_index, steps_to, ways};
 ghost use Rattle.ebpf_reachability.specs.PrivateContracts.{AreWithin, pair_to_list};
 
 use crate::effects::{after, decided, wide_load_result};
@@ -132,14 +132,15 @@ fn steps_of(
     (None, step_to(slots, place + 1, after(slot, registers)))
 }
 
-/// The steps from a slot: it goes on to two others at most.
+/// The steps from a slot, but for those of an indirect jump to any slot. There are two at most.
 pub fn steps_from(
     slots: &[bpf_insn],
     place: usize,
     registers: Registers,
 ) -> (Option<SlotState>, Option<SlotState>)
     requires { place < length slots.now }
-    ensures steps { pair_to_list result ≡ steps slots.now place registers }
+    ensures steps { pair_to_list result
+        ≡ steps_at slots.now place registers (slice_get slots.now place) }
     ensures within { AreWithin slots.now result }
 {
     steps_of(slots, place, slots[place], registers)
