@@ -9,6 +9,7 @@ mod explained_parse;
 pub mod extern_types;
 pub mod laws;
 mod link_map;
+mod missing;
 pub mod obj;
 mod object;
 mod own_maps;

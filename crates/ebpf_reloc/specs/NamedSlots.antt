@@ -73,7 +73,8 @@ name_at_symbol (Some symbol) name = (symbol, name) ∷ []
 -- the names of an object's maps by symbol and by section, the later in byte order over the earlier
 abbrev pub map_names : FinMap text_cmp Map → MapNames
 map_names maps = record {
-  by_symbol = put_all empty (flat_map (λ e. name_at_symbol (symbol_index_of e.1) e.0) (entries maps));
+  by_symbol =
+      put_all empty (flat_map (λ e. name_at_symbol (symbol_index_of e.1) e.0) (entries maps));
   by_section = put_all empty (map (λ e. (section_index_of e.1, e.0)) (entries maps));
 }
 
