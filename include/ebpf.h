@@ -105,6 +105,8 @@ enum ebpf_number {
 
 	/* 300 to 399: descriptors of maps. About the function */
 	EBPF_MAPS = 300, /* + ebpf_slot_fault */
+	EBPF_MAPS_MISSING_DESCRIPTOR = 320, /* about the map that a slot refers to, and no row names */
+	EBPF_MAPS_UNKNOWN_MAP = 321,	    /* about the row's name, which no map of the object has */
 
 	/* 400 to 499: finding externs. About the extern, where one is named */
 	EBPF_KSYMS_NO_KERNEL_TYPES = 400,
@@ -123,6 +125,7 @@ enum ebpf_number {
 
 	/* 600 to 699: linking programs with the functions that they reach. About the program */
 	EBPF_CALLS = 600, /* + ebpf_slot_fault */
+	EBPF_CALLS_UNWRITTEN_EXTERN = 620, /* about the extern: its call is not written. `ebpf_prepare*` alone */
 
 	/* 700 to 799: a file's types for the kernel. About the type of the file that is named, where it has a name */
 	EBPF_KERNEL_TYPES_FILE = 700,		    /* + ebpf_file_fault: no ELF64 file, or .BTF runs past its end */
@@ -731,10 +734,10 @@ uint32_t ebpf_sanitize(struct ebpf_handle *handle, uint32_t has_newer);
 
 /*
  * A map's name, a place in the text that is given beside the rows, and its descriptor.
- *  - Each map that a slot refers to needs a row. If it has none, its slots take the descriptor of another map in its
- *    section: that of the last row.
+ *  - Each map that a slot refers to needs a row, a map of variables too. Else the number is
+ *    EBPF_MAPS_MISSING_DESCRIPTOR, about the map.
+ *  - Each row needs the name of a map of the object. Else the number is EBPF_MAPS_UNKNOWN_MAP, about the name.
  *  - Of two rows for one name, or for maps of one symbol, the later counts.
- *  - A row is skipped if the object lacks the name. `ebpf_find_map` returns 5 for such a name.
  */
 struct ebpf_descriptor {
 	size_t name_at, name_len;
@@ -795,7 +798,8 @@ uint32_t ebpf_record_outcomes(struct ebpf_handle *handle, const uint8_t *types, 
 
 /*
  * Writes descriptors of maps into the slots that refer to them. A row whose name is no UTF-8, or not inside the text,
- * is refused before all other faults. Numbers: 2, 3, 6, 300 to 399.
+ * is refused before all other faults. Then a row is refused whose name no map has, and a slot whose own map has no row.
+ * Numbers: 2, 3, 6, 300 to 399.
  */
 uint32_t ebpf_relocate_maps(struct ebpf_handle *handle, const struct ebpf_descriptor *rows, size_t rows_len,
 			    const char *text, size_t text_len, char *about, size_t about_room,
@@ -857,7 +861,8 @@ uint32_t ebpf_link_references(struct ebpf_handle *handle, const char *name, size
 /*
  * Opens the object of a file by strict parsing, and runs all of these passes over it. If `types_len` is 0, functions
  * are not relocated and externs are looked up in the symbols alone. With the number 0 an object that the handle held
- * before is closed. The rows' names are looked at first, then the types are read, then the file.
+ * before is closed. The rows' names are looked at first, then the types are read, then the file. Each slot's own map
+ * has to have a row, as in `ebpf_relocate_maps`; this is looked at before the first pass.
  * Numbers: 2, 6, 100 to 199, 200 to 299, .., 600 to 699.
  */
 uint32_t ebpf_prepare(const uint8_t *file, size_t file_len, const uint8_t *types, size_t types_len,

@@ -69,7 +69,9 @@ TYPES = {
     "relocation::RelocationError": (
         "ebpf_model/src/error.rt",
         "The reasons why slots can't be written or linked.\n\n"
-        "The maps pass returns `SectionNotFound` only if no map of the section has a descriptor (docs/LIBRARY.md, step 4).",
+        "`Steps::complete` refuses an instruction that refers to a map without a descriptor (`MissingDescriptor`). Without it,\n"
+        "and in the maps pass alone, the instruction gets the descriptor of the last given map of the section. That pass\n"
+        "returns `SectionNotFound` only if no map of the section has a descriptor (docs/LIBRARY.md, step 4).",
     ),
     "extern_types::KsymsError": ("ebpf_ksyms/src/error.rt", "The errors of `resolve_externs` (stage `ksyms`)."),
     "ebpf_kconfig::KconfigError": ("ebpf_kconfig/src/error.rt", "The errors of `kconfig`, `define_kconfig`, `kconfig_value` and `kconfig_number`."),
@@ -204,6 +206,9 @@ ADVICE = {
     "ebpf_btf_load::KernelTypesError::NoSymbol": "don't strip symbols",
     "ebpf_btf_load::KernelTypesError::UnsupportedExtern": KCONFIG_TYPES,
     "ebpf_btf_load::KernelTypesError::TooLarge": "split the object",
+    "prepare::PrepareError::MissingDescriptor": "make the map, and give its descriptor by its name; or take incomplete descriptors: `Steps::allow_missing`",
+    "prepare::PrepareError::UnknownMap": "spell the name as the object does; `object.map_names` has the names",
+    "prepare::PrepareError::UnwrittenExtern": "keep `.BTF`, so that the object has externs, and choose the passes that resolve and write them",
 }
 
 

@@ -53,12 +53,12 @@ static struct {
 	size_t count, text_len;
 } given;
 
-/* The maps NAME:N,.. as rows. */
+/* The maps NAME:N,.. as rows; no text is none. */
 static void read_map_fds(char *rest)
 {
 	given.rows = zeros(strlen(rest), sizeof(*given.rows));
 	given.text = zeros(strlen(rest), 1);
-	while (rest) {
+	while (rest && *rest) {
 		char *pair = cut(&rest, ','), *name = cut(&pair, ':');
 
 		given.rows[given.count++] =

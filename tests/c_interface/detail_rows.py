@@ -5,11 +5,14 @@ from c_interface.builds import TOP
 from c_interface.loader_rows import INNER_SIZE, VALUES, declared_maps, holding
 from c_interface.refusals import DETAILS
 from c_interface.runs import CallsRow
-from rows import values
+from rows import prepared, values
 from rows.elf import changed
 
 # The type of a map that is a hash of maps.
 HASH_OF_MAPS = 13
+
+# The program of `prepared.two_maps` before descriptors are written.
+MAPS_AS_OPENED = ["program p slots 3", "1801000000000000", "0000000000000000", "9500000000000000"]
 
 
 def rows():
@@ -22,6 +25,12 @@ def rows():
     yield CallsRow("another machine", (changed(variables, 18, b"\x3e\0"), b"", b""), ["open", "open_broad"], ["open 0", "open_broad 158 {kind 62}"])
     hashed = holding([(INNER_SIZE + VALUES, 1)], declared_maps(kind=HASH_OF_MAPS, key=3)).bytes()
     yield CallsRow("keys of two bytes", (hashed, b"", b""), ["open", "initial"], ["open 0", "initial 824 outer {size 2}"])
+    maps, extern = (prepared.two_maps(), b"", b""), (prepared.called_extern(), b"", b"")
+    yield CallsRow("a map without a row", maps, ["open", "maps=n:4", "slots"], ["open 0", "maps 320 m", *MAPS_AS_OPENED])
+    yield CallsRow("no rows", maps, ["open", "maps="], ["open 0", "maps 320 m"])
+    yield CallsRow("a row of no map", maps, ["open", "maps=m:3,mm:4", "slots"], ["open 0", "maps 321 mm", *MAPS_AS_OPENED])
+    yield CallsRow("a map without a row, prepared", maps, ["open", "prepare_handle=n:4"], ["open 0", "prepare_handle 320 m"])
+    yield CallsRow("an extern that is not written", extern, ["prepare"], ["prepare 620 e"])
 
 
 def table():

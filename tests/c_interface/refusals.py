@@ -148,4 +148,5 @@ def variants():
         names |= {first + at: f"{stage}: {name}" for at, name in enumerate(faults)}
     for stage, first in STAGES.items():
         names |= {first + at: f"{stage}: {name}" for at, name in enumerate(SLOTS)}
+    names |= {320: "maps: MissingDescriptor", 321: "maps: UnknownMap", 620: "calls: UnwrittenExtern"}
     return names

@@ -179,7 +179,7 @@ def of_fds(case, words, text):
     """Descriptors, and the slots of a lone program."""
     files = case.files["object"], b"", b""
     given = ",".join(word.replace("=", ":") for word in words)
-    action = f"maps={given}" if given else "maps=:0"
+    action = f"maps={given}"
     answer, _, slots = re.fullmatch(r"(Ok\(\(\)\)|Err\((.*)\)) ([0-9a-f ,]*)", text).groups()
     said = "maps 0" if answer.startswith("Ok") else refused("maps", refusals.of_slots("maps", answer))
     slots = slot_digits(slots)

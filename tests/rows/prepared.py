@@ -5,7 +5,7 @@ from make_call_object import call_object
 from rows.btf import btf, datasec, struct_of, variable
 from rows.case import Case
 from rows.core_sides import INT_4, OFFSET, S, one_of
-from rows.elf import CALL, CALL32, EXIT, LOAD64, NOTHING, call_by, changed
+from rows.elf import CALL, CALL32, EXIT, FUNCTION, LOAD64, NOTHING, OBJECT, PROGBITS, File, call_by, changed
 from rows.linked import END, call, no_function, slots
 from rows.fds_written import LOAD_8, referring
 from rows.resolved import FAR, GLOBAL, LOAD, function_of, with_extern
@@ -144,5 +144,86 @@ def types():
     ]
 
 
+def two_maps():
+    """A program that loads the map m, whose section has the map n too."""
+    file = File().code("kprobe/p", LOAD + NOTHING + EXIT).section("maps", PROGBITS, 3, bytes(56))
+    file.symbol("p", FUNCTION, 3, 0, 24).symbol("m", OBJECT, 4, 0, 28).symbol("n", OBJECT, 4, 28, 28)
+    return file.relocations(3, [(0, 2, LOAD64)]).bytes()
+
+
+def called_extern():
+    """A program without types whose first slot calls an extern."""
+    file = File().code("kprobe/p", CALL + EXIT).symbol("e", GLOBAL, 0, 0, 0).symbol("p", FUNCTION, 3, 0, 16)
+    return file.relocations(3, [(0, 1, CALL32)]).bytes()
+
+
+def missing():
+    """Maps without a descriptor, names without a map, and externs that aren't written: refused where nothing may be
+    missing."""
+    data_and_map = referring([LOAD_8, NOTHING, LOAD_8, NOTHING, EXIT], [(0, 2, LOAD64), (16, 4, LOAD64)])
+    types = variable("v", 0), datasec(".ksyms", 1)
+    called = with_extern("v", GLOBAL, *types, slots=[CALL, EXIT], relocations=[(0, CALL32)])
+
+    def loaded(descriptor):
+        return prepared(2, slots("p", ("18110000", descriptor), ("00000000", 0), END))
+
+    # Linked, the call is of its own function, of which there is a copy.
+    copied = prepared(0, slots("p", call(1), END, call(-1), END))
+    return [
+        Case(
+            "two maps of one section, one with a descriptor",
+            two_maps(),
+            {
+                "prepared maps m=3 n=4 complete": loaded(3),
+                # n is not referred to
+                "prepared maps m=3 complete": loaded(3),
+                "prepared maps n=4 complete": 'MissingDescriptor { map: "m" }',
+                "prepared types maps n=4 complete": 'MissingDescriptor { map: "m" }',
+                # the descriptor of the other map
+                "prepared maps n=4": loaded(4),
+                "missing n=4": "map m at 3 0 slot 0",
+            },
+        ),
+        Case(
+            "a misspelt name of a map",
+            two_maps(),
+            {
+                "prepared maps mm=3 n=4 complete": 'UnknownMap { name: "mm" }',
+                "prepared maps m=3 mm=3 complete": 'UnknownMap { name: "mm" }',
+                # the descriptor of the other map
+                "prepared maps mm=3 n=4": loaded(4),
+                "missing mm=3 n=4 M=5": "map m at 3 0 slot 0\nunknown mm\nunknown M",
+            },
+        ),
+        Case(
+            "a map and a variable without descriptors",
+            data_and_map,
+            {
+                "prepared maps complete": 'MissingDescriptor { map: ".data" }',
+                "prepared maps .data=7 complete": 'MissingDescriptor { map: "m" }',
+                "prepared maps .data=7": no_map(6, 4, "m"),
+                "missing": "map .data at 3 0 slot 0\nmap m at 3 0 slot 2",
+            },
+        ),
+        Case(
+            "a call of an extern at the first slot",
+            called_extern(),
+            {
+                "prepared calls": copied,
+                "prepared calls complete": 'UnwrittenExtern { name: "e" }',
+                # without types nothing is written
+                "prepared externs calls complete": 'UnwrittenExtern { name: "e" }',
+                "prepared complete": prepared(0, slots("p", call(-1), END)),
+                "missing": "extern e at 3 0 slot 0",
+            },
+        ),
+        Case(
+            "a call of an extern that has types",
+            called,
+            {"prepared calls": copied, "prepared calls complete": 'UnwrittenExtern { name: "v" }'},
+        ),
+    ]
+
+
 def cases():
-    return chosen() + types() + descriptors() + externs()
+    return chosen() + types() + descriptors() + externs() + missing()

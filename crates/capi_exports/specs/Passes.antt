@@ -118,7 +118,7 @@ abbrev pub inputs_of : List ℕ → List ebpf_descriptor → List ℕ → List �
 inputs_of types rows text symbols =
     record { types = types; rows = rows; text = text; symbols = symbols }
 
--- all passes, types where a kernel's are known
+-- all passes, types where a kernel's are known, and nothing missing
 abbrev pub all_passes : PreparationInputs → Option TypeInfo → Chosen
 all_passes inputs kernel = record {
   target = kernel;
@@ -126,6 +126,7 @@ all_passes inputs kernel = record {
   kernel = Some kernel;
   externs = true;
   calls = true;
+  complete = true;
 }
 
 -- the object of the file after all passes

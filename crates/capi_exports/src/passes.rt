@@ -14,7 +14,7 @@ use capi_rows::reads::{descriptors_in, ebpf_descriptor, have_names};
 use capi_rows::refusal::{Refusal, ebpf_refusal, reported_number, tell};
 use capi_rows::refusals::{ksyms_refusal, prepare_refusal, types_refusal};
 use ebpf_object::Object;
-use ebpf_object::prepare::relocate_own_maps;
+use ebpf_object::prepare::relocate_complete_maps;
 use std::alloc::Global;
 
 /// Relocates the functions of an object to the types that the bytes spell.
@@ -77,20 +77,21 @@ fn write_map_fds(
         return Err(Refusal::plain(BAD_NAME));
     }
     let descriptors = descriptors_in(alloc, rows, text)?;
-    match relocate_own_maps(alloc, object, &descriptors) {
+    match relocate_complete_maps(alloc, object, &descriptors) {
         Ok(()) => Ok(()),
         Err(error) => Err(prepare_refusal(error)),
     }
 }
 
 /// Writes the descriptors of maps of what a handle holds into the slots that refer to them. Each row says where its
-/// map's name stands in `text`. A name that the object lacks is passed over; of maps of one symbol or one section the
-/// later one counts.
+/// map's name stands in `text`. Each name has to be that of a map, and each slot's own map has to have a row; of rows of
+/// one map the later one counts.
 ///
 /// # Answers
 ///
-/// 0; 2; 3 where the handle is closed; then 6 where a row's name is not inside the text or is no text; then 300 to 311
-/// for the first relocation that can't be applied, about its function. What the handle holds is then as it was.
+/// 0; 2; 3 where the handle is closed; then 6 where a row's name is not inside the text or is no text; then 321 for the
+/// first name that no map has, about the name; then 320 for the first slot whose own map has no row, about the map; then
+/// 300 to 311 for the first relocation that can't be applied, about its function. What the handle holds is then as it was.
 #[unsafe(no_mangle)]
 pub extern "C" fn ebpf_relocate_maps(
     alloc: Global,

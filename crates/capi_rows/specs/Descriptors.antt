@@ -3,10 +3,10 @@ use Rattle.std.specs.Prelude.{◌≡◌, ℕ, ◌+◌, List, length, take, drop,
 use Rattle.std.specs.Prelude.{Some, None, option_map, is_some, MatchBool, if◌then◌else◌}
 use Rattle.std.specs.List.{filter_map, list_all}
 use Rattle.std.specs.Str.{is_utf8}
-use Rattle.ebpf_object.specs.Stages.{fds_written, fds_fault, Wrapped, Descriptor}
+use Rattle.ebpf_object.specs.Stages.{fds_written, fds_fault, given_fault, CompleteFdsFault}
+use Rattle.ebpf_object.specs.Stages.{Descriptor}
 use Rattle.ebpf_object.specs.Prepared.{RefusesPreparing}
 use Rattle.ebpf_object.specs.declared.object.Object.{Object}
-use Rattle.ebpf_object.specs.declared.prepare_error.PrepareError.TheVariants.{Maps}
 use Rattle.capi_rows.specs.Handles.{IsRefusal}
 use Rattle.capi_rows.specs.Numbers.{prepare_refusal}
 use Rattle.capi_rows.specs.Refusals.{plain}
@@ -39,10 +39,11 @@ descriptors_in text rows = filter_map (descriptor_in text) rows
 abbrev pub NamesFirst : List ebpf_descriptor → List ℕ → (Refusal → Type 0) → Refusal → Type 0
 NamesFirst rows text Why r = MatchBool (have_names text rows) (Why r) (r ≡ plain BAD_NAME)
 
--- written into the slots that refer to the maps, each of which can take its descriptor
+-- written into the slots that refer to the maps, each of which has and can take its descriptor
 pub record HasWrittenMapFds (rows : List ebpf_descriptor) (text : List ℕ) (old new : Object)
     : Type 0 where
   pub named : have_names text rows ≡ true
+  pub complete : given_fault (Some (descriptors_in text rows)) true old ≡ None
   pub sound : fds_fault (Some (descriptors_in text rows)) old ≡ None
   pub is : new ≡ fds_written (Some (descriptors_in text rows)) old
 
@@ -51,6 +52,4 @@ abbrev pub CannotWriteMapFds : List ebpf_descriptor → List ℕ → Object → 
 CannotWriteMapFds rows text o =
     NamesFirst rows text
     (IsRefusal
-    (RefusesPreparing
-    (Wrapped Maps (λ e. fds_fault (Some (descriptors_in text rows)) o ≡ Some e)))
-    prepare_refusal)
+    (RefusesPreparing (CompleteFdsFault (descriptors_in text rows) o)) prepare_refusal)

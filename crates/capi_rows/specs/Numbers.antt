@@ -132,3 +132,6 @@ prepare_refusal (stage.Ksyms e) = ksyms_refusal e
 prepare_refusal (stage.Externs e) = slot_refusal 500 e
 prepare_refusal (stage.Calls e) = slot_refusal 600 e
 prepare_refusal stage.OutOfMemory = plain MEMORY
+prepare_refusal (stage.MissingDescriptor map) = refusal_with_name 320 map
+prepare_refusal (stage.UnknownMap name) = refusal_with_name 321 name
+prepare_refusal (stage.UnwrittenExtern name) = refusal_with_name 620 name

@@ -184,11 +184,17 @@ const KCONFIG_FAULTS: [&str; 9] = [
     "ValueOutOfRange",
 ];
 
+/// Faults of descriptors that aren't complete.
+const DESCRIPTOR_FAULTS: [&str; 2] = ["MissingDescriptor", "UnknownMap"];
+
+/// Faults of externs that aren't written when programs are to be linked.
+const UNWRITTEN_FAULTS: [&str; 1] = ["UnwrittenExtern"];
+
 /// The first number of a stage's faults, the stage, and the names of the faults.
 type Stage = (u32, &'static str, &'static [&'static str]);
 
 /// The stages in the order of their numbers.
-const STAGES: [Stage; 19] = [
+const STAGES: [Stage; 21] = [
     (0, "", &GENERAL),
     (100, "parse: ", &FILE_FAULTS),
     (110, "parse: SectionError ", &FILE_FAULTS),
@@ -198,10 +204,12 @@ const STAGES: [Stage; 19] = [
     (220, "types: BtfError ", &TYPE_FAULTS),
     (240, "types: ", &RECORD_FAULTS),
     (300, "maps: ", &SLOT_FAULTS),
+    (320, "maps: ", &DESCRIPTOR_FAULTS),
     (400, "ksyms: ", &EXTERN_FAULTS),
     (420, "ksyms: BtfError ", &TYPE_FAULTS),
     (500, "externs: ", &SLOT_FAULTS),
     (600, "calls: ", &SLOT_FAULTS),
+    (620, "calls: ", &UNWRITTEN_FAULTS),
     (700, "kernel types: ", &FILE_FAULTS),
     (720, "kernel types: BtfError ", &TYPE_FAULTS),
     (740, "kernel types: ", &KERNEL_TYPES_FAULTS),

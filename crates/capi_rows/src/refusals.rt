@@ -150,6 +150,9 @@ pub fn prepare_refusal(error: PrepareError) -> Refusal
         PrepareError::Externs(error) => slot_refusal(500, error),
         PrepareError::Calls(error) => slot_refusal(600, error),
         PrepareError::OutOfMemory => Refusal::plain(MEMORY),
+        PrepareError::MissingDescriptor { map } => Refusal::with_name(320, map),
+        PrepareError::UnknownMap { name } => Refusal::with_name(321, name),
+        PrepareError::UnwrittenExtern { name } => Refusal::with_name(620, name),
     }
 }
 

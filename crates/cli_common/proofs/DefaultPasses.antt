@@ -11,5 +11,5 @@ use Rattle.cli_common.specs.DefaultPasses.{default_passes}
 
 -- all passes with these descriptors are the default ones, where the descriptors count on by the maps' names
 pub all_default_passes : (types : Option TypeInfo) (maps : FinMap text_cmp Map) (s : Chosen) (ds : List Descriptor)
-    → s ≡ record { target = types; descriptors = Some ds; kernel = Some types; externs = true; calls = true } → ds ≡ numbered_descriptors (pos 0) (keys_of (entries maps)) → s ≡ default_passes types maps
-all_default_passes types maps s ds is of_names = is ∙ ap (λ (n : List Descriptor). record { target = types; descriptors = Some n; kernel = Some types; externs = true; calls = true }) of_names
+    → s ≡ record { target = types; descriptors = Some ds; kernel = Some types; externs = true; calls = true; complete = true } → ds ≡ numbered_descriptors (pos 0) (keys_of (entries maps)) → s ≡ default_passes types maps
+all_default_passes types maps s ds is of_names = is ∙ ap (λ (n : List Descriptor). record { target = types; descriptors = Some n; kernel = Some types; externs = true; calls = true; complete = true }) of_names

@@ -8,7 +8,7 @@ use Rattle.ebpf_object.specs.Stages.{Chosen, numbered_descriptors}
 use Rattle.ebpf_parts.specs.declared.maps.either.Map.{Map}
 
 -- All passes, types where the kernel's are known; the maps of these names have the descriptors 1,
--- 2, .. in order.
+-- 2, .. in order; nothing may be missing.
 abbrev pub default_passes_of : Option TypeInfo → List (List ℕ) → Chosen
 default_passes_of types names = record {
   target = types;
@@ -16,6 +16,7 @@ default_passes_of types names = record {
   kernel = Some types;
   externs = true;
   calls = true;
+  complete = true;
 }
 
 -- the passes that the programs choose, with descriptors for these maps in byte order of their names

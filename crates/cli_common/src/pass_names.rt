@@ -15,5 +15,8 @@ pub fn pass_and_variant(error: &PrepareError) -> (&'static str, &'static str) {
         PrepareError::Externs(refusal) => ("externs", variant_of_relocation(&refusal.error)),
         PrepareError::Calls(refusal) => ("calls", variant_of_relocation(&refusal.error)),
         PrepareError::OutOfMemory => ("memory", "OutOfMemory"),
+        PrepareError::MissingDescriptor { .. } => ("maps", "MissingDescriptor"),
+        PrepareError::UnknownMap { .. } => ("maps", "UnknownMap"),
+        PrepareError::UnwrittenExtern { .. } => ("calls", "UnwrittenExtern"),
     }
 }

@@ -112,6 +112,13 @@ pub fn pass_help(object: &Object, error: &PrepareError, given: GivenFiles) -> Op
         PrepareError::Maps(refusal)
         | PrepareError::Externs(refusal)
         | PrepareError::Calls(refusal) => slots_help(&refusal.error),
+        PrepareError::MissingDescriptor { .. } => {
+            Some("give a descriptor for each map that the programs refer to")
+        }
+        PrepareError::UnknownMap { .. } => Some("`ebpf list` has the names of the maps"),
+        PrepareError::UnwrittenExtern { .. } => Some(
+            "compile with `-g`, so that the object has types",
+        ),
         PrepareError::Parse(_) | PrepareError::OutOfMemory => None,
     }
 }

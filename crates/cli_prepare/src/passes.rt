@@ -5,7 +5,9 @@ use cli_common::programs::ObjectProgram;
 use ebpf_base::{ByKey, Items};
 use ebpf_model::Function;
 use ebpf_object::Object;
-use ebpf_object::prepare::{PrepareError, Steps, SymbolText, numbered_descriptors, prepare_copy};
+use ebpf_object::prepare::{
+    PrepareError, Steps, SymbolText, check_externs, numbered_descriptors, prepare_copy,
+};
 use ebpf_object::relocation::{
     LinkMap, LinkedFunction, ProgramKey, programs_in_order, take_places,
 };
@@ -81,12 +83,13 @@ fn linked_programs(
     Ok(linked)
 }
 
-/// Links the programs of an object; gives the link maps of the chosen ones.
+/// Links the programs of an object, in which each call of an extern has to be written; gives the link maps of the chosen ones.
 fn link_all(
     alloc: Global,
     object: &mut Object,
     chosen: &[ObjectProgram],
 ) -> Result<Items<LinkMap>, PrepareError> {
+    check_externs(object, true, true)?;
     let linked = linked_programs(alloc, object, chosen)?;
     take_places(&mut object.functions, linked.functions);
     Ok(linked.maps)

@@ -11,7 +11,8 @@ use ebpf_ksyms::KsymsError;
 use ebpf_model::RelocationError;
 use ebpf_object::Object;
 use ebpf_object::prepare::PrepareError::{
-    self, Calls, Externs, Ksyms, Maps, OutOfMemory, Parse, Types,
+    self, Calls, Externs, Ksyms, Maps, MissingDescriptor, OutOfMemory, Parse, Types, UnknownMap,
+    UnwrittenExtern,
 };
 use ebpf_parts::ParseError;
 use std::alloc::{AllocError, Global};
@@ -26,6 +27,7 @@ fn is_memory(error: &PrepareError) -> bool {
             matches!(refusal.error, RelocationError::OutOfMemory)
         }
         OutOfMemory => true,
+        MissingDescriptor { .. } | UnknownMap { .. } | UnwrittenExtern { .. } => false,
     }
 }
 

@@ -12,7 +12,7 @@ ghost use Rattle.ebpf_parts.specs.declared.parse_mode.ParseMode.TheVariants.{Str
 use crate::report::{ProgramReport, reports_of};
 use ebpf_base::Items;
 use ebpf_object::Object;
-use ebpf_object::prepare::{PrepareError, Steps, SymbolSource, prepare_object};
+use ebpf_object::prepare::{PrepareError, Steps, SymbolSource, check_externs, prepare_object};
 use ebpf_object::relocation::programs_in_order;
 use std::alloc::Global;
 
@@ -25,6 +25,7 @@ fn without_calls<'a>(steps: &Steps<'a>) -> Steps<'a>
         map_fds: steps.map_fds,
         externs: steps.externs,
         calls: false,
+        complete: steps.complete,
     }
 }
 
@@ -58,6 +59,7 @@ fn inspect_all<K: SymbolSource>(
         Ok(prepared) => prepared,
         Err(error) => return Err(error),
     };
+    check_externs(&prepared, true, steps.complete)?;
     report(alloc, &prepared)
 }
 

@@ -6,6 +6,7 @@ pub mod Sanitizing
 pub mod PatchedPlaces
 pub mod OnePreparation
 pub mod Staging
+pub mod Incomplete
 pub mod OneResolution
 pub mod Headline
 pub mod MapNames

@@ -20,12 +20,12 @@ use Rattle.ebpf_object.proofs.OneResolution.{not_resolved, one_refusal, one_reso
 use Rattle.ebpf_object.specs.LinkedPrograms.{is_program_key, OneLinking, ProgramsAreLinked, linkable_of, programs_in_order}
 use Rattle.ebpf_object.specs.Names.{has_function_in}
 use Rattle.ebpf_object.specs.Objects.{object_as, parse_fault_as}
-use Rattle.ebpf_object.specs.Prepared.{OnePreparation, OneStaging, is_access, is_access_error, prepare_error_without_texts, IsStageFault, IsFaultAfter, IsFirstPrepareFault, IsPrepared, NamesNothing, RefusesPreparing, Stages, before_calls, before_externs, before_maps, before_resolution, is_prepare_memory}
+use Rattle.ebpf_object.specs.Prepared.{OnePreparation, OneStaging, is_access, is_access_error, prepare_error_without_texts, IsStageFault, IsPassFault, IsFaultAfter, IsFirstPrepareFault, IsPrepared, NamesNothing, RefusesPreparing, Stages, before_calls, before_externs, before_maps, before_resolution, is_prepare_memory}
 use Rattle.ebpf_object.specs.WrittenSlots.{relocated_slots}
-use Rattle.ebpf_object.specs.Stages.{RelocatesTypes, TypesFault, LinksPrograms, LinkingFault, Resolves, ResolvingFault, fds_written, fds_fault, with_externs_if, externs_fault_if, Chosen}
+use Rattle.ebpf_object.specs.Stages.{RelocatesTypes, TypesFault, LinksPrograms, LinkingFault, Resolves, ResolvingFault, fds_written, fds_fault, with_externs_if, externs_fault_if, given_fault, unwritten_fault, Chosen}
 use Rattle.ebpf_object.specs.declared.object.Object.{Object}
 use Rattle.ebpf_object.specs.declared.prepare_error.PrepareError.{PrepareError}
-use Rattle.ebpf_object.specs.declared.prepare_error.PrepareError.TheVariants.{Parse, Types, Maps, Ksyms, Externs, Calls, OutOfMemory}
+use Rattle.ebpf_object.specs.declared.prepare_error.PrepareError.TheVariants.{Parse, Types, Maps, Ksyms, Externs, Calls, OutOfMemory, MissingDescriptor, UnknownMap, UnwrittenExtern}
 use Rattle.ebpf_parts.specs.declared.error.ParseError.{ParseError}
 use Rattle.ebpf_parts.specs.declared.parse_mode.ParseMode.{ParseMode}
 use Rattle.ebpf_reloc.proofs.OneResult.{one_way, any_at, not_refused, one_result}
@@ -150,12 +150,14 @@ module _ (lines : List ℕ) (o : Object) where
     fds_written = s.relocated;
     resolved = s.relocated;
     unlinked = s.relocated;
+    given = refl;
     types = s.types;
     maps_sound = refl;
     maps = refl;
     resolution = refl;
     externs_sound = refl;
     externs = refl;
+    written = refl;
     calls = refl;
   }
 
@@ -165,12 +167,14 @@ module _ (lines : List ℕ) (o : Object) where
     fds_written = s.fds_written;
     resolved = s.fds_written;
     unlinked = s.fds_written;
+    given = s.given;
     types = s.types;
     maps_sound = s.maps_sound;
     maps = s.maps;
     resolution = refl;
     externs_sound = refl;
     externs = refl;
+    written = refl;
     calls = refl;
   }
 
@@ -180,12 +184,14 @@ module _ (lines : List ℕ) (o : Object) where
     fds_written = s.fds_written;
     resolved = s.resolved;
     unlinked = s.resolved;
+    given = s.given;
     types = s.types;
     maps_sound = s.maps_sound;
     maps = s.maps;
     resolution = s.resolution;
     externs_sound = refl;
     externs = refl;
+    written = refl;
     calls = refl;
   }
 
@@ -195,12 +201,14 @@ module _ (lines : List ℕ) (o : Object) where
     fds_written = s.fds_written;
     resolved = s.resolved;
     unlinked = s.unlinked;
+    given = s.given;
     types = s.types;
     maps_sound = s.maps_sound;
     maps = s.maps;
     resolution = s.resolution;
     externs_sound = s.externs_sound;
     externs = s.externs;
+    written = refl;
     calls = refl;
   }
 
@@ -208,50 +216,111 @@ module _ (lines : List ℕ) (o : Object) where
   fault_in : (steps : Chosen) (Fault : Object → Type 0) (x : Object) → Leads steps x → IsFaultAfter steps (Reader (Some lines)) o Fault → Fault x
   fault_in steps Fault x s f = subst Fault (one_staged steps f.before x f.stages s) f.fault
 
+  -- stages that lead on have no fault of a pass
+  passed_on : (steps : Chosen) (after : Object) → Leads steps after → (e : PrepareError) → is_access e ≡ false → IsPassFault steps (Reader (Some lines)) o e → ⊥
+  passed_on steps after s (Types e) other f = not_relocated steps.target o s.relocated e s.types f
+  passed_on steps after s (Maps e) other f =
+      none_or_some (fds_fault steps.descriptors s.relocated) e s.maps_sound (fault_in (before_maps steps) _ s.relocated (up_to_types steps after s) f)
+  passed_on steps after s (Ksyms e) other f =
+      not_resolving lines steps.kernel s.fds_written s.resolved e other s.resolution (fault_in (before_resolution steps) _ s.fds_written (up_to_maps steps after s) f)
+  passed_on steps after s (Externs e) other f =
+      none_or_some (externs_fault_if steps.externs s.resolved) e s.externs_sound (fault_in (before_externs steps) _ s.resolved (up_to_resolution steps after s) f)
+  passed_on steps after s (Calls e) other f =
+      not_linked steps.calls s.unlinked after e s.calls (fault_in (before_calls steps) _ s.unlinked (up_to_externs steps after s) f).1
+  passed_on steps after s (UnwrittenExtern name) other f =
+      none_or_some (unwritten_fault steps.calls steps.complete s.unlinked) name s.written (fault_in (before_calls steps) _ s.unlinked (up_to_externs steps after s) f)
+  passed_on steps after s (Parse e) other f = f
+  passed_on steps after s OutOfMemory other f = f
+  passed_on steps after s (MissingDescriptor name) other f = f
+  passed_on steps after s (UnknownMap name) other f = f
+
+  one_pass_fault : (steps : Chosen) (d e : PrepareError) → is_access d ≡ false → is_access e ≡ false → IsPassFault steps (Reader (Some lines)) o d → IsPassFault steps (Reader (Some lines)) o e → prepare_error_without_texts d ≡ prepare_error_without_texts e
+  one_pass_fault steps (Types d) (Types e) od oe f g = ap Types (one_types_fault steps.target o d e f g)
+  one_pass_fault steps (Types d) (Maps e) od oe f g = absurd (passed_on (before_maps steps) g.before g.stages (Types d) od f)
+  one_pass_fault steps (Types d) (Ksyms e) od oe f g = absurd (passed_on (before_resolution steps) g.before g.stages (Types d) od f)
+  one_pass_fault steps (Types d) (Externs e) od oe f g = absurd (passed_on (before_externs steps) g.before g.stages (Types d) od f)
+  one_pass_fault steps (Types d) (Calls e) od oe f g = absurd (passed_on (before_calls steps) g.before g.stages (Types d) od f)
+  one_pass_fault steps (Maps d) (Types e) od oe f g = absurd (passed_on (before_maps steps) f.before f.stages (Types e) oe g)
+  one_pass_fault steps (Maps d) (Maps e) od oe f g = ap Maps (same_some (fds_fault steps.descriptors g.before) d e (fault_in (before_maps steps) _ g.before g.stages f) g.fault)
+  one_pass_fault steps (Maps d) (Ksyms e) od oe f g = absurd (passed_on (before_resolution steps) g.before g.stages (Maps d) od f)
+  one_pass_fault steps (Maps d) (Externs e) od oe f g = absurd (passed_on (before_externs steps) g.before g.stages (Maps d) od f)
+  one_pass_fault steps (Maps d) (Calls e) od oe f g = absurd (passed_on (before_calls steps) g.before g.stages (Maps d) od f)
+  one_pass_fault steps (Ksyms d) (Types e) od oe f g = absurd (passed_on (before_resolution steps) f.before f.stages (Types e) oe g)
+  one_pass_fault steps (Ksyms d) (Maps e) od oe f g = absurd (passed_on (before_resolution steps) f.before f.stages (Maps e) oe g)
+  one_pass_fault steps (Ksyms d) (Ksyms e) od oe f g = ap Ksyms (one_resolving lines steps.kernel g.before d e od oe (fault_in (before_resolution steps) _ g.before g.stages f) g.fault)
+  one_pass_fault steps (Ksyms d) (Externs e) od oe f g = absurd (passed_on (before_externs steps) g.before g.stages (Ksyms d) od f)
+  one_pass_fault steps (Ksyms d) (Calls e) od oe f g = absurd (passed_on (before_calls steps) g.before g.stages (Ksyms d) od f)
+  one_pass_fault steps (Externs d) (Types e) od oe f g = absurd (passed_on (before_externs steps) f.before f.stages (Types e) oe g)
+  one_pass_fault steps (Externs d) (Maps e) od oe f g = absurd (passed_on (before_externs steps) f.before f.stages (Maps e) oe g)
+  one_pass_fault steps (Externs d) (Ksyms e) od oe f g = absurd (passed_on (before_externs steps) f.before f.stages (Ksyms e) oe g)
+  one_pass_fault steps (Externs d) (Externs e) od oe f g = ap Externs (same_some (externs_fault_if steps.externs g.before) d e (fault_in (before_externs steps) _ g.before g.stages f) g.fault)
+  one_pass_fault steps (Externs d) (Calls e) od oe f g = absurd (passed_on (before_calls steps) g.before g.stages (Externs d) od f)
+  one_pass_fault steps (Calls d) (Types e) od oe f g = absurd (passed_on (before_calls steps) f.before f.stages (Types e) oe g)
+  one_pass_fault steps (Calls d) (Maps e) od oe f g = absurd (passed_on (before_calls steps) f.before f.stages (Maps e) oe g)
+  one_pass_fault steps (Calls d) (Ksyms e) od oe f g = absurd (passed_on (before_calls steps) f.before f.stages (Ksyms e) oe g)
+  one_pass_fault steps (Calls d) (Externs e) od oe f g = absurd (passed_on (before_calls steps) f.before f.stages (Externs e) oe g)
+  one_pass_fault steps (Calls d) (Calls e) od oe f g = ap Calls (one_refused steps.calls g.before d e (fault_in (before_calls steps) _ g.before g.stages f).1 g.fault.1)
+  one_pass_fault steps (Types d) (UnwrittenExtern e) od oe f g = absurd (passed_on (before_calls steps) g.before g.stages (Types d) od f)
+  one_pass_fault steps (Maps d) (UnwrittenExtern e) od oe f g = absurd (passed_on (before_calls steps) g.before g.stages (Maps d) od f)
+  one_pass_fault steps (Ksyms d) (UnwrittenExtern e) od oe f g = absurd (passed_on (before_calls steps) g.before g.stages (Ksyms d) od f)
+  one_pass_fault steps (Externs d) (UnwrittenExtern e) od oe f g = absurd (passed_on (before_calls steps) g.before g.stages (Externs d) od f)
+  one_pass_fault steps (Calls d) (UnwrittenExtern e) od oe f g =
+      absurd (none_or_some (unwritten_fault steps.calls steps.complete g.before) e (fault_in (before_calls steps) _ g.before g.stages f).0 g.fault)
+  one_pass_fault steps (UnwrittenExtern d) (Types e) od oe f g = absurd (passed_on (before_calls steps) f.before f.stages (Types e) oe g)
+  one_pass_fault steps (UnwrittenExtern d) (Maps e) od oe f g = absurd (passed_on (before_calls steps) f.before f.stages (Maps e) oe g)
+  one_pass_fault steps (UnwrittenExtern d) (Ksyms e) od oe f g = absurd (passed_on (before_calls steps) f.before f.stages (Ksyms e) oe g)
+  one_pass_fault steps (UnwrittenExtern d) (Externs e) od oe f g = absurd (passed_on (before_calls steps) f.before f.stages (Externs e) oe g)
+  one_pass_fault steps (UnwrittenExtern d) (Calls e) od oe f g =
+      absurd (none_or_some (unwritten_fault steps.calls steps.complete f.before) d (fault_in (before_calls steps) _ f.before f.stages g).0 f.fault)
+  one_pass_fault steps (UnwrittenExtern d) (UnwrittenExtern e) od oe f g =
+      ap UnwrittenExtern (same_some (unwritten_fault steps.calls steps.complete g.before) d e (fault_in (before_calls steps) _ g.before g.stages f) g.fault)
+  one_pass_fault steps (MissingDescriptor d) e od oe f g = absurd f
+  one_pass_fault steps (UnknownMap d) e od oe f g = absurd f
+  one_pass_fault steps (Parse d) e od oe f g = absurd f
+  one_pass_fault steps OutOfMemory e od oe f g = absurd f
+  one_pass_fault steps d (Parse e) od oe f g = absurd g
+  one_pass_fault steps d OutOfMemory od oe f g = absurd g
+  one_pass_fault steps d (MissingDescriptor e) od oe f g = absurd g
+  one_pass_fault steps d (UnknownMap e) od oe f g = absurd g
+
+  -- ---- the fault of the descriptors, or that of a pass
+
+  abbrev given : Chosen → Option PrepareError
+  given steps = given_fault steps.descriptors steps.complete o
+
+  abbrev OfPass : Chosen → PrepareError → Type 0
+  OfPass steps e = (given steps ≡ None) × IsPassFault steps (Reader (Some lines)) o e
+
+  of_either : (steps : Chosen) (e : PrepareError) → IsStageFault steps (Reader (Some lines)) o e → (given steps ≡ Some e) ⊎ OfPass steps e
+  of_either steps (Parse e) f = absurd f
+  of_either steps (Types e) f = inr f
+  of_either steps (Maps e) f = inr f
+  of_either steps (Ksyms e) f = inr f
+  of_either steps (Externs e) f = inr f
+  of_either steps (Calls e) f = inr f
+  of_either steps OutOfMemory f = absurd f
+  of_either steps (MissingDescriptor name) f = inl f
+  of_either steps (UnknownMap name) f = inl f
+  of_either steps (UnwrittenExtern name) f = inr f
+
+  led_by : (steps : Chosen) (after : Object) → Leads steps after → (e : PrepareError) → is_access e ≡ false → (given steps ≡ Some e) ⊎ OfPass steps e → ⊥
+  led_by steps after s e other (inl f) = none_or_some (given steps) e s.given f
+  led_by steps after s e other (inr f) = passed_on steps after s e other f.1
+
   -- stages that lead on have no fault
   led_on : (steps : Chosen) (after : Object) → Leads steps after → (e : PrepareError) → is_access e ≡ false → IsStageFault steps (Reader (Some lines)) o e → ⊥
-  led_on steps after s (Types e) other f = not_relocated steps.target o s.relocated e s.types f
-  led_on steps after s (Maps e) other f =
-      none_or_some (fds_fault steps.descriptors s.relocated) e s.maps_sound (fault_in (before_maps steps) _ s.relocated (up_to_types steps after s) f)
-  led_on steps after s (Ksyms e) other f =
-      not_resolving lines steps.kernel s.fds_written s.resolved e other s.resolution (fault_in (before_resolution steps) _ s.fds_written (up_to_maps steps after s) f)
-  led_on steps after s (Externs e) other f =
-      none_or_some (externs_fault_if steps.externs s.resolved) e s.externs_sound (fault_in (before_externs steps) _ s.resolved (up_to_resolution steps after s) f)
-  led_on steps after s (Calls e) other f =
-      not_linked steps.calls s.unlinked after e s.calls (fault_in (before_calls steps) _ s.unlinked (up_to_externs steps after s) f)
-  led_on steps after s (Parse e) other f = f
-  led_on steps after s OutOfMemory other f = f
+  led_on steps after s e other f = led_by steps after s e other (of_either steps e f)
 
-  one_fault : (steps : Chosen) (d e : PrepareError) → is_access d ≡ false → is_access e ≡ false → IsStageFault steps (Reader (Some lines)) o d → IsStageFault steps (Reader (Some lines)) o e → prepare_error_without_texts d ≡ prepare_error_without_texts e
-  one_fault steps (Types d) (Types e) od oe f g = ap Types (one_types_fault steps.target o d e f g)
-  one_fault steps (Types d) (Maps e) od oe f g = absurd (led_on (before_maps steps) g.before g.stages (Types d) od f)
-  one_fault steps (Types d) (Ksyms e) od oe f g = absurd (led_on (before_resolution steps) g.before g.stages (Types d) od f)
-  one_fault steps (Types d) (Externs e) od oe f g = absurd (led_on (before_externs steps) g.before g.stages (Types d) od f)
-  one_fault steps (Types d) (Calls e) od oe f g = absurd (led_on (before_calls steps) g.before g.stages (Types d) od f)
-  one_fault steps (Maps d) (Types e) od oe f g = absurd (led_on (before_maps steps) f.before f.stages (Types e) oe g)
-  one_fault steps (Maps d) (Maps e) od oe f g = ap Maps (same_some (fds_fault steps.descriptors g.before) d e (fault_in (before_maps steps) _ g.before g.stages f) g.fault)
-  one_fault steps (Maps d) (Ksyms e) od oe f g = absurd (led_on (before_resolution steps) g.before g.stages (Maps d) od f)
-  one_fault steps (Maps d) (Externs e) od oe f g = absurd (led_on (before_externs steps) g.before g.stages (Maps d) od f)
-  one_fault steps (Maps d) (Calls e) od oe f g = absurd (led_on (before_calls steps) g.before g.stages (Maps d) od f)
-  one_fault steps (Ksyms d) (Types e) od oe f g = absurd (led_on (before_resolution steps) f.before f.stages (Types e) oe g)
-  one_fault steps (Ksyms d) (Maps e) od oe f g = absurd (led_on (before_resolution steps) f.before f.stages (Maps e) oe g)
-  one_fault steps (Ksyms d) (Ksyms e) od oe f g = ap Ksyms (one_resolving lines steps.kernel g.before d e od oe (fault_in (before_resolution steps) _ g.before g.stages f) g.fault)
-  one_fault steps (Ksyms d) (Externs e) od oe f g = absurd (led_on (before_externs steps) g.before g.stages (Ksyms d) od f)
-  one_fault steps (Ksyms d) (Calls e) od oe f g = absurd (led_on (before_calls steps) g.before g.stages (Ksyms d) od f)
-  one_fault steps (Externs d) (Types e) od oe f g = absurd (led_on (before_externs steps) f.before f.stages (Types e) oe g)
-  one_fault steps (Externs d) (Maps e) od oe f g = absurd (led_on (before_externs steps) f.before f.stages (Maps e) oe g)
-  one_fault steps (Externs d) (Ksyms e) od oe f g = absurd (led_on (before_externs steps) f.before f.stages (Ksyms e) oe g)
-  one_fault steps (Externs d) (Externs e) od oe f g = ap Externs (same_some (externs_fault_if steps.externs g.before) d e (fault_in (before_externs steps) _ g.before g.stages f) g.fault)
-  one_fault steps (Externs d) (Calls e) od oe f g = absurd (led_on (before_calls steps) g.before g.stages (Externs d) od f)
-  one_fault steps (Calls d) (Types e) od oe f g = absurd (led_on (before_calls steps) f.before f.stages (Types e) oe g)
-  one_fault steps (Calls d) (Maps e) od oe f g = absurd (led_on (before_calls steps) f.before f.stages (Maps e) oe g)
-  one_fault steps (Calls d) (Ksyms e) od oe f g = absurd (led_on (before_calls steps) f.before f.stages (Ksyms e) oe g)
-  one_fault steps (Calls d) (Externs e) od oe f g = absurd (led_on (before_calls steps) f.before f.stages (Externs e) oe g)
-  one_fault steps (Calls d) (Calls e) od oe f g = ap Calls (one_refused steps.calls g.before d e (fault_in (before_calls steps) _ g.before g.stages f) g.fault)
-  one_fault steps (Parse d) e od oe f g = absurd f
-  one_fault steps OutOfMemory e od oe f g = absurd f
-  one_fault steps d (Parse e) od oe f g = absurd g
-  one_fault steps d OutOfMemory od oe f g = absurd g
+  one_of_two : (steps : Chosen) (d e : PrepareError) → is_access d ≡ false → is_access e ≡ false → (given steps ≡ Some d) ⊎ OfPass steps d → (given steps ≡ Some e) ⊎ OfPass steps e
+      → prepare_error_without_texts d ≡ prepare_error_without_texts e
+  one_of_two steps d e od oe (inl f) (inl g) = ap prepare_error_without_texts (same_some (given steps) d e f g)
+  one_of_two steps d e od oe (inl f) (inr g) = absurd (none_or_some (given steps) d g.0 f)
+  one_of_two steps d e od oe (inr f) (inl g) = absurd (none_or_some (given steps) e f.0 g)
+  one_of_two steps d e od oe (inr f) (inr g) = one_pass_fault steps d e od oe f.1 g.1
+
+  one_fault : (steps : Chosen) (d e : PrepareError) → is_access d ≡ false → is_access e ≡ false → IsStageFault steps (Reader (Some lines)) o d → IsStageFault steps (Reader (Some lines)) o e
+      → prepare_error_without_texts d ≡ prepare_error_without_texts e
+  one_fault steps d e od oe f g = one_of_two steps d e od oe (of_either steps d f) (of_either steps e g)
 
 -- ---- answers that exclude others
 
@@ -293,6 +362,9 @@ module _ (steps : Chosen) (lines : List ℕ) (mode : ParseMode) (bytes : List �
   either (Externs e) f = inr f
   either (Calls e) f = inr f
   either OutOfMemory f = inr f
+  either (MissingDescriptor name) f = inr f
+  either (UnknownMap name) f = inr f
+  either (UnwrittenExtern name) f = inr f
 
   one_first : (d e : PrepareError) → is_access d ≡ false → is_access e ≡ false → OfFile d ⊎ OfStage d → OfFile e ⊎ OfStage e → prepare_error_without_texts d ≡ prepare_error_without_texts e
   one_first d e od oe (inl f) (inl g) =

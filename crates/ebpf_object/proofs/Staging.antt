@@ -1,22 +1,24 @@
 -- The stages of preparing an object, put together.
 use Rattle.std.proofs.Common.{◌≡◌, ℕ, Bool, true, false, List, Some, None, refl, subst, sym, ap, ◌∙◌, ◌+◌, ◌<◌, [], ◌∷◌, ◌++◌, map, length, drop, Bor}
-use Rattle.std.specs.Prelude.{MatchBool, Result, Ok, Err, OnOk, IfOk, IfErr, IsErrAnd, ℤ, slice_index_or, option_map}
+use Rattle.std.specs.Prelude.{MatchBool, Result, Ok, Err, OnOk, IfOk, IfErr, IsErrAnd, ℤ, slice_index_or, slice_get, option_map, Option}
 use Rattle.std.proofs.lemmas.List.{append_assoc, map-append}
 use Rattle.std.specs.FinMap.{FinMap, get}
 use Rattle.std.specs.List.{cons_option}
 use Rattle.ebpf_base.proofs.Lists.{rest_more}
+use Rattle.ebpf_base.specs.Faults.{or_else}
 use Rattle.ebpf_base.specs.Maps.{lent_bytes, text_cmp}
 use Rattle.ebpf_ksyms.specs.Sources.{Source}
 use Rattle.ebpf_object.specs.Objects.{object_as, parse_fault_as}
 use Rattle.ebpf_object.specs.Prepared.{Stages, before_calls, before_externs, before_resolution, before_maps, IsStageFault, IsFirstPrepareFault, IsPrepared, IsParsed, RefusesPreparing, NamesNothing, is_prepare_memory}
-use Rattle.ebpf_object.specs.Stages.{Wrapped, RelocatesTypes, TypesFault, fds_written, fds_fault, Resolves, ResolvingFault, with_externs_if, externs_fault_if, LinksPrograms, LinkingFault, Chosen, own_maps, descriptor_of, following, numbered_descriptors}
+use Rattle.ebpf_object.specs.Stages.{Wrapped, given_fault, unwritten_fault, unknown_maps, maps_without_descriptors, Descriptor, RelocatesTypes, TypesFault, fds_written, fds_fault, Resolves, ResolvingFault, with_externs_if, externs_fault_if, LinksPrograms, LinkingFault, Chosen, own_maps, descriptor_of, following, numbered_descriptors}
 use Rattle.ebpf_object.specs.UnchangedFields.{KeepsOthers}
 use Rattle.ebpf_object.specs.declared.object.Object.{Object}
 use Rattle.ebpf_object.specs.declared.prepare_error.PrepareError.{PrepareError}
-use Rattle.ebpf_object.specs.declared.prepare_error.PrepareError.TheVariants.{Parse, Types, Maps, Ksyms, Externs, Calls, OutOfMemory}
+use Rattle.ebpf_object.specs.declared.prepare_error.PrepareError.TheVariants.{Parse, Types, Maps, Ksyms, Externs, Calls, OutOfMemory, MissingDescriptor, UnknownMap, UnwrittenExtern}
 use Rattle.ebpf_parts.specs.declared.maps.either.Map.{Map}
 use Rattle.ebpf_parts.specs.declared.parse_mode.ParseMode.{ParseMode}
 use Rattle.ebpf_reloc.specs.Maps.{GivenMap, LentMap, given_map}
+use Rattle.ebpf_reloc.specs.declared.named_slots.NamedSlot.{NamedSlot}
 
 -- what follows of an answer
 module _ {U E : Type 0} where
@@ -53,11 +55,56 @@ module _ {E : Type 0} (variant : E → PrepareError) (Own : E → Type 0) where
   refused_as Fault to e r =
       other_fault (is_prepare_memory e) (NamesNothing e) (Wrapped variant Own e) (Fault e) (λ own. subst Fault (sym own.1) (to own.0 own.2)) r
 
+-- ---- descriptors that aren't complete
+
+-- their errors
+IsOfDescriptors : PrepareError → Type 0
+IsOfDescriptors (MissingDescriptor name) = Unit {0}
+IsOfDescriptors (UnknownMap name) = Unit {0}
+IsOfDescriptors _ = ⊥
+
+same_error : (d e : PrepareError) → Some d ≡ Some e → d ≡ e
+same_error d e is = cc
+
+no_error : (e : PrepareError) → ◌≡◌ {A = Option PrepareError} None (Some e) → ⊥
+no_error e is = cc
+
+of_first : (name : Option (List ℕ)) (slot : Option NamedSlot) (e : PrepareError)
+    → or_else (option_map UnknownMap name) (option_map (λ s. MissingDescriptor s.name) slot) ≡ Some e → IsOfDescriptors e
+of_first (Some name) slot e is = subst IsOfDescriptors (same_error (UnknownMap name) e is) tt
+of_first None (Some slot) e is = subst IsOfDescriptors (same_error (MissingDescriptor slot.name) e is) tt
+of_first None None e is = absurd (no_error e is)
+
+of_descriptors : (descriptors : Option (List Descriptor)) (complete : Bool) (o : Object) (e : PrepareError)
+    → given_fault descriptors complete o ≡ Some e → IsOfDescriptors e
+of_descriptors None complete o e is = absurd (no_error e is)
+of_descriptors (Some ds) false o e is = absurd (no_error e is)
+of_descriptors (Some ds) true o e is = of_first (slice_get (unknown_maps o ds) 0) (slice_get (maps_without_descriptors o ds) 0) e is
+
 -- ---- the stages one after the other
 
 module _ (steps : Chosen) (lines : Source) (o : Object) where
+  own_error : (e : PrepareError) → given_fault steps.descriptors steps.complete o ≡ Some e → IsOfDescriptors e
+  own_error e f = of_descriptors steps.descriptors steps.complete o e f
+
+  stated : (e : PrepareError) → given_fault steps.descriptors steps.complete o ≡ Some e → IsStageFault steps lines o e
+  stated (Parse e) f = own_error (Parse e) f
+  stated (Types e) f = absurd (own_error (Types e) f)
+  stated (Maps e) f = absurd (own_error (Maps e) f)
+  stated (Ksyms e) f = absurd (own_error (Ksyms e) f)
+  stated (Externs e) f = absurd (own_error (Externs e) f)
+  stated (Calls e) f = absurd (own_error (Calls e) f)
+  stated OutOfMemory f = own_error OutOfMemory f
+  stated (MissingDescriptor name) f = f
+  stated (UnknownMap name) f = f
+  stated (UnwrittenExtern name) f = absurd (own_error (UnwrittenExtern name) f)
+
+  pub descriptors_refused : (e : PrepareError) → RefusesPreparing (λ e. given_fault steps.descriptors steps.complete o ≡ Some e) e → RefusesPreparing (IsStageFault steps lines o) e
+  descriptors_refused e r = other_fault (is_prepare_memory e) (NamesNothing e) (given_fault steps.descriptors steps.complete o ≡ Some e) (IsStageFault steps lines o e) (stated e) r
+
+module _ (steps : Chosen) (lines : Source) (o : Object) (given : given_fault steps.descriptors steps.complete o ≡ None) where
   pub relocating_refused : (e : PrepareError) → RefusesPreparing (Wrapped Types (TypesFault steps.target o)) e → RefusesPreparing (IsStageFault steps lines o) e
-  relocating_refused e r = refused_as Types (TypesFault steps.target o) (IsStageFault steps lines o) (λ own fault. fault) e r
+  relocating_refused e r = refused_as Types (TypesFault steps.target o) (IsStageFault steps lines o) (λ own fault. (given, fault)) e r
 
   module _ (a : Object) (types : RelocatesTypes steps.target o a) where
     after_types : Stages (before_maps steps) lines o a
@@ -66,18 +113,20 @@ module _ (steps : Chosen) (lines : Source) (o : Object) where
       fds_written = a;
       resolved = a;
       unlinked = a;
+      given = refl;
       types = types;
       maps_sound = refl;
       maps = refl;
       resolution = refl;
       externs_sound = refl;
       externs = refl;
+      written = refl;
       calls = refl;
     }
 
     pub fds_refused : (e : PrepareError) → RefusesPreparing (Wrapped Maps (λ d. fds_fault steps.descriptors a ≡ Some d)) e → RefusesPreparing (IsStageFault steps lines o) e
     fds_refused e r =
-        refused_as Maps (λ d. fds_fault steps.descriptors a ≡ Some d) (IsStageFault steps lines o) (λ own fault. record { before = a; stages = after_types; fault = fault }) e r
+        refused_as Maps (λ d. fds_fault steps.descriptors a ≡ Some d) (IsStageFault steps lines o) (λ own fault. (given, record { before = a; stages = after_types; fault = fault })) e r
 
     module _ (maps_sound : fds_fault steps.descriptors a ≡ None) (b : Object) (maps : b ≡ fds_written steps.descriptors a) where
       after_maps : Stages (before_resolution steps) lines o b
@@ -86,18 +135,20 @@ module _ (steps : Chosen) (lines : Source) (o : Object) where
         fds_written = b;
         resolved = b;
         unlinked = b;
+        given = given;
         types = types;
         maps_sound = maps_sound;
         maps = maps;
         resolution = refl;
         externs_sound = refl;
         externs = refl;
+        written = refl;
         calls = refl;
       }
 
       pub resolving_refused : (e : PrepareError) → RefusesPreparing (Wrapped Ksyms (ResolvingFault steps.kernel lines b)) e → RefusesPreparing (IsStageFault steps lines o) e
       resolving_refused e r =
-          refused_as Ksyms (ResolvingFault steps.kernel lines b) (IsStageFault steps lines o) (λ own fault. record { before = b; stages = after_maps; fault = fault }) e r
+          refused_as Ksyms (ResolvingFault steps.kernel lines b) (IsStageFault steps lines o) (λ own fault. (given, record { before = b; stages = after_maps; fault = fault })) e r
 
       module _ (c : Object) (resolution : Resolves steps.kernel lines b c) where
         after_resolution : Stages (before_externs steps) lines o c
@@ -106,18 +157,20 @@ module _ (steps : Chosen) (lines : Source) (o : Object) where
           fds_written = b;
           resolved = c;
           unlinked = c;
+          given = given;
           types = types;
           maps_sound = maps_sound;
           maps = maps;
           resolution = resolution;
           externs_sound = refl;
           externs = refl;
+          written = refl;
           calls = refl;
         }
 
         pub writing_externs_refused : (e : PrepareError) → RefusesPreparing (Wrapped Externs (λ d. externs_fault_if steps.externs c ≡ Some d)) e → RefusesPreparing (IsStageFault steps lines o) e
         writing_externs_refused e r =
-            refused_as Externs (λ d. externs_fault_if steps.externs c ≡ Some d) (IsStageFault steps lines o) (λ own fault. record { before = c; stages = after_resolution; fault = fault }) e r
+            refused_as Externs (λ d. externs_fault_if steps.externs c ≡ Some d) (IsStageFault steps lines o) (λ own fault. (given, record { before = c; stages = after_resolution; fault = fault })) e r
 
         module _ (externs_sound : externs_fault_if steps.externs c ≡ None) (d : Object) (externs : d ≡ with_externs_if steps.externs c) where
           after_externs : Stages (before_calls steps) lines o d
@@ -126,33 +179,44 @@ module _ (steps : Chosen) (lines : Source) (o : Object) where
             fds_written = b;
             resolved = c;
             unlinked = d;
+            given = given;
             types = types;
             maps_sound = maps_sound;
             maps = maps;
             resolution = resolution;
             externs_sound = externs_sound;
             externs = externs;
+            written = refl;
             calls = refl;
           }
 
-          pub linking_refused : (e : PrepareError) → RefusesPreparing (Wrapped Calls (LinkingFault steps.calls d)) e → RefusesPreparing (IsStageFault steps lines o) e
-          linking_refused e r =
-              refused_as Calls (LinkingFault steps.calls d) (IsStageFault steps lines o) (λ own fault. record { before = d; stages = after_externs; fault = fault }) e r
+          pub externs_refused : (e : PrepareError) → RefusesPreparing (Wrapped UnwrittenExtern (λ name. unwritten_fault steps.calls steps.complete d ≡ Some name)) e → RefusesPreparing (IsStageFault steps lines o) e
+          externs_refused e r =
+              refused_as UnwrittenExtern (λ name. unwritten_fault steps.calls steps.complete d ≡ Some name) (IsStageFault steps lines o)
+              (λ own fault. (given, record { before = d; stages = after_externs; fault = fault })) e r
 
-          pub after_calls : (after : Object) → LinksPrograms steps.calls d after → Stages steps lines o after
-          after_calls after calls = record {
-            relocated = a;
-            fds_written = b;
-            resolved = c;
-            unlinked = d;
-            types = types;
-            maps_sound = maps_sound;
-            maps = maps;
-            resolution = resolution;
-            externs_sound = externs_sound;
-            externs = externs;
-            calls = calls;
-          }
+          module _ (written : unwritten_fault steps.calls steps.complete d ≡ None) where
+            pub linking_refused : (e : PrepareError) → RefusesPreparing (Wrapped Calls (LinkingFault steps.calls d)) e → RefusesPreparing (IsStageFault steps lines o) e
+            linking_refused e r =
+                refused_as Calls (LinkingFault steps.calls d) (IsStageFault steps lines o)
+                (λ own fault. (given, record { before = d; stages = after_externs; fault = (written, fault) })) e r
+
+            pub after_calls : (after : Object) → LinksPrograms steps.calls d after → Stages steps lines o after
+            after_calls after calls = record {
+              relocated = a;
+              fds_written = b;
+              resolved = c;
+              unlinked = d;
+              given = given;
+              types = types;
+              maps_sound = maps_sound;
+              maps = maps;
+              resolution = resolution;
+              externs_sound = externs_sound;
+              externs = externs;
+              written = written;
+              calls = calls;
+            }
 
 -- ---- with parsing before the stages
 
@@ -164,6 +228,9 @@ first_of steps lines mode bytes sound (Ksyms e) f = (sound, f)
 first_of steps lines mode bytes sound (Externs e) f = (sound, f)
 first_of steps lines mode bytes sound (Calls e) f = (sound, f)
 first_of steps lines mode bytes sound OutOfMemory f = elim f [ ]
+first_of steps lines mode bytes sound (MissingDescriptor name) f = (sound, f)
+first_of steps lines mode bytes sound (UnknownMap name) f = (sound, f)
+first_of steps lines mode bytes sound (UnwrittenExtern name) f = (sound, f)
 
 -- of an object as the bytes of a file are parsed
 

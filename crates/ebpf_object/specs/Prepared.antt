@@ -1,7 +1,7 @@
 -- A file, prepared: its object after the chosen stages, one after the other, or the fault of the
 -- first that has one.
 use Rattle.std.specs.Prelude.{◌≡◌, ⊤, ℕ, Bool, true, false, List, [], Some, None, MatchBool, ◌||◌}
-use Rattle.std.specs.Prelude.{Result, Ok, Err}
+use Rattle.std.specs.Prelude.{Result, Ok, Err, Option}
 use Rattle.ebpf_core_relo.specs.Records.{without_texts_at}
 use Rattle.ebpf_core_relo.specs.Records as types_relocation
 use Rattle.ebpf_ksyms.specs.Addresses as resolving
@@ -12,13 +12,17 @@ use Rattle.ebpf_model.specs.Memory as relocating
 use Rattle.ebpf_object.specs.Objects.{object_as, parse_fault_as}
 use Rattle.ebpf_object.specs.Stages.{RelocatesTypes, TypesFault, fds_fault, Resolves}
 use Rattle.ebpf_object.specs.Stages.{ResolvingFault, with_externs_if, externs_fault_if}
-use Rattle.ebpf_object.specs.Stages.{LinksPrograms, LinkingFault, Chosen}
+use Rattle.ebpf_object.specs.Stages.{LinksPrograms, LinkingFault, Chosen, given_fault}
+use Rattle.ebpf_object.specs.Stages.{unwritten_fault}
 use Rattle.ebpf_object.specs.Stages as stage
 use Rattle.ebpf_object.specs.declared.object.Object.{Object}
 use Rattle.ebpf_object.specs.declared.prepare_error.PrepareError.{PrepareError}
 use Rattle.ebpf_object.specs.declared.prepare_error.PrepareError.TheVariants.{Parse, Types, Maps}
 use Rattle.ebpf_object.specs.declared.prepare_error.PrepareError.TheVariants.{Ksyms, Externs, Calls}
 use Rattle.ebpf_object.specs.declared.prepare_error.PrepareError.TheVariants.{OutOfMemory}
+use Rattle.ebpf_object.specs.declared.prepare_error.PrepareError.TheVariants.{MissingDescriptor}
+use Rattle.ebpf_object.specs.declared.prepare_error.PrepareError.TheVariants.{UnknownMap}
+use Rattle.ebpf_object.specs.declared.prepare_error.PrepareError.TheVariants.{UnwrittenExtern}
 use Rattle.ebpf_parts.specs.Memory as parsing
 use Rattle.ebpf_parts.specs.declared.parse_mode.ParseMode.{ParseMode}
 
@@ -26,17 +30,21 @@ use Rattle.ebpf_parts.specs.declared.parse_mode.ParseMode.{ParseMode}
 
 -- From an object to what the stages leave of it: relocated to types, then with descriptors, then
 -- with externs resolved, then as linking begins. All descriptors and all externs can be written.
+-- Where nothing may be missing, each slot's own map has a descriptor, each name is a map's, and
+-- each call of an extern is written when linking begins.
 pub record Stages (steps : Chosen) (lines : Source) (o after : Object) : Type 0 where
   pub relocated : Object
   pub fds_written : Object
   pub resolved : Object
   pub unlinked : Object
+  pub given : given_fault steps.descriptors steps.complete o ≡ None
   pub types : RelocatesTypes steps.target o relocated
   pub maps_sound : fds_fault steps.descriptors relocated ≡ None
   pub maps : fds_written ≡ stage.fds_written steps.descriptors relocated
   pub resolution : Resolves steps.kernel lines fds_written resolved
   pub externs_sound : externs_fault_if steps.externs resolved ≡ None
   pub externs : unlinked ≡ with_externs_if steps.externs resolved
+  pub written : unwritten_fault steps.calls steps.complete unlinked ≡ None
   pub calls : LinksPrograms steps.calls unlinked after
 
 -- ---- the fault of a stage
@@ -63,21 +71,39 @@ pub record IsFaultAfter (steps : Chosen) (lines : Source) (o : Object) (Fault : 
   pub fault : Fault before
 
 module _ (steps : Chosen) (lines : Source) where
-  -- the fault of a stage, in what the steps before it leave
-  abbrev pub IsStageFault : Object → PrepareError → Type 0
-  IsStageFault o (Types e) = TypesFault steps.target o e
-  IsStageFault o (Maps e) =
+  -- the fault of a pass, in what the steps before it leave; a call that is not written is refused
+  -- before programs are linked
+  abbrev pub IsPassFault : Object → PrepareError → Type 0
+  IsPassFault o (Types e) = TypesFault steps.target o e
+  IsPassFault o (Maps e) =
       IsFaultAfter (before_maps steps) lines o (λ before.
       fds_fault steps.descriptors before ≡ Some e)
-  IsStageFault o (Ksyms e) =
+  IsPassFault o (Ksyms e) =
       IsFaultAfter (before_resolution steps) lines o (λ before.
       ResolvingFault steps.kernel lines before e)
-  IsStageFault o (Externs e) =
+  IsPassFault o (Externs e) =
       IsFaultAfter (before_externs steps) lines o (λ before.
       externs_fault_if steps.externs before ≡ Some e)
-  IsStageFault o (Calls e) =
-      IsFaultAfter (before_calls steps) lines o (λ before. LinkingFault steps.calls before e)
-  IsStageFault o _ = ⊥
+  IsPassFault o (UnwrittenExtern name) =
+      IsFaultAfter (before_calls steps) lines o (λ before.
+      unwritten_fault steps.calls steps.complete before ≡ Some name)
+  IsPassFault o (Calls e) =
+      IsFaultAfter (before_calls steps) lines o (λ before.
+      (unwritten_fault steps.calls steps.complete before ≡ None)
+      × LinkingFault steps.calls before e)
+  IsPassFault o _ = ⊥
+
+  -- why descriptors are refused before anything is written
+  abbrev pub given_fault_of : Object → Option PrepareError
+  given_fault_of o = given_fault steps.descriptors steps.complete o
+
+  -- the fault of a stage: that of the descriptors, else that of a pass
+  abbrev pub IsStageFault : Object → PrepareError → Type 0
+  IsStageFault o (Parse e) = ⊥
+  IsStageFault o OutOfMemory = ⊥
+  IsStageFault o (MissingDescriptor map) = given_fault_of o ≡ Some (MissingDescriptor map)
+  IsStageFault o (UnknownMap name) = given_fault_of o ≡ Some (UnknownMap name)
+  IsStageFault o e = (given_fault_of o ≡ None) × IsPassFault o e
 
   -- the object of a file, prepared
   pub record IsPrepared (mode : ParseMode) (bytes : List ℕ) (o : Object) : Type 0 where
@@ -106,6 +132,7 @@ is_prepare_memory (Ksyms e) = resolving.is_ksyms_memory e
 is_prepare_memory (Externs e) = relocating.is_memory_at e
 is_prepare_memory (Calls e) = relocating.is_memory_at e
 is_prepare_memory OutOfMemory = true
+is_prepare_memory _ = false
 
 -- it names no section and no function
 abbrev pub NamesNothing : PrepareError → Type 0

@@ -10,6 +10,7 @@ pub mod extern_outcomes;
 pub mod extern_types;
 pub mod laws;
 mod link_map;
+mod missing;
 pub mod obj;
 mod object;
 mod own_maps;

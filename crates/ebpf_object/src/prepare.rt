@@ -11,6 +11,7 @@ ghost use Rattle.ebpf_parts.specs.declared.parse_mode.ParseMode.TheVariants.{Str
 
 use crate::clones::{copy_keys, copy_names};
 pub use crate::explained::Explained;
+pub use crate::missing::{check_externs, relocate_complete_maps};
 use crate::object::Object;
 pub use crate::own_maps::{numbered_descriptors, relocate_own_maps};
 pub use crate::prepare_error::PrepareError;
@@ -29,16 +30,20 @@ pub struct Steps<'a> {
     pub target_btf: Option<&'a Btf>,
     /// Names of maps with their descriptors, where these are to be written.
     ///
-    /// Give one for every map that a slot refers to, also for `.bss`, `.data` and `.rodata` with the variables. The maps
-    /// pass refuses a slot only where no map of its section has a descriptor: else the slot gets the descriptor of another
-    /// map of that section. A name that the object lacks is passed over, and of maps of one symbol or one section the
-    /// later one counts.
+    /// Give one for every map that a slot refers to, also for `.bss`, `.data` and `.rodata` with the variables. Where
+    /// `complete` is false, a slot whose own map has none gets the descriptor of another map of its section, and is refused
+    /// only where no map of the section has one; a name that the object lacks is passed over. Of maps of one symbol or
+    /// one section the later one counts.
     pub map_fds: Option<&'a [(&'a str, i32)]>,
     /// How externs are resolved, before they are written: `None` leaves them alone, `Some(None)` resolves them by the
     /// kernel's symbols alone, `Some(Some(kernel))` by its types too.
     pub externs: Option<Option<&'a Btf>>,
     /// Whether programs are linked with the functions that they reach.
     pub calls: bool,
+    /// Whether what is missing is refused. Where `map_fds` are chosen, each of their names has to be that of a map, and each
+    /// slot's own map has to have one (`Object::maps_without_descriptors`). Where `calls` are chosen, no call of an extern
+    /// may be unwritten when linking begins (`Object::unwritten_externs`).
+    pub complete: bool,
 }
 
 /// Runs the chosen passes over an object, which comes back.
@@ -169,10 +174,18 @@ pub fn prepare_in_place<K: SymbolSource>(
 ///
 /// # Errors
 ///
-/// The fault of the first of these that has one: `Parse` with that of `Object::parse`, `Types` with that of
-/// `Object::relocate_btf`, `Maps` with that of `Object::relocate_maps`, `Ksyms` with that of
-/// `Object::resolve_externs`, `Externs` with that of `Object::relocate_externs`, `Calls` with that of
-/// `Object::relocate_calls`. `OutOfMemory`, and the stages' own, only where memory was refused.
+/// The first of these faults, in this order.
+///
+/// - `Parse`: with that of `Object::parse`.
+/// - `UnknownMap`, where `Steps::complete`: a descriptor has a name that no map of the object has; the first such name.
+/// - `MissingDescriptor`, where `Steps::complete`: a slot's own map has no descriptor; the map of the first such slot.
+/// - `Types`: with that of `Object::relocate_btf`.
+/// - `Maps`: with that of `Object::relocate_maps`.
+/// - `Ksyms`: with that of `Object::resolve_externs`.
+/// - `Externs`: with that of `Object::relocate_externs`.
+/// - `UnwrittenExtern`, where `Steps::complete` and `Steps::calls`: a call of an extern is not written; the first one's.
+/// - `Calls`: with that of `Object::relocate_calls`.
+/// - `OutOfMemory`, and the stages' own: only where memory was refused.
 pub fn prepare<K: SymbolSource>(
     alloc: Global,
     bytes: &[u8],

@@ -3,6 +3,7 @@
 ghost use Rattle.std.specs.Prelude.{◌≡◌};
 ghost use Rattle.ebpf_object.specs.declared.prepare_error.PrepareError.TheVariants.{OutOfMemory};
 
+use ebpf_base::Text;
 use ebpf_core_relo::BtfRelocationError;
 use ebpf_ksyms::KsymsError;
 use ebpf_model::EbpfRelocationError;
@@ -34,6 +35,24 @@ pub enum PrepareError {
     /// No memory was found between the stages.
     #[error("out of memory")]
     OutOfMemory,
+    /// A slot refers to a map that no descriptor is given for.
+    #[error("maps: no descriptor is given for the map {map:?}")]
+    MissingDescriptor {
+        /// The map's name.
+        map: Text,
+    },
+    /// A descriptor is given for a map that the object lacks.
+    #[error("maps: the object has no map {name:?}, for which a descriptor is given")]
+    UnknownMap {
+        /// The name that is given.
+        name: Text,
+    },
+    /// A call of an extern is not written when programs are to be linked.
+    #[error("calls: no pass has written the call of the extern {name:?}")]
+    UnwrittenExtern {
+        /// The extern's name.
+        name: Text,
+    },
 }
 
 impl From<AllocError> for PrepareError {

@@ -7,6 +7,7 @@ ghost use Rattle.ebpf_object.specs.Prepared.{Stages, IsStageFault, RefusesPrepar
 ghost use Rattle.ebpf_object.specs.Stages.{RelocatesTypes, TypesFault, Resolves, ResolvingFault, with_externs_if, externs_fault_if, LinksPrograms, LinkingFault, fds_written, fds_fault, Wrapped, chosen, descriptors_of};
 ghost use Rattle.ebpf_object.specs.declared.prepare_error.PrepareError.TheVariants.{Types, Maps, Ksyms, Externs, Calls};
 
+use crate::missing::{check_descriptors, check_externs};
 use crate::object::Object;
 use crate::own_maps::relocate_own_maps;
 use crate::prepare::Steps;
@@ -118,7 +119,7 @@ fn link_programs(alloc: Global, object: &mut Object, calls: bool) -> Result<(), 
     }
 }
 
-/// The stages in order.
+/// The stages in order: first descriptors that have to be complete, at last programs.
 pub fn run_stages<K: SymbolSource>(
     alloc: Global,
     object: &mut Object,
@@ -130,9 +131,11 @@ pub fn run_stages<K: SymbolSource>(
     ensures fault { IfErr result
         (RefusesPreparing (IsStageFault (chosen steps.now) (K.source kallsyms) object.old)) }
 {
+    check_descriptors(object, steps.map_fds, steps.complete)?;
     relocate_types(object, steps.target_btf)?;
     write_map_fds(alloc, object, steps.map_fds)?;
     resolve(object, steps.externs, kallsyms)?;
     write_externs(object, steps.externs)?;
+    check_externs(object, steps.calls, steps.complete)?;
     link_programs(alloc, object, steps.calls)
 }

@@ -8,7 +8,7 @@ use crate::prepare::Steps;
 use ebpf_btf::Btf;
 
 impl<'a> Steps<'a> {
-    /// No pass: the object stays as it was parsed.
+    /// No pass: the object stays as it was parsed. Nothing that is missing is refused, until `refuse_missing`.
     pub fn none() -> Steps<'a>
         ensures { chosen result
             ≡ record {
@@ -17,6 +17,7 @@ impl<'a> Steps<'a> {
               kernel = None;
               externs = false;
               calls = false;
+              complete = false;
             } }
     {
         Steps {
@@ -24,14 +25,15 @@ impl<'a> Steps<'a> {
             map_fds: None,
             externs: None,
             calls: false,
+            complete: false,
         }
     }
 
     /// All passes, for a kernel whose types are known, with descriptors of the object's maps by their names.
     ///
-    /// Give a descriptor for every map that a slot refers to, also for `.bss`, `.data` and `.rodata` with the variables.
-    /// The maps pass refuses a slot only where no map of its section has one: else the slot gets the descriptor of another
-    /// map of that section. A name that the object lacks is passed over.
+    /// Give a descriptor for every map that a slot refers to, also for `.bss`, `.data` and `.rodata` with the variables. A
+    /// slot whose own map has none is refused with the map's name, before anything is written, and so is a name that the
+    /// object lacks. `allow_missing` takes incomplete descriptors.
     pub fn all(kernel: &'a Btf, descriptors: &'a [(&'a str, i32)]) -> Steps<'a>
         ensures { chosen result
             ≡ record {
@@ -40,6 +42,7 @@ impl<'a> Steps<'a> {
               kernel = Some (Some kernel.now);
               externs = true;
               calls = true;
+              complete = true;
             } }
     {
         Steps::all_with(Some(kernel), descriptors)
@@ -55,6 +58,7 @@ impl<'a> Steps<'a> {
               kernel = Some (option_copied kernel.entry);
               externs = true;
               calls = true;
+              complete = true;
             } }
     {
         Steps {
@@ -62,6 +66,7 @@ impl<'a> Steps<'a> {
             map_fds: Some(descriptors),
             externs: Some(kernel),
             calls: true,
+            complete: true,
         }
     }
 
@@ -114,5 +119,21 @@ impl<'a> Steps<'a> {
     {
         let calls = true;
         Steps { calls, ..self }
+    }
+    /// These steps, with nothing missing: `complete` is true.
+    pub fn refuse_missing(self) -> Steps<'a>
+        ensures { chosen result ≡ record (chosen self.entry) { complete = true } }
+    {
+        let complete = true;
+        Steps { complete, ..self }
+    }
+
+    /// These steps, with incomplete descriptors and unwritten externs taken: `complete` is false. A slot whose own map has
+    /// no descriptor then gets that of another map of its section, where one has one.
+    pub fn allow_missing(self) -> Steps<'a>
+        ensures { chosen result ≡ record (chosen self.entry) { complete = false } }
+    {
+        let complete = false;
+        Steps { complete, ..self }
     }
 }

@@ -5,3 +5,4 @@ pub mod SoFar
 pub mod OneResult
 pub mod Runs
 pub mod MapChains
+pub mod NamedSlots

@@ -140,7 +140,7 @@ fn declared_extern_edit(
 }
 
 /// A symbol's name, empty where it has none.
-fn name_of(symbol: &Symbol) -> &str
+pub fn name_of(symbol: &Symbol) -> &str
     ensures { result.now ≡ unwrap_or symbol.now.name [] }
 {
     match &symbol.name {

@@ -32,6 +32,7 @@ fn steps<'a>(kernel: Kernel<'a>, word: &str, given: &'a [(&'a str, i32)]) -> Ste
         map_fds: chosen(Some(given), word.contains('m')),
         externs: chosen(Some(kernel.types), word.contains('e')),
         calls: word.contains('c'),
+        complete: word.contains('r'),
     }
 }
 

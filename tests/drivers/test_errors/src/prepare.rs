@@ -13,7 +13,10 @@ impl Sample for PrepareError {
     const TYPE: &'static str = "prepare::PrepareError";
 
     fn variant(&self) -> &'static str {
-        variant_name!(self, PrepareError: Parse Types Maps Ksyms Externs Calls OutOfMemory)
+        variant_name!(
+            self,
+            PrepareError: Parse Types Maps Ksyms Externs Calls OutOfMemory MissingDescriptor UnknownMap UnwrittenExtern
+        )
     }
 }
 
@@ -55,4 +58,10 @@ pub fn show_all(lines: &mut Lines) {
     let error = in_p(lines, RelocationError::UnsupportedTextSymbol { index: 12 });
     lines.show(PrepareError::Calls(error));
     lines.show(PrepareError::OutOfMemory);
+    let map = lines.text("counts");
+    lines.show(PrepareError::MissingDescriptor { map });
+    let name = lines.text("count");
+    lines.show(PrepareError::UnknownMap { name });
+    let name = lines.text("bpf_task_acquire");
+    lines.show(PrepareError::UnwrittenExtern { name });
 }

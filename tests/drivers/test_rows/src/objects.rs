@@ -1,6 +1,6 @@
 //! Actions on an object.
 
-use crate::passes::{externs_written, fds_written, linked, sanitized, types_relocated};
+use crate::passes::{externs_written, fds_written, linked, missing, sanitized, types_relocated};
 use crate::patched::patched;
 use crate::resolved::resolved;
 use crate::tables::put_table;
@@ -51,6 +51,7 @@ impl<'a> Asker<Object> for OnObject<'a> {
             "linked" => linked(alloc, object, action),
             "types_relocated" => types_relocated(alloc, files, object, action),
             "fds_written" => fds_written(alloc, object, action),
+            "missing" => missing(alloc, object, action),
             "externs_written" => externs_written(alloc, object, action),
             "resolved" | "resolved_text" => resolved(alloc, files, object, action),
             "patched" => patched(alloc, files, object, action),

@@ -3,7 +3,9 @@
 use crate::prepared::descriptors;
 use crate::tables::put_table;
 use ebpf_btf::{Btf, Endianness};
+use ebpf_base::Items;
 use ebpf_object::Object;
+use ebpf_object::relocation::NamedSlot;
 use std::alloc::{AllocError, Global};
 use std::fmt::Debug;
 use test_bare_calls::{
@@ -90,6 +92,38 @@ pub fn fds_written(
 ) -> Result<String, AllocError> {
     let given = descriptors(alloc, action.words.as_slice())?;
     descriptors_written(alloc, object, &given)
+}
+
+/// Adds slots with names, a line each behind a word.
+fn put_named(
+    text: &mut String,
+    word: &str,
+    slots: &Items<NamedSlot>,
+) -> Result<(), AllocError> {
+    for named in slots.iter() {
+        let (section, address) = named.key;
+        let (slot, name) = (named.slot, named.name.as_str());
+        writeln!(text, "{word} {name} at {section} {address} slot {slot}")?;
+    }
+    Ok(())
+}
+
+/// What an object lacks for its programs: maps without a descriptor among those that words give, names that no map has,
+/// and externs that no pass has written.
+pub fn missing(
+    alloc: Global,
+    object: &Object,
+    action: &Action<'_>,
+) -> Result<String, AllocError> {
+    let given = descriptors(alloc, action.words.as_slice())?;
+    let mut text = String::new(alloc);
+    put_named(&mut text, "map", &object.maps_without_descriptors(&given)?)?;
+    let unknown = object.unknown_maps(&given)?;
+    for name in unknown.iter() {
+        writeln!(text, "unknown {name}")?;
+    }
+    put_named(&mut text, "extern", &object.unwritten_externs()?)?;
+    Ok(text)
 }
 
 /// What writing the externs of an object answers, and the slots then.

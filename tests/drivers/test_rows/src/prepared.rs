@@ -37,7 +37,7 @@ fn has(words: &[&str], asked: &str) -> bool {
 }
 
 /// What words choose: `types`, `maps` with the descriptors, `externs` without a kernel's types or `externs_written` with
-/// them, and `calls`.
+/// them, `calls`, and with `complete` that nothing may be missing.
 fn steps<'a>(words: &[&str], types: &'a Btf, given: &'a [(&'a str, i32)]) -> Steps<'a> {
     let externs = if has(words, "externs_written") {
         Some(Some(types))
@@ -51,6 +51,7 @@ fn steps<'a>(words: &[&str], types: &'a Btf, given: &'a [(&'a str, i32)]) -> Ste
         map_fds: has(words, "maps").then_some(given),
         externs,
         calls: has(words, "calls"),
+        complete: has(words, "complete"),
     }
 }
 
@@ -135,6 +136,7 @@ pub fn linked_in_one_call(alloc: Global, bytes: &[u8]) -> Result<String, AllocEr
         map_fds: None,
         externs: None,
         calls: true,
+        complete: false,
     };
     let none: &[u8] = &[];
     let wanted = Wanted::Nothing;

@@ -14,6 +14,7 @@ const STEPS: Steps<'static> = Steps {
     map_fds: None,
     externs: Some(None),
     calls: true,
+    complete: false,
 };
 
 /// The externs of an object.
