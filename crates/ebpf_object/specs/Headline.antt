@@ -6,11 +6,17 @@
 -- every slot that one type relocation alone writes carries its kind's value for the same named path
 -- in the target (`Carries`, whose outcome is a `SamePathValue`).
 --
--- The program's own function stands once more where a reference names it. Visits hold where each
--- reference of the program and of the functions that it reaches stands on a pseudo call or on a
--- wide load, as long as the separate run hasn't left its function, and neither machine enters a
--- function that a helper calls back. A value that doesn't exist is a poisoned slot. No public field
--- is written by hand between the calls.
+-- The linked program also computes what its functions compute. Take any semantics of instructions:
+-- a state of any kind, its change by each instruction, and the outcome of each branch in a state. A
+-- reference means the function that it names. Then after every number of steps the linked program
+-- and the separate functions are in the same state, at corresponding slots (`IsLinked.behaviour`,
+-- and for states of any type the law `linked_behave_alike` of ebpf_reloc).
+--
+-- The program's own function stands once more where a reference names it. Visits and states agree
+-- where each reference of the program and of the functions that it reaches stands on a pseudo call
+-- or on a wide load, as long as the separate run hasn't left its function, and neither machine
+-- enters a function that a helper calls back. A value that doesn't exist is a poisoned slot. No
+-- public field is written by hand between the calls.
 use Rattle.std.specs.Prelude.{◌≡◌, ◌⊎◌, ℕ, ◌+◌, List, ◌∷◌, Option, Some, None, option_map, Ok}
 use Rattle.std.specs.Prelude.{if◌then◌else◌, slice_get, MatchBool}
 use Rattle.std.specs.FinMap.{get}
@@ -56,7 +62,7 @@ key_of_program program = (program.section_index, program.address)
 
 -- Each program has become its linked function: its own function followed by every function that its
 -- references reach, each once, in the order of their key paths; where each reference stands on a
--- pseudo call or a wide load, it visits the slots of the separate functions.
+-- pseudo call or a wide load, it visits the slots of the separate functions and is in their state.
 abbrev pub ProgramsAreWhole : LinkableValue → Object → Type 0
 ProgramsAreWhole parts o =
     (name : List ℕ) (program : Program) → get o.programs name ≡ Some program

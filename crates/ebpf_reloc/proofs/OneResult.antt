@@ -8,9 +8,11 @@ use Rattle.std.specs.Cmp.{eq_by_cmp_equiv}
 use Rattle.std.proofs.lemmas.Bool.{cases_lt}
 use Rattle.ebpf_base.proofs.Maps.{key_exact}
 use Rattle.ebpf_base.specs.Maps.{key_cmp, key_total}
+use Rattle.ebpf_linker.proofs.Behaves.{same_behaviour}
 use Rattle.ebpf_linker.proofs.OneResult.{one_layout, one_program, one_fault, not_linked, plain_stays, one_link_map, same_size, lands}
 use Rattle.ebpf_linker.proofs.Visits.{same_visits}
 use Rattle.ebpf_linker.proofs.Whole.{can_be_linked}
+use Rattle.ebpf_linker.specs.Behaviour.{SameBehaviour}
 use Rattle.ebpf_linker.specs.Faults.{LeastFault, checked_references}
 use Rattle.ebpf_linker.specs.LinkMap.{CopyOf, Lands, copied_slot_count}
 use Rattle.ebpf_linker.specs.Result.{IsLayout}
@@ -21,7 +23,7 @@ use Rattle.ebpf_model.specs.declared.error.RelocationError.TheVariants.{UnknownP
 use Rattle.ebpf_model.specs.declared.function.Function.{Function}
 use Rattle.ebpf_parts.specs.declared.insn.bpf_insn.{bpf_insn}
 use Rattle.ebpf_reloc.proofs.CallsRefer.{calls_refer}
-use Rattle.ebpf_reloc.specs.Laws.{OneResult, OneProgram, OwnSlotsStay, CopiedSlotsStay, copy_of, OneLinkMap, OneLinkMapAnswer, RefusedAsLinking, LinkMapsMatch, WithLinkMapAreLinked, FirstWithoutLinkMap, AllWithLinkMaps}
+use Rattle.ebpf_reloc.specs.Laws.{OneResult, OneProgram, OwnSlotsStay, CopiedSlotsStay, copy_of, OneLinkMap, OneLinkMapAnswer, RefusedAsLinking, LinkMapsMatch, WithLinkMapAreLinked, FirstWithoutLinkMap, AllWithLinkMaps, LinkedBehaveAlike}
 use Rattle.ebpf_reloc.specs.Linking.{ProgramValue, key_of, with_linked, IsLinked, IsProgramFault, IsProgramRefusal, AreLinked, IsFirstRefusal, code_copy, IsLinkMapAt}
 use Rattle.ebpf_reloc.specs.References.{functions_of}
 use Rattle.ebpf_reloc.specs.SlotTargets.{LinkableValue}
@@ -67,6 +69,12 @@ not_faulty parts key f order e stands layout h =
 
 pub not_refused : (parts : LinkableValue) (key : FunctionKey) (f : Function) (e : RelocationError) → IsLinked parts key f → IsProgramFault parts key e → ⊥
 not_refused parts key f e a h = not_faulty parts key a.function a.order e a.stands a.program.layout h
+
+-- under every semantics a linked program is in the state of the separate functions
+pub linked_behave_alike : {S : Type 0} → LinkedBehaveAlike S
+linked_behave_alike {S = S} parts key linked is on =
+    let slots : is.made.slots ≡ linked.instructions = sym (ap (λ (f : Function). f.instructions) is.is) in
+    subst (SameBehaviour S (functions_of parts) key is.order) slots (same_behaviour (functions_of parts) key is.order is.made.slots is.program.linked (calls_refer parts) on)
 
 -- ---- all programs
 
@@ -199,6 +207,7 @@ mapped_are_linked parts key m a =
         order = a.order;
         program = program;
         visits = λ on. same_visits (functions_of parts) key a.order made.slots program.linked (calls_refer parts) on;
+        behaviour = λ on. same_behaviour (functions_of parts) key a.order made.slots program.linked (calls_refer parts) on;
       },
     )
 

@@ -11,6 +11,7 @@ use Rattle.std.proofs.lemmas.Bool.{cases_lt}
 use Rattle.ebpf_base.proofs.Maps.{key_exact, is_equal}
 use Rattle.ebpf_base.proofs.Lists.{rest_more, rest_none}
 use Rattle.ebpf_base.specs.Maps.{key_cmp, key_total}
+use Rattle.ebpf_linker.proofs.Behaves.{same_behaviour}
 use Rattle.ebpf_linker.proofs.Visits.{same_visits}
 use Rattle.ebpf_linker.specs.Faults.{LeastFault, checked_references}
 use Rattle.ebpf_linker.specs.Result.{IsProgram}
@@ -52,6 +53,7 @@ module _ (parts : LinkableValue) where
     order = order;
     program = h;
     visits = λ on. same_visits (functions_of parts) (key_in keys number) order l.slots h.linked (calls_refer parts) on;
+    behaviour = λ on. same_behaviour (functions_of parts) (key_in keys number) order l.slots h.linked (calls_refer parts) on;
   }
 
   fault_where : (key : FunctionKey) (e : RelocationError) (o : Option Function) → (o ≡ None → ⊥) → LeastFault (functions_of parts) (checked_references (functions_of parts) key) key e

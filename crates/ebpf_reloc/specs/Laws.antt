@@ -3,8 +3,10 @@ use Rattle.std.specs.Prelude.{◌≡◌, ◌+◌, ℕ, List, ◌∷◌, Some, Re
 use Rattle.std.specs.Prelude.{map, length}
 use Rattle.std.specs.FinMap.{FinMap}
 use Rattle.ebpf_base.specs.Maps.{key_cmp}
+use Rattle.ebpf_linker.specs.Behaviour.{SameBehaviour}
 use Rattle.ebpf_linker.specs.Functions.{Nothing, BeginsAt, body, Among}
 use Rattle.ebpf_linker.specs.LinkMap.{CopyOf, Lands, copied_slot_count}
+use Rattle.ebpf_linker.specs.Machine.{OnCallsOrLoads}
 use Rattle.ebpf_linker.specs.declared.link_map.PlacedReference.{PlacedReference}
 use Rattle.ebpf_model.specs.Symbols.{FunctionKey}
 use Rattle.ebpf_model.specs.declared.error.EbpfRelocationError.{EbpfRelocationError}
@@ -61,6 +63,14 @@ CopiedSlotsStay =
     → (copied : FunctionKey) (base i : ℕ) (slot : bpf_insn)
     → BeginsAt (functions_of parts) (key ∷ is.order) copied base
     → RefersToNothing parts copied i slot → slice_get linked.instructions (base + i) ≡ Some slot
+
+-- Under every semantics over these states, from every start and after every number of steps, a
+-- linked program is in the state of the separate functions, at the corresponding slot.
+abbrev pub LinkedBehaveAlike : (S : Type 0) → Type 0
+LinkedBehaveAlike S =
+    (parts : LinkableValue) (key : FunctionKey) (linked : Function) (is : IsLinked parts key linked)
+    → OnCallsOrLoads (functions_of parts) (key ∷ is.order)
+    → SameBehaviour S (functions_of parts) key is.order linked.instructions
 
 -- ---- what follows of a linked program from what it is made of
 

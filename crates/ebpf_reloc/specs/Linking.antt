@@ -4,6 +4,7 @@ use Rattle.std.specs.FinMap.{FinMap, get, contains_key}
 use Rattle.std.specs.List.{list_any}
 use Rattle.std.specs.Ordering.{eq_by_cmp}
 use Rattle.ebpf_base.specs.Maps.{key_cmp}
+use Rattle.ebpf_linker.specs.Behaviour.{SameBehaviour, History}
 use Rattle.ebpf_linker.specs.Faults.{LeastFault, checked_references}
 use Rattle.ebpf_linker.specs.LinkMap.{CopyOf, IsLinkMap}
 use Rattle.ebpf_linker.specs.Machine.{SameVisits, OnCallsOrLoads}
@@ -60,9 +61,12 @@ with_linked f l = record f {
       { num_info = unwrap_or l.line_count f.line_info.num_info; line_info = l.line_info };
 }
 
--- The function at a key has become a linked program: it has the slots and the records of the
--- function and of each function that it reaches, in the order of their key paths, and visits what
--- the separate functions visit.
+-- The function at a key has become a linked program. It has the slots and the records of the
+-- function and of each function that it reaches, in the order of their key paths.
+--
+-- Where each reference is on a pseudo call or a wide load, it visits the slots of the separate
+-- functions, and it is in their state after every number of steps. `behaviour` is of states that
+-- are histories, the law `LinkedBehaveAlike` of states of any type.
 pub record IsLinked (parts : LinkableValue) (key : FunctionKey) (linked : Function) : Type 0 where
   pub function : Function
   pub stands : get parts.functions key ≡ Some function
@@ -72,6 +76,8 @@ pub record IsLinked (parts : LinkableValue) (key : FunctionKey) (linked : Functi
   pub program : IsProgram (functions_of parts) key order made
   pub visits : OnCallsOrLoads (functions_of parts) (key ∷ order)
       → SameVisits (functions_of parts) key order made.slots
+  pub behaviour : OnCallsOrLoads (functions_of parts) (key ∷ order)
+      → SameBehaviour (History FunctionKey) (functions_of parts) key order made.slots
 
 -- why the program at a key can't be linked: no function stands there, or the least fault of its
 -- references

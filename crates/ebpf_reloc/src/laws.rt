@@ -1,6 +1,6 @@
 //! What follows of linked programs.
 
-ghost use Rattle.ebpf_reloc.specs.Laws.{OneResult, OneProgram, OwnSlotsStay, CopiedSlotsStay, OneLinkMap, OneLinkMapAnswer, RefusedAsLinking, LinkMapsMatch, WithLinkMapAreLinked, FirstWithoutLinkMap, AllWithLinkMaps};
+ghost use Rattle.ebpf_reloc.specs.Laws.{OneResult, OneProgram, OwnSlotsStay, CopiedSlotsStay, OneLinkMap, OneLinkMapAnswer, RefusedAsLinking, LinkMapsMatch, WithLinkMapAreLinked, FirstWithoutLinkMap, AllWithLinkMaps, LinkedBehaveAlike};
 
 /// What `relocate_calls` promises leaves one result, want of memory aside: the functions, the order of the copies
 /// in each, and the error. It follows from the functions, symbols, relocations, sections and programs as values,
@@ -15,6 +15,15 @@ pub fn one_result()
 pub fn plain_slots_stay()
     ensures own { OwnSlotsStay }
     ensures copied { CopiedSlotsStay }
+{}
+
+/// Under every semantics of instructions over states of any type `S`, from every start and after every number of steps,
+/// a linked program is in the state of the separate functions, at the corresponding slot.
+///
+/// Each reference is on a pseudo call or a wide load. Nothing is said of a separate run that has left its function.
+#[tactic(auto, using(crate::proofs::OneResult::linked_behave_alike))]
+pub fn linked_behave_alike<S>()
+    ensures { LinkedBehaveAlike S }
 {}
 
 /// What `NumberedFunctions::program_link_map` promises leaves one link map of a program, with its copies in one order, and one answer, want of
