@@ -1,5 +1,6 @@
 -- The map `.kconfig`, the offsets of the externs in its value, and the symbols that are defined in
--- it (libbpf 1.5, libbpf.c: cmp_externs, bpf_object__collect_externs, bpf_object__init_kconfig_map).
+-- it (libbpf 1.5, libbpf.c: cmp_externs, bpf_object__collect_externs,
+-- bpf_object__init_kconfig_map).
 use Rattle.std.specs.Prelude.{ℕ, ◌+◌, ◌-◌, ◌*◌, ◌/◌, ◌^◌, nat_lt, ◌==◌, List, [], ◌∷◌, ◌++◌, length}
 use Rattle.std.specs.Prelude.{fold, replicate, Option, Some, None, unwrap_or, if◌then◌else◌, true}
 use Rattle.std.specs.Prelude.{◌≡◌, option_map, map}

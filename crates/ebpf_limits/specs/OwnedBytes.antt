@@ -5,10 +5,10 @@
 -- that the object of a file owns at most the bytes that are counted on the file.
 --
 -- A worked example: a function `f` of 2 slots with one func info entry and two line info entries.
--- `function_row` counts 64 for the entry, 1 for the name, 2 * 8 for the slots, and
--- `record_bytes 1 2` = 1 * 8 + 2 * 16 = 40 for the info entries: 121 bytes. On the file
--- `function_bytes` counts the same 121 for the symbol `f`: `named_bytes` = 64 + 1, `code_bytes` = 16, `record_bytes 1 2` = 40. The
--- symbol also counts 2 * 65 in `symbol_bytes`, 65 for its entry among the symbols and 65 for an
+-- `function_row` counts 64 for the entry, 1 for the name, 2 * 8 for the slots, and `record_bytes 1
+-- 2` = 1 * 8 + 2 * 16 = 40 for the info entries: 121 bytes. On the file `function_bytes` counts the
+-- same 121 for the symbol `f`: `named_bytes` = 64 + 1, `code_bytes` = 16, `record_bytes 1 2` = 40.
+-- The symbol also counts 2 * 65 in `symbol_bytes`, 65 for its entry among the symbols and 65 for an
 -- extern that it may name. So the count of the file is greater where it names none.
 use Rattle.std.specs.Prelude.{ℕ, List, [], Option, Some, None, is_some, if◌then◌else◌, ◌+◌, ◌∷◌}
 use Rattle.std.specs.Prelude.{◌*◌, length, ◌-◌, ◌%◌, ◌^◌, Bool, true, false, map, filter, codes}
