@@ -40,7 +40,17 @@ pub record WritesFinished (steps : Chosen) (lines : Source) (parsed : Object)
   pub stages : Stages steps lines parsed object
   pub text : Appends before now (shown_programs object names)
 
--- the file, read broadly, is linked, and the writer has got the lines of these of its programs
+-- The file, in lenient parsing, is linked, and the writer has got the lines of these of its
+-- programs, behind the bytes that it had before.
+--
+-- A worked example: `names` is the one name `p`, and the linked function of `p` has the two slots
+-- `r0 = 0` and `exit`. `text` says that the writer has these three lines more than before:
+--
+--   program p slots 2
+--   b7 00 00 00 00 00 00 00
+--   95 00 00 00 00 00 00 00
+--
+-- `headline` says that `object` is the object of the file after the default passes.
 pub record HasWritten (file : List ℕ) (types : Option TypeInfo) (lines : Source)
     (names : List (List ℕ)) (before now : Option (List ℕ))
     : Type 0 where

@@ -1,5 +1,18 @@
--- The types of an object as the kernel takes them: the words that are written among their bytes,
--- and the types that come of it.
+-- The types of an object in the form that the kernel takes: the file's `.BTF` with some words
+-- written over it, some types appended, and the list of types that these bytes encode.
+--
+-- A worked example, in little endian. `.BTF` has three types behind void:
+--
+--   id 1, bytes  0 to 15: INT `int` of 4 bytes
+--   id 2, bytes 16 to 31: VAR `x` of type 1, global
+--   id 3, bytes 32 to 55: DATASEC `.data`, size 0, one entry: type 2, offset 0, size 4
+--
+-- The file's section `.data` has 8 bytes, and the symbol `x` the address 4. `data_words` gives four
+-- words, each as (offset, value): (40, 8) is the size of the DATASEC; (44, 2), (48, 4) and (52, 4)
+-- are the type, the offset and the size of its entry. `words_over` writes each as 4 bytes: bytes 48
+-- to 51 become 04 00 00 00. `kernel_type_info` says the same of the types: types 1 and 2 stay, and
+-- type 3 becomes DATASEC `.data`, size 8, one entry: type 2, offset 4, size 4. Nothing is appended,
+-- since no DATASEC `.ksyms` has entries.
 use Rattle.std.specs.Prelude.{ℕ, ◌+◌, nat_lt, List, [], ◌∷◌, ◌++◌, length, codes, Option, None}
 use Rattle.std.specs.Prelude.{Result, Ok, Err, if◌then◌else◌, nat_le, take, drop, fold, Bool, true}
 use Rattle.std.specs.Prelude.{false, ◌||◌, Some, option_map, zero, suc, ◌*◌, not, ◌&&◌, ◌==◌, map}
@@ -37,8 +50,7 @@ use Rattle.ebpf_btf_load.specs.declared.error.KernelTypesError.TheVariants.{BtfE
 use Rattle.ebpf_btf_load.specs.declared.words.WrittenWord.{WrittenWord}
 use Rattle.ebpf_btf_load.specs.declared.data_sections.PlacedRow.{PlacedRow}
 
--- ---- the types of an object as the kernel takes them, and the words that are written among their
--- bytes.
+-- ---- the words that are written over the bytes of the types
 
 -- the words of a DATASEC, by its name
 abbrev pub few_rows_words : TypeSources
@@ -64,19 +76,19 @@ section_type_words g s id (DataSec name size rows) =
     if nat_lt 65535 (length rows) then Err TooLarge else few_rows_words g s id name size rows
 section_type_words g s id _ = Ok []
 
--- those of types by their ids from one on
+-- the words of types, whose ids begin at one
 abbrev pub types_words : TypeSources → Standins → ℕ → List BtfType → List WrittenWord
 types_words g s id [] = []
 types_words g s id (t ∷ ts) =
     list_or_none (section_type_words g s id t) ++ types_words g s (id + 1) ts
 
--- the first fault
+-- the first fault of the words of types
 abbrev pub type_words_fault : TypeSources → Standins → ℕ → List BtfType → Option KernelTypesError
 type_words_fault g s id [] = None
 type_words_fault g s id (t ∷ ts) =
     or_else (fault_of (section_type_words g s id t)) (type_words_fault g s (id + 1) ts)
 
--- those of DATASECs, then those of hidden functions; later words stand
+-- the words of DATASECs, then the words of hidden functions; later words replace earlier ones
 abbrev pub all_words : TypeSources → Standins → Result (List WrittenWord) KernelTypesError
 all_words g s =
     if_no_fault (type_words_fault g s 0 g.types.types)
@@ -84,7 +96,8 @@ all_words g s =
 
 -- ---- words that are written over others
 
--- bytes with others over them from an offset on; they stay where these pass their end
+-- bytes with others written over them from an offset on; the bytes stay where the others would
+-- pass their end. Example: 7, 8 over 1, 2, 3, 4 at offset 1 gives 1, 7, 8, 4.
 abbrev pub bytes_over : List ℕ → ℕ → List ℕ → List ℕ
 bytes_over old offset bytes =
     if nat_le (offset + length bytes) (length old)
@@ -94,20 +107,17 @@ bytes_over old offset bytes =
 abbrev pub word_over : Endianness → List ℕ → WrittenWord → List ℕ
 word_over order old w = bytes_over old w.offset (word_bytes order w.value)
 
--- later words stand
+-- words written over bytes; later words replace earlier ones
 abbrev pub words_over : Endianness → List ℕ → List WrittenWord → List ℕ
 words_over order old words = fold (word_over order) old words
 
--- ---- the one answer that no definition states: want of memory
+-- ---- the one answer that no definition states: an allocation failure
 
 abbrev pub is_kernel_types_memory : KernelTypesError → Bool
 is_kernel_types_memory OutOfMemory = true
 is_kernel_types_memory _ = false
 
--- The types of an object as the kernel takes them: `.BTF` of its file, but for the words that are
--- written, and what is appended.
-
--- ---- bytes
+-- ---- the bytes of the types
 
 -- the bytes of the types; none where the header is wrong
 abbrev pub part_of : Endianness → List ℕ → List ℕ
@@ -123,7 +133,7 @@ btf_part order types strings =
     then Err TooLarge
     else Ok (header_bytes order (length types) (length strings) ++ types ++ strings)
 
--- the bytes of the types with words written, and of what is appended
+-- the bytes of the types with words written, and of the appended types
 abbrev pub all_types : TypeSources → Standins → List WrittenWord → List ℕ
 all_types g s words =
     words_over g.order g.part words ++ standin_bytes g.order (length g.types.strings) s
@@ -177,17 +187,17 @@ no_file_fault file = option_map ElfError (first_in (faults file))
 unfoldable pub btf_section : List ℕ → Option SectionOf
 btf_section file = find (λ s. is_name (codes ".BTF") (section_name s)) (sections file)
 
--- of the bytes of a file; none where it has no `.BTF`
+-- the bytes of the types for the kernel, from the bytes of a file; None where it has no `.BTF`
 unfoldable pub kernel_types_of : List ℕ → Result (Option (List ℕ)) KernelTypesError
 kernel_types_of file = if_no_fault (no_file_fault file) (types_of_found file (btf_section file))
 
--- ---- the types that the kernel is handed: those of the file, with what becomes of some of them,
--- and then the types that stand in. Each keeps its id. FUNCs stay as they are: their linkage stands
--- in their bytes and is no part of a type.
+-- ---- the list of types for the kernel: the types of the file, some of them changed, and then the
+-- appended types. Each keeps its id. FUNCs stay as they are: their linkage is in their bytes and is
+-- no part of a type.
 
 -- ---- changes of types
 
--- what becomes of a type of one kind
+-- a change of a type of one kind
 pub data Change : Type 0 where
   -- of a DATASEC: its size and its entries
   Entries : ℕ → List DataSecEntry → Change
@@ -202,7 +212,7 @@ abbrev pub named_param : ℕ → BtfParam → BtfParam
 named_param name p =
     if not (p.btf_type == 0) && p.name_offset == 0 then record p { name_offset = name } else p
 
--- a type with a change; of another kind it stays
+-- a type with a change; a type of another kind stays
 unfoldable pub changed : BtfType → Change → BtfType
 changed (DataSec name _ _) (Entries size entries) = DataSec name size entries
 changed (Var name type _) (Linkage linkage) = Var name type linkage
@@ -232,18 +242,19 @@ changed_at (suc id) becomes (t ∷ ts) = t ∷ changed_at id becomes ts
 abbrev pub with_change : List BtfType → TypeChange → List BtfType
 with_change types c = changed_at c.id (λ t. changed t c.change) types
 
--- with changes, one after the other
+-- types with changes, one after the other
 abbrev pub with_changes : List BtfType → List TypeChange → List BtfType
 with_changes types changes = fold with_change types changes
 
--- what becomes of the type with an id
+-- the type with an id, after all changes of that id
 abbrev pub changed_by : List TypeChange → ℕ → BtfType → BtfType
 changed_by changes id t = fold (λ now c. if c.id == id then changed now c.change else now) t changes
 
--- ---- `.ksyms`: an entry takes 4 bytes, one behind the other, and FUNCs are replaced by the
--- variable that stands in
+-- ---- `.ksyms`: an entry takes 4 bytes, one behind the other, and the placeholder variable
+-- replaces FUNCs
 
--- what an entry names: a FUNC's parameters get names, a VAR the type of 4 bytes and global linkage
+-- the changes by an entry: the parameters of a FUNC get names, a VAR the type of 4 bytes and global
+-- linkage
 abbrev pub extern_changes : Standins → ℕ → Option BtfType → List TypeChange
 extern_changes s id (Some (Func name proto)) =
     record { id = proto; change = ParamNames s.name_offset } ∷ []
@@ -278,7 +289,7 @@ kconfig_changes types id rows =
 -- ---- own variables: the section's size, the symbols' addresses, and hidden variables become
 -- static
 
--- a size that was found (where there is none, no types are handed)
+-- a size that was found (without one, no types are returned)
 abbrev pub found_size : Result ℕ KernelTypesError → ℕ
 found_size (Ok size) = size
 found_size (Err e) = 0
@@ -300,7 +311,7 @@ data_changes g id name size rows =
 
 -- ---- all types
 
--- what becomes of types by a DATASEC among them, by its name
+-- the changes of types by a DATASEC among them, by its name
 unfoldable pub section_changes : TypeSources → Standins → ℕ → BtfType → List TypeChange
 section_changes g s id (DataSec name size rows) =
     if is_text (codes ".ksyms") (text_at g.types.strings name) then ksyms_changes g.types s id rows
@@ -309,7 +320,7 @@ section_changes g s id (DataSec name size rows) =
     else data_changes g id name size rows
 section_changes g s id _ = []
 
--- by those of types with ids from one on
+-- the changes by all DATASECs among types, whose ids begin at one
 abbrev pub types_changes : TypeSources → Standins → ℕ → List BtfType → List TypeChange
 types_changes g s id [] = []
 types_changes g s id (t ∷ ts) = section_changes g s id t ++ types_changes g s (id + 1) ts
@@ -333,23 +344,23 @@ standins_of g = standins_with g.types (first_int g.types)
 unfoldable pub changes_of : TypeSources → List TypeChange
 changes_of g = types_changes g (standins_of g) 0 g.types.types
 
--- the types that the kernel is handed, and their strings
+-- the types for the kernel, and their strings
 unfoldable pub kernel_type_info : TypeSources → TypeInfo
 kernel_type_info g = type_info_with g (standins_of g)
 
--- ---- what holds of the bytes that the kernel is handed
+-- ---- theorems about the bytes for the kernel
 
 -- the bytes of the first section `.BTF`
 abbrev pub btf_bytes : List ℕ → List ℕ
 btf_bytes file = option_map_or data_of (btf_section file) []
 
--- what the types of a file are found from
+-- the inputs of a file's types
 abbrev pub sources_in : List ℕ → TypeInfo → TypeSources
 sources_in file types = sources_of file (btf_bytes file) types
 
--- The bytes that the kernel is handed are read as the types that are stated: `.BTF` of the file
--- gives types, and these bytes give the file's types with what becomes of them, and its strings
--- with the names that are appended.
+-- The bytes for the kernel are read as the stated types: `.BTF` of the file gives types, and these
+-- bytes give the file's types with their changes, and its strings with the names of the appended
+-- types.
 abbrev pub KernelTypesAreRead : Type 0
 KernelTypesAreRead =
     (file handed : List ℕ) → All (λ b. b < 256) file → kernel_types_of file ≡ Ok (Some handed)
@@ -357,8 +368,7 @@ KernelTypesAreRead =
     × (type_info_of (ei_data file) (btf_bytes file) ≡ Ok types)
     × (type_info_of (ei_data file) handed ≡ Ok (kernel_type_info (sources_in file types)))
 
--- In these bytes each FUNC of the file has the linkage that is stated, or else the one that it has
--- in the file.
+-- In these bytes each FUNC of the file has the stated linkage, or else its linkage in the file.
 abbrev pub FunctionLinkagesAreStated : Type 0
 FunctionLinkagesAreStated =
     (file handed : List ℕ) (types : TypeInfo)
@@ -371,7 +381,7 @@ FunctionLinkagesAreStated =
     ≡ linkage_by (linkages_of (sources_in file types)) id
     (linkage_in (ei_data file) (types_part (ei_data file) (btf_bytes file)) types.types id)
 
--- Each type keeps its id, and what becomes of it is by the changes of its id alone.
+-- Each type keeps its id, and the changes of its id alone decide its new value.
 abbrev pub TypesKeepIds : Type 0
 TypesKeepIds = (g : TypeSources) (id : ℕ) (t : BtfType) → slice_get g.types.types id ≡ Some t
     → slice_get (kernel_type_info g).types id ≡ Some (changed_by (changes_of g) id t)
@@ -383,7 +393,7 @@ OtherTypesStay =
     → may_change t ≡ false
     → slice_get (kernel_type_info g).types id ≡ Some t
 
--- The types that stand in are the ones behind them.
+-- The types behind the file's types are the appended ones.
 abbrev pub StandinsAreLast : Type 0
 StandinsAreLast =
     (g : TypeSources)

@@ -1,5 +1,5 @@
--- What `.ksyms` names, and functions: the INT and the VAR that stand in, the words of the section,
--- hidden functions, linkages.
+-- The types that replace the externs of `.ksyms`, the words of that DATASEC, the words of hidden
+-- functions, and the linkages of FUNCs.
 use Rattle.std.specs.Prelude.{ℕ, ◌+◌, nat_lt, Bool, false, true, not, ◌&&◌, ◌||◌, ◌==◌, List, []}
 use Rattle.std.specs.Prelude.{◌∷◌, ◌++◌, length, codes, Option, Some, None, Result, Ok, Err}
 use Rattle.std.specs.Prelude.{slice_get, if◌then◌else◌, ◌*◌, ◌%◌, ◌^◌, nat_le, option_map, fold}

@@ -1,5 +1,5 @@
--- What the words of sections are found from, where types stand among bytes, and symbols by binding,
--- type and visibility (ELF-64 gABI, 'Symbol Table': st_info, st_other).
+-- The inputs of the words of DATASECs, the offset of each type among the bytes, and symbols by
+-- binding, type and visibility (ELF-64 gABI, 'Symbol Table': st_info, st_other).
 use Rattle.std.specs.Prelude.{ℕ, nat_le, List, [], ◌∷◌, length, slice_get, unwrap_or, if◌then◌else◌}
 use Rattle.std.specs.Prelude.{◌+◌, Option, Some, None, Result, Ok, Err, ◌*◌, ◌/◌, ◌%◌, Bool, false}
 use Rattle.std.specs.Prelude.{◌&&◌, ◌||◌, ◌==◌, nat_lt, slice_index, is_none}

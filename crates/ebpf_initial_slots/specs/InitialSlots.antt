@@ -1,4 +1,18 @@
--- The initial values of maps of maps and of programs.
+-- The initial values of maps of maps and of arrays of programs (libbpf 1.5, libbpf.c:
+-- bpf_object__collect_map_relos): each relocation of the section `.maps` gives a map or a program
+-- at an index of a map. At one index the last relocation counts.
+--
+-- A worked example. The variable `outer` declares a map of maps (type 12) at offset 64 of `.maps`.
+-- It has 48 bytes, and its member `values` begins at offset 32. So its values are at the offsets 96
+-- and 104 of the section, with the indices 0 and 1. Three relocations, in order:
+--
+--   offset 96, symbol `a`: index (96 - 64 - 32) / 8 = 0, the map `a`
+--   offset 104, symbol `b`: index (104 - 64 - 32) / 8 = 1, the map `b`
+--   offset 96, symbol `c`: index 0 again, the map `c`
+--
+-- `initial_slots` is (outer, 0, c), (outer, 1, b). A relocation at offset 88 is `OutsideValues`,
+-- since 88 - 64 < 32. One at offset 100 is `Misaligned`, since 4 is no multiple of 8. One at offset
+-- 108 is `OutsideMaps`, since 108 + 8 passes the variable's end at 112.
 use Rattle.std.specs.Prelude.{Bool, true, false, ℕ, ◌+◌, ◌-◌, ◌/◌, ◌%◌, ◌==◌, ◌&&◌, ◌||◌, nat_le}
 use Rattle.std.specs.Prelude.{nat_lt, not, List, [], ◌∷◌, map, fold, Option, Some, None, option_map}
 use Rattle.std.specs.Prelude.{unwrap_or, Result, Ok, Err, if◌then◌else◌, ◌≡◌}
@@ -36,17 +50,13 @@ use Rattle.ebpf_initial_slots.specs.declared.target.InitialTarget.{InitialTarget
 use Rattle.ebpf_initial_slots.specs.declared.variables.MapVariable.{MapVariable}
 use Rattle.ebpf_initial_slots.specs.declared.target.InitialTarget.TheVariants as targets
 
--- ---- the one answer that no definition states: want of memory.
+-- ---- the one answer that no definition states: an allocation failure
 
 abbrev pub is_initial_slot_memory : InitialSlotError → Bool
 is_initial_slot_memory OutOfMemory = true
 is_initial_slot_memory _ = false
 
--- ---- the initial values of maps of maps and of programs (libbpf 1.5, libbpf.c:
--- bpf_object__collect_map_relos): for the relocations of the section `.maps`, by map and index,
--- what stands there
-
--- ---- what stands in a slot: the map or the program that a symbol names
+-- ---- the target of a slot: the map or the program that a symbol names
 
 abbrev pub symbol_text : Symbol → List ℕ
 symbol_text s = unwrap_or s.name []
@@ -75,7 +85,7 @@ target_map object section v s =
     else if contains_key object.maps (symbol_text s) then Ok (targets.Map (symbol_text s))
     else Err (UnknownMap v.name (symbol_text s))
 
--- a program stands where the symbol does
+-- a program has the section and the address of the symbol
 abbrev pub is_entry_point : Symbol → Program → Bool
 is_entry_point s p = stands_in p.section_index s.section_index && p.address == s.address
 
@@ -99,13 +109,13 @@ initial_target object section v s =
     else if v.map_type == program_array then target_program object v s
     else Err (UnsupportedMapType v.name v.map_type)
 
--- ---- where: by the place of 8 bytes in the section
+-- ---- the index of a slot: by the offset of its 8 bytes in the section
 
--- whether a variable holds them
+-- whether a variable holds the 8 bytes at an offset of the section
 abbrev pub holds_slot : ℕ → MapVariable → Bool
 holds_slot place v = nat_le v.offset place && nat_le (place + 8) (v.offset + v.size)
 
--- their index in `values`, which begin at an offset in the variable
+-- the index of an offset in `values`, which begin at an offset in the variable
 abbrev pub index_from : MapVariable → ℕ → ℕ → Result ℕ InitialSlotError
 index_from v place values =
     if nat_lt (place - v.offset) values then Err (OutsideValues v.name place)
@@ -117,7 +127,7 @@ slot_index v place = if_some v.values (index_from v place) (Err (NoValues v.name
 
 -- ---- one relocation
 
--- what it puts where, by the section `.maps` and its variables
+-- the slot that a relocation gives a map, by the section `.maps` and its variables
 unfoldable pub initial_slot : Object → ℕ → List MapVariable → ElfRelocation
     → Result InitialSlot InitialSlotError
 initial_slot object section variables r =
@@ -137,7 +147,7 @@ slot_or_none (Err e) = []
 
 -- ---- all
 
--- the section `.maps`: of several the last
+-- the index of the section `.maps`: of several sections the last
 abbrev pub maps_section : Object → Option ℕ
 maps_section object = option_map (λ s. s.0) (get object.section_infos maps_section_name)
 
@@ -146,7 +156,7 @@ abbrev pub relocations_at : List ℕ → ℕ → List ElfRelocation
 relocations_at bytes index =
     option_map_or relocations (find (λ s. s.index == index) (sections bytes)) []
 
--- by map and index; of two at one index the later stands
+-- slots by map and index, with one more; of two at one index the later counts
 abbrev pub with_slot : FinMap text_cmp (FinMap nat_cmp InitialSlot)
     → InitialSlot
     → FinMap text_cmp (FinMap nat_cmp InitialSlot)
@@ -159,7 +169,7 @@ by_map_and_index slots = fold with_slot empty slots
 abbrev pub slots_in_order : FinMap text_cmp (FinMap nat_cmp InitialSlot) → List InitialSlot
 slots_in_order found = flat_map (λ m. map (λ s. s.1) (entries m.1)) (entries found)
 
--- what relocations put
+-- the slots that relocations give
 abbrev pub slots_put : Object → ℕ → List MapVariable → List ElfRelocation → List InitialSlot
 slots_put object section variables rs =
     flat_map (λ r. slot_or_none (initial_slot object section variables r)) rs
@@ -176,7 +186,7 @@ slots_of_section bytes object section =
     (slots_put object section (map_variables object section)
     (relocations_at bytes section)))
 
--- of a file's bytes and an object
+-- the initial values of an object and the bytes of its file
 unfoldable pub initial_slots : List ℕ → Object → List InitialSlot
 initial_slots bytes object = option_map_or (slots_of_section bytes object) (maps_section object) []
 
@@ -190,7 +200,7 @@ initial_slots_fault bytes object =
     slots_fault object section (map_variables object section)
     (relocations_at bytes section)) (maps_section object))
 
--- ---- what stands at an index of a map: of the slots that relocations put there the last
+-- ---- the slot at an index of a map: of the slots that relocations give it the last
 
 -- the slot at an index of a map
 abbrev pub standing_slot : FinMap text_cmp (FinMap nat_cmp InitialSlot)
@@ -199,7 +209,7 @@ abbrev pub standing_slot : FinMap text_cmp (FinMap nat_cmp InitialSlot)
     → Option InitialSlot
 standing_slot found name index = option_and_then (λ own. get own index) (get found name)
 
--- the last of these slots at an index of a map, else the one before
+-- the last of some slots at an index of a map, else the one before
 abbrev pub last_slot : List ℕ → ℕ → Option InitialSlot → List InitialSlot → Option InitialSlot
 last_slot name index before slots =
     fold

@@ -37,7 +37,7 @@ unfoldable pub maps_entries : BtfType → List DataSecEntry
 maps_entries (DataSec name size entries) = entries
 maps_entries t = []
 
--- Compilers write the size 0 and offsets of 0. Then variables stand where their symbols say.
+-- Compilers write the size 0 and offsets of 0. The addresses of the symbols are the offsets then.
 abbrev pub lacks_offsets : BtfType → Bool
 lacks_offsets t = unwrap_or (size_word t) 0 == 0
 
@@ -48,14 +48,15 @@ unfoldable pub last_member : BtfType → Option BtfMember
 last_member (Struct name size flag members) = slice_get members (length members - 1)
 last_member t = None
 
--- where a member stands that is `values`, in bytes
+-- the offset of a member `values`, in bytes
 abbrev pub values_at : TypeInfo → BtfType → BtfMember → Option ℕ
 values_at types t m =
     if is_text (codes "values") (text_at types.strings m.name_offset)
     then Some (bit_offset t m / 8)
     else None
 
--- of a type that ends in them, TYPEDEFs, CONST, VOLATILE, RESTRICT and TYPE_TAGs followed
+-- the offset of `values` in a type that ends in them; TYPEDEFs, CONST, VOLATILE, RESTRICT and
+-- TYPE_TAGs are followed
 unfoldable pub values_offset : TypeInfo → ℕ → Option ℕ
 values_offset types id =
     option_and_then (λ t. option_and_then (values_at types t) (last_member t))
@@ -80,7 +81,7 @@ abbrev pub declared_in : ℕ → Option Map → Option BtfMap
 declared_in section (Some (Btf m)) = if m.section_index == section then Some m else None
 declared_in section _ = None
 
--- where a variable stands in the section
+-- the offset of a variable in the section
 abbrev pub variable_offset : Bool → DataSecEntry → Option Symbol → ℕ
 variable_offset unplaced entry symbol =
     if unplaced then option_map_or (λ s. s.address) symbol 0 else entry.offset

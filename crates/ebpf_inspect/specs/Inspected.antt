@@ -1,4 +1,4 @@
--- What is told of a file's programs, once they are linked.
+-- The reports of a file's programs, once they are linked.
 use Rattle.std.specs.Prelude.{◌≡◌, ℕ, true, List, [], ◌∷◌, Some}
 use Rattle.std.specs.FinMap.{get}
 use Rattle.ebpf_inspect.specs.declared.report.ProgramReport.{ProgramReport}

@@ -1,4 +1,4 @@
--- The reports of an object's programs, which are linked beside it.
+-- The reports of an object's programs, which are linked as values apart from the object.
 use Rattle.std.specs.Prelude.{◌≡◌, true, List}
 use Rattle.ebpf_inspect.specs.Inspected.{link_map_of, AreReports}
 use Rattle.ebpf_inspect.specs.declared.report.ProgramReport.{ProgramReport}

@@ -1,4 +1,4 @@
--- The value of an extern by a kernel's configuration as text (libbpf 1.5, libbpf.c:
+-- The value of an extern, read from the text of a kernel's configuration (libbpf 1.5, libbpf.c:
 -- bpf_object__process_kconfig_line, set_kcfg_value_tri, set_kcfg_value_str, parse_u64,
 -- is_kcfg_value_in_range, set_kcfg_value_num).
 use Rattle.std.specs.Prelude.{ℕ, min, ◌+◌, ◌-◌, ◌*◌, ◌/◌, ◌%◌, ◌^◌, nat_eq, nat_lt, ◌==◌, ◌&&◌}

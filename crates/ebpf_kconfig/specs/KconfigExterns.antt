@@ -1,5 +1,5 @@
--- The externs that the kernel's configuration gives, and their types (libbpf 1.5, libbpf.c:
--- find_kcfg_type; btf.c: btf__align_of).
+-- The kconfig externs of an object and their types (libbpf 1.5, libbpf.c: find_kcfg_type; btf.c:
+-- btf__align_of).
 use Rattle.std.specs.Prelude.{ℕ, min, max, ◌/◌, ◌%◌, ◌^◌, Bool, ◌==◌, ◌||◌, codes, Option, Some}
 use Rattle.std.specs.Prelude.{None, if◌then◌else◌, true, false, nat_eq, List, [], ◌∷◌, unwrap_or}
 use Rattle.std.specs.Prelude.{Result, Ok, Err, slice_get}
@@ -110,7 +110,7 @@ abbrev pub kconfig_alignment : KconfigType → ℕ
 kconfig_alignment (kconfig_types.CharArray len) = 1
 kconfig_alignment kind = max 1 (min 8 (kconfig_size kind))
 
--- ---- the one answer that no definition states: want of memory.
+-- ---- the one answer that no definition states: an allocation failure
 
 abbrev pub is_kconfig_memory : KconfigError → Bool
 is_kconfig_memory OutOfMemory = true

@@ -1,5 +1,6 @@
--- The map `.kconfig`, where the externs stand in its value, and the symbols that stand in it
--- (libbpf 1.5, libbpf.c: cmp_externs, bpf_object__collect_externs, bpf_object__init_kconfig_map).
+-- The map `.kconfig`, the offsets of the externs in its value, and the symbols that are defined in
+-- it (libbpf 1.5, libbpf.c: cmp_externs, bpf_object__collect_externs,
+-- bpf_object__init_kconfig_map).
 use Rattle.std.specs.Prelude.{ℕ, ◌+◌, ◌-◌, ◌*◌, ◌/◌, ◌^◌, nat_lt, ◌==◌, List, [], ◌∷◌, ◌++◌, length}
 use Rattle.std.specs.Prelude.{fold, replicate, Option, Some, None, unwrap_or, if◌then◌else◌, true}
 use Rattle.std.specs.Prelude.{◌≡◌, option_map, map}
@@ -70,7 +71,7 @@ laid_out externs = flat_map (λ group. group_externs group.1) (entries (extern_g
 abbrev pub rounded_up : ℕ → ℕ → ℕ
 rounded_up offset alignment = (offset + (alignment - 1)) / alignment * alignment
 
--- where an extern stands behind what ends at an offset
+-- the offset of an extern behind data that end at an offset
 abbrev pub extern_offset : ℕ → KconfigExtern → ℕ
 extern_offset end e = rounded_up end (alignment_of e)
 
@@ -85,7 +86,7 @@ extern_offsets end (e ∷ es) = (e.name, extern_offset end e) ∷ extern_offsets
 abbrev pub kconfig_offsets : List KconfigExtern → FinMap text_cmp ℕ
 kconfig_offsets externs = put_all empty (extern_offsets 0 (laid_out externs))
 
--- where the last one ends
+-- the end of the last extern
 abbrev pub layout_end : ℕ → List KconfigExtern → ℕ
 layout_end end [] = end
 layout_end end (e ∷ es) = layout_end (extern_end end e) es
@@ -198,7 +199,7 @@ kconfig_fault types symbols values =
 
 -- ---- what holds of the map's data, and of an object that is prepared once values are set
 
--- where no value is at fault, the data is as long as the map's value
+-- where no value has a fault, the data are as long as the map's value
 abbrev pub DataIsValueSized : Type 0
 DataIsValueSized =
     (values : KconfigValues) (externs : List KconfigExtern) → values_fault values externs ≡ None

@@ -1,4 +1,15 @@
--- How many bytes an object owns, and how many what is made of a file owns at most.
+-- The number of bytes that an object owns, and an upper bound of it that is counted on the file.
+--
+-- `owned_bytes` counts an object: its texts, its lists and its data, and 64 bytes for each entry of
+-- a table. `made_bytes` counts a file before anything is made of it. `ObjectsOwnWhatIsMade` says
+-- that the object of a file owns at most the bytes that are counted on the file.
+--
+-- A worked example: a function `f` of 2 slots with one func info entry and two line info entries.
+-- `function_row` counts 64 for the entry, 1 for the name, 2 * 8 for the slots, and `record_bytes 1
+-- 2` = 1 * 8 + 2 * 16 = 40 for the info entries: 121 bytes. On the file `function_bytes` counts the
+-- same 121 for the symbol `f`: `named_bytes` = 64 + 1, `code_bytes` = 16, `record_bytes 1 2` = 40.
+-- The symbol also counts 2 * 65 in `symbol_bytes`, 65 for its entry among the symbols and 65 for an
+-- extern that it may name. So the count of the file is greater where it names none.
 use Rattle.std.specs.Prelude.{ℕ, List, [], Option, Some, None, is_some, if◌then◌else◌, ◌+◌, ◌∷◌}
 use Rattle.std.specs.Prelude.{◌*◌, length, ◌-◌, ◌%◌, ◌^◌, Bool, true, false, map, filter, codes}
 use Rattle.std.specs.Prelude.{nat_lt, min, slice_get, ◌≡◌, ◌≤◌, ◌<◌, unwrap_or}
@@ -45,9 +56,9 @@ use Rattle.ebpf_parts.specs.declared.section.EbpfSectionKind.TheVariants.{Maps, 
 use Rattle.ebpf_parts.specs.declared.section.EbpfSectionKind.TheVariants.{Rodata, Bss, Text}
 use Rattle.ebpf_parts.specs.declared.section.EbpfSectionKind.TheVariants.{Program as Programs}
 
--- ---- what can be read of a file's sections before any other fault of the file is known. Data
--- outside the file, and type information with a fault, is none here: a file with such a section is
--- refused.
+-- ---- the parts of a file's sections that can be read before any other fault of the file is known.
+-- Data outside the file, and type information with a fault, count as none: a file with such a
+-- section is refused.
 
 -- the data of a section
 unfoldable pub readable_data : SectionOf → List ℕ
@@ -100,14 +111,13 @@ ext_bytes (Some ext) =
     + total lines_row (entries ext.line_info)
     + total core_row ext.relocations
 
--- ---- how many bytes what is made of a file owns at most: a sum over the headers of its sections,
--- over its symbols and over its records, which can be taken before anything is made of them. Each
--- entry that is put into a table of the object counts, also where a later one of its key takes its
--- place
+-- ---- the bytes that are made of a file: a sum over the headers of its sections, over its symbols
+-- and over its info entries, which is counted before anything is made of them. Each entry that is
+-- put into a table of the object counts, also where a later one of its key replaces it
 
 -- ---- names and entries
 
--- what an entry of a table takes beside its name and its lists
+-- the bytes of an entry of a table, without its name and its lists
 abbrev pub entry_bytes : ℕ
 entry_bytes = 64
 
@@ -160,7 +170,7 @@ type_information_bytes file =
 unfoldable pub section_entry_bytes : List ℕ → SectionOf → ℕ
 section_entry_bytes file s = named_bytes file (section_name s)
 
--- what a section has for its symbols
+-- the facts of a section that count for its symbols
 pub record SectionFacts : Type 0 where
   pub kind : EbpfSectionKind
   pub address : ℕ
@@ -212,12 +222,12 @@ line_count f first count =
     then length (filter (is_line_in first count) f.lines)
     else length f.lines
 
--- where a symbol of an address stands in a section; a text section may begin again at address 0
+-- the offset of a symbol of an address in a section; a text section may begin again at address 0
 abbrev pub offset_by : EbpfSectionKind → ℕ → ℕ → ℕ
 offset_by Text start address = (address + (2 ^ 64 - start % 2 ^ 64)) % 2 ^ 64
 offset_by _ start address = address - start
 
--- the slot of its section that a symbol stands at
+-- the slot of its section at which a symbol begins
 abbrev pub first_slot : SectionFacts → SymbolEntry → ℕ
 first_slot f e = slot_of (offset_by f.kind f.address e.st_value)
 
@@ -233,7 +243,7 @@ function_bytes named f e =
     + record_bytes (func_count f (first_slot f e))
     (line_count f (first_slot f e) (slot_of e.st_size))
 
--- what a symbol gives by its section: a function, and a program with the license; or a map
+-- the bytes of a symbol by its section: a function, and a program with the license; or a map
 abbrev pub placed_by : EbpfSectionKind → Bool → ℕ → ℕ → SectionFacts → SymbolEntry → ℕ
 placed_by Text true license named f e = function_bytes named f e
 placed_by Programs true license named f e = function_bytes named f e + named + license
@@ -251,7 +261,8 @@ abbrev pub facts_at : List SectionFacts → Option ℕ → Option SectionFacts
 facts_at all None = None
 facts_at all (Some index) = slice_get all (index - 1)
 
--- a symbol is an entry of the symbols, may name an extern, and gives what stands in its section
+-- the bytes of a symbol: an entry of the symbols, an extern that it may name, and its function or
+-- map
 unfoldable pub symbol_bytes : List ℕ → ℕ → List SectionFacts → SymbolOf → ℕ
 symbol_bytes file license all y =
     2 * named_bytes file (symbol_name y)
@@ -285,8 +296,8 @@ made_bytes file =
     + (total (symbol_bytes file (license_bytes file) (all_facts file)) (symbols file)
     + total (relocation_bytes (all_facts file)) (relocation_sections file)))
 
--- ---- how many bytes an object owns: its texts, its lists and its data, and an entry of 64 bytes
--- for each row of its tables
+-- ---- the bytes that an object owns: its texts, its lists and its data, and 64 bytes for each
+-- entry of its tables
 
 -- ---- a row of a table, by its key
 
@@ -333,9 +344,8 @@ owned_bytes o =
     + total relocations_row (entries o.relocations)
     + total named_row (entries o.section_infos)
 
--- the object of a file without a fault owns no more than what is made of the file; as each slice,
--- the file has fewer than
--- 2 ^ 64 bytes
+-- The object of a file without a fault owns at most the bytes that are made of the file. As each
+-- slice, the file has fewer than 2 ^ 64 bytes.
 abbrev pub ObjectsOwnWhatIsMade : Type 0
 ObjectsOwnWhatIsMade =
     (mode : ParseMode) (file : List ℕ)
@@ -345,7 +355,7 @@ ObjectsOwnWhatIsMade =
 
 -- ---- what contracts of private functions name and no public one.
 
--- what taking bytes from a limit leaves of it, with what is made where they fit
+-- the rest of a limit after bytes are taken from it, and the value that is made where they fit
 abbrev pub Took : {X : Type 0} → Option X → ℕ → ℕ → ℕ → Type 0
 Took None before after bytes = before < bytes
 Took (Some x) before after bytes = after + bytes ≡ before

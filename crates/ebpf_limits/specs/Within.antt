@@ -1,4 +1,4 @@
--- Parsing within a limit: the first fault of a file beside it.
+-- Parsing within a limit: the first fault of a file, the limit among its faults.
 use Rattle.std.specs.Prelude.{◌≢◌, ℕ, List, Option, Some, None, option_map, nat_lt, if◌then◌else◌}
 use Rattle.ebpf_base.specs.Faults.{or_else, first_in}
 use Rattle.ebpf_elf.specs.Faults.{faults}
@@ -20,7 +20,7 @@ size_fault most file =
 abbrev pub within_fault : ParseMode → ℕ → List ℕ → Option ParseError
 within_fault mode most file = or_else (size_fault most file) (parse_fault_as mode file)
 
--- parsing without a limit never answers that it is passed
+-- parsing without a limit never has the fault that a limit is passed
 abbrev pub ParsingHasNoLimit : Type 0
 ParsingHasNoLimit =
     (mode : ParseMode) (file : List ℕ) (most : ℕ) → parse_fault_as mode file ≢ Some (TooLarge most)

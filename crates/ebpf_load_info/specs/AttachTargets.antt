@@ -1,4 +1,4 @@
--- What a program is attached to, as the id of a type, by the name of its section (libbpf 1.5,
+-- The type to which the programs of a section are attached, by the section's name (libbpf 1.5,
 -- libbpf.c: libbpf_prepare_prog_load, find_kernel_btf_id, find_attach_btf_id,
 -- btf_get_kernel_prefix_kind).
 use Rattle.std.specs.Prelude.{ℕ, ◌==◌, List, [], ◌∷◌, ◌++◌, codes, Option, Some, None, unwrap_or}
@@ -37,7 +37,7 @@ targets =
     ∷ (codes "freplace", Function)
     ∷ []
 
--- what stands before a target's name in the name of its type
+-- the prefix of a target's name in the name of its type
 unfoldable pub prefix_of : TargetKind → List ℕ
 prefix_of TracePoint = codes "btf_trace_"
 prefix_of SecurityHook = codes "bpf_lsm_"
@@ -88,12 +88,12 @@ abbrev pub target_or_none : TypeInfo → Option TargetKind → List ℕ → Atta
 target_or_none types None name = NotWanted
 target_or_none types (Some target) name = target_in types target name
 
--- what the programs of a section of this name are attached to
+-- the target of the programs of a section of this name
 unfoldable pub attach_target : List ℕ → TypeInfo → AttachTarget
 attach_target section types = target_or_none types (wanted section) (target_name section)
 
--- ---- that the sections whose programs have targets are those of which the table of program kinds
--- says so
+-- ---- the sections whose programs have targets are those of which the table of program kinds says
+-- so
 
 -- whether a loader wants the id of a type for the programs of a section
 abbrev pub wants_type : List ℕ → Bool

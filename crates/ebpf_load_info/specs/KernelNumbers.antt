@@ -1,5 +1,5 @@
--- The numbers that a kernel knows, by the enumerators of its types (the kernel's
--- include/uapi/linux/bpf.h, enum bpf_func_id and enum bpf_map_type).
+-- The numbers of helpers and of map types that a kernel knows, by the enumerators of its types (the
+-- kernel's include/uapi/linux/bpf.h, enum bpf_func_id and enum bpf_map_type).
 use Rattle.std.specs.Prelude.{ℕ, List, length, drop, nat_eq, Option, Some, None, if◌then◌else◌}
 use Rattle.std.specs.Prelude.{Bool, not, ◌&&◌, ◌==◌, [], codes, option_map, find}
 use Rattle.std.specs.List.{starts_with, list_any}
@@ -13,9 +13,9 @@ use Rattle.ebpf_btf.specs.declared.types.BtfType.{BtfType}
 use Rattle.ebpf_btf.specs.declared.types.BtfType.TheVariants.{Enum}
 use Rattle.ebpf_btf.specs.declared.kind.BtfKind.TheVariants as kinds
 
--- ---- texts that begin with another.
+-- ---- texts with a prefix
 
--- what stands behind a prefix, where a text begins with it
+-- the part of a text behind a prefix, where the text begins with it
 abbrev pub without_prefix : List ℕ → List ℕ → Option (List ℕ)
 without_prefix prefix text =
     if starts_with nat_eq text prefix then Some (drop (length prefix) text) else None
@@ -32,12 +32,12 @@ unfoldable pub enumerators_of : BtfType → List BtfEnum
 enumerators_of (Enum _ _ _ enumerators) = enumerators
 enumerators_of _ = []
 
--- those of an ENUM that has a name
+-- the enumerators of an ENUM that has a name
 abbrev pub named_enumerators : TypeInfo → List ℕ → BtfType → Option (List BtfEnum)
 named_enumerators types name t =
     if is_named types name kinds.Enum t then Some (enumerators_of t) else None
 
--- those of the first one
+-- the enumerators of the first ENUM of a name
 abbrev pub enumeration : TypeInfo → List ℕ → Option (List BtfEnum)
 enumeration types name = first_some (named_enumerators types name) types.types
 

@@ -1,4 +1,4 @@
--- The types of keys and values that maps are created with (BPF_MAP_CREATE: btf_key_type_id and
+-- The types of keys and values with which maps are created (BPF_MAP_CREATE: btf_key_type_id and
 -- btf_value_type_id; libbpf 1.5, libbpf.c: bpf_object__create_map, bpf_map_find_btf_info,
 -- bpf_map__set_value_size).
 use Rattle.std.specs.Prelude.{ℕ, Bool, true, false, ◌==◌, ◌&&◌, ◌||◌, nat_eq, List, [], ◌∷◌, length}
