@@ -22,6 +22,7 @@ use Rattle.ebpf_ksyms.specs.Addresses.{stated_address}
 use Rattle.ebpf_ksyms.specs.Externs.{NamedExtern, Externs, is_typeless, left_without, with_address}
 use Rattle.ebpf_ksyms.specs.Externs.{is_typed, outcome_by, KernelIds, lookup_key_of}
 use Rattle.ebpf_ksyms.specs.Outcomes.{address_result, refusal_of, typed_result, with_result}
+use Rattle.ebpf_ksyms.specs.Outcomes.{OutcomeValue, outcome_with, result_by}
 use Rattle.ebpf_ksyms.specs.declared.error.KsymsError.{KsymsError}
 use Rattle.ebpf_ksyms.specs.declared.extern_outcome.ExternResult.{ExternResult}
 use Rattle.ebpf_ksyms.specs.declared.extern_outcome.ExternResult.TheVariants.{Kept, Untyped}
@@ -220,3 +221,9 @@ KnowsIds local (Some kernel) es known =
 abbrev pub untyped_by : Option (NameTable (Option ℕ)) → NamedExtern → ExternResult
 untyped_by None e = Untyped
 untyped_by (Some addresses) e = address_result e (known_at (value_named addresses) e.0)
+
+-- the outcome of an entry, by the ids of names
+unfoldable pub outcome_by_ids : (List ℕ → Option NameIds) → (NamedExtern → ExternResult)
+    → TypeInfo → Option TypeInfo → NamedExtern → OutcomeValue
+outcome_by_ids ids untyped local kernel e =
+    outcome_with (result_by (id_at ids) untyped local kernel) e

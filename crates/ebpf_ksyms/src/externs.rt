@@ -1,14 +1,14 @@
 //! Externs with what the kernel has for them: an id by its types, or an address by its lines.
 
 ghost use Rattle.std.specs.Option.{option_copied};
-ghost use Rattle.std.specs.Prelude.{◌≡◌, IfOk, IfErr, false, unwrap_or};
+ghost use Rattle.std.specs.Prelude.{◌≡◌, IfOk, IfErr, false, map, unwrap_or};
 ghost use Rattle.ebpf_base.specs.Faults.{Gives, Refuses, fault_of, first_some};
 ghost use Rattle.ebpf_base.specs.Maps.{lent_bytes};
 ghost use Rattle.ebpf_btf.specs.Types.{type_word};
 ghost use Rattle.ebpf_ksyms.specs.Externs.{kernel_ids_of, outcome_by, renewed, at_found, compared_outcome, are_types_compatible, left_without, not_alike, not_found, with_address};
 ghost use Rattle.ebpf_ksyms.specs.Addresses.{is_ksyms_memory};
 ghost use Rattle.ebpf_ksyms.specs.Outcomes.{address_result, outcome_with, outcomes_with, refusal_of, result_by, with_result};
-ghost use Rattle.ebpf_ksyms.specs.PrivateContracts.{id_at, value_named, lookup_name, lookup_names, typed_as, typed_refused, known_at, typeless_as, typeless_refused, KnowsIds, result_with_type, untyped_by};
+ghost use Rattle.ebpf_ksyms.specs.PrivateContracts.{id_at, value_named, lookup_name, lookup_names, typed_as, typed_refused, known_at, typeless_as, typeless_refused, KnowsIds, outcome_by_ids, result_with_type, untyped_by};
 ghost use Rattle.ebpf_ksyms.specs.declared.error.KsymsError.TheVariants.{OutOfMemory};
 ghost use Rattle.ebpf_ksyms.specs.declared.extern_outcome.ExternResult.TheVariants.{Refused, Kept};
 
@@ -442,9 +442,8 @@ fn named_outcome<'a>(
 ) -> Result<ExternOutcome<'a>, AllocError>
     ensures { IfOk result (λ o.
         o
-        ≡ outcome_with
-        (result_by (id_at (value_named ids.now)) (untyped_by (option_copied addresses.entry))
-        local.now (option_copied kernel.entry)) entry.now) }
+        ≡ outcome_by_ids (value_named ids.now) (untyped_by (option_copied addresses.entry))
+        local.now (option_copied kernel.entry) entry.now) }
 {
     let result = extern_result(alloc, local, kernel, ids, addresses, entry)?;
     Ok(outcome_of_entry(entry, result))
@@ -461,8 +460,8 @@ fn outcomes_by_ids<'a>(
 ) -> Result<Vec<ExternOutcome<'a>>, AllocError>
     ensures { IfOk result (λ outcomes.
         outcomes.items
-        ≡ outcomes_with
-        (result_by (id_at (value_named ids.now)) (untyped_by (option_copied addresses.entry))
+        ≡ map
+        (outcome_by_ids (value_named ids.now) (untyped_by (option_copied addresses.entry))
         local.now (option_copied kernel.entry)) all.now) }
 {
     let mut outcomes = Vec::with_capacity(alloc, all.len())?;
