@@ -9,7 +9,7 @@ use Rattle.std.specs.Option.{option_and_then}
 use Rattle.std.specs.Result.{result_ok}
 use Rattle.std.specs.Str.{bytes_eq}
 use Rattle.std.proofs.lemmas.Bool.{or_right}
-use Rattle.ebpf_base.specs.Faults.{or_else, fault_of, first_some}
+use Rattle.ebpf_base.specs.Faults.{or_else, first_some}
 use Rattle.ebpf_btf.specs.EssentialNames.{essential_name, flavor_mark}
 use Rattle.ebpf_btf.specs.Strings.{is_named, is_text, type_name}
 use Rattle.ebpf_btf.specs.Steps.{type_at}
@@ -21,8 +21,11 @@ use Rattle.ebpf_btf.specs.declared.types.BtfType.{BtfType}
 use Rattle.ebpf_btf.specs.declared.types.BtfType.TheVariants.{Func, Var}
 use Rattle.ebpf_base.proofs.Faults.{or_else-None}
 use Rattle.ebpf_ksyms.specs.Addresses.{is_one_of}
-use Rattle.ebpf_ksyms.specs.Externs.{NamedExtern, kernel_ids_of, is_typed, outcome_by, renewed, with_outcome, at_found, at_lookup_key, at_type, kernel_ids_in, lookup_key_of, LookupKeyValue}
-use Rattle.ebpf_ksyms.specs.PrivateContracts.{finished, extern_kind, with_id_of, with_type_ids, extern_kind_of, with_head_ids, id_at, id_of, ids_in, only_at, lookup_name, lookup_names, typed_as, typed_refused}
+use Rattle.ebpf_ksyms.specs.Externs.{NamedExtern, kernel_ids_of, is_typed, is_typeless, outcome_by, renewed, at_found, at_lookup_key, at_type, kernel_ids_in, lookup_key_of, LookupKeyValue}
+use Rattle.ebpf_ksyms.specs.Outcomes.{outcomes_with, refusal_of, result_by, typed_result, with_result}
+use Rattle.ebpf_ksyms.specs.PrivateContracts.{finished, extern_kind, with_id_of, with_type_ids, extern_kind_of, with_head_ids, id_at, id_of, ids_in, only_at, lookup_name, lookup_names, typed_as, typed_refused, result_with_type, KnowsIds}
+use Rattle.ebpf_ksyms.specs.declared.extern_outcome.ExternResult.{ExternResult}
+use Rattle.ebpf_ksyms.specs.declared.extern_outcome.ExternResult.TheVariants.{Kept}
 use Rattle.ebpf_ksyms.specs.declared.ids.NameIds.{NameIds}
 use Rattle.ebpf_ksyms.specs.declared.ids.ExternKind.{ExternKind}
 use Rattle.ebpf_ksyms.specs.declared.ids.ExternKind.TheVariants.{Function, Variable}
@@ -193,32 +196,42 @@ module _ (local kernel : TypeInfo) (names : List (List ℕ)) (known : List ℕ �
   same_type name weak (Err e) h = refl
   same_type name weak (Ok t) h = same_lookup_key name weak (lookup_key_of name t) h
 
-  same_as : (e : NamedExtern) → IsListed names (lookup_name local e) → typed_as (id_at known) local (Some kernel) e ≡ typed_as (kernel_ids_in kernel) local (Some kernel) e
-  same_as e h =
-      elim (is_typed e.1) as (λ b. IsListed names (cond b (option_map (λ s. s.name) (option_and_then (lookup_key_of e.0) (result_ok (type_at local.types e.1.btf_id)))) None) → cond b (with_outcome e.1 (outcome_by (id_at known) local (Some kernel) e)) e.1 ≡ cond b (with_outcome e.1 (outcome_by (kernel_ids_in kernel) local (Some kernel) e)) e.1) [
-        | true ↦ λ s. ap (with_outcome e.1) (same_type e.0 e.1.is_weak (type_at local.types e.1.btf_id) s)
+  same_with_type : (e : NamedExtern) → IsListed names (lookup_name local e) → result_with_type (id_at known) local (Some kernel) e ≡ result_with_type (kernel_ids_in kernel) local (Some kernel) e
+  same_with_type e h =
+      elim (is_typed e.1) as (λ b. IsListed names (cond b (option_map (λ s. s.name) (option_and_then (lookup_key_of e.0) (result_ok (type_at local.types e.1.btf_id)))) None) → cond b (typed_result (outcome_by (id_at known) local (Some kernel) e)) Kept ≡ cond b (typed_result (outcome_by (kernel_ids_in kernel) local (Some kernel) e)) Kept) [
+        | true ↦ λ s. ap typed_result (same_type e.0 e.1.is_weak (type_at local.types e.1.btf_id) s)
         | false ↦ λ s. refl
       ] h
 
-  same_refusal : (e : NamedExtern) → IsListed names (lookup_name local e) → typed_refused (id_at known) local (Some kernel) e ≡ typed_refused (kernel_ids_in kernel) local (Some kernel) e
-  same_refusal e h =
-      elim (is_typed e.1) as (λ b. IsListed names (cond b (option_map (λ s. s.name) (option_and_then (lookup_key_of e.0) (result_ok (type_at local.types e.1.btf_id)))) None) → cond b (fault_of (outcome_by (id_at known) local (Some kernel) e)) None ≡ cond b (fault_of (outcome_by (kernel_ids_in kernel) local (Some kernel) e)) None) [
-        | true ↦ λ s. ap fault_of (same_type e.0 e.1.is_weak (type_at local.types e.1.btf_id) s)
+  same_result : (untyped : NamedExtern → ExternResult) (e : NamedExtern) → IsListed names (lookup_name local e) → result_by (id_at known) untyped local (Some kernel) e ≡ result_by (kernel_ids_in kernel) untyped local (Some kernel) e
+  same_result untyped e h =
+      elim (is_typed e.1) as (λ b. IsListed names (cond b (option_map (λ s. s.name) (option_and_then (lookup_key_of e.0) (result_ok (type_at local.types e.1.btf_id)))) None) → cond b (typed_result (outcome_by (id_at known) local (Some kernel) e)) (cond (is_typeless e.1) (untyped e) Kept) ≡ cond b (typed_result (outcome_by (kernel_ids_in kernel) local (Some kernel) e)) (cond (is_typeless e.1) (untyped e) Kept)) [
+        | true ↦ λ s. ap typed_result (same_type e.0 e.1.is_weak (type_at local.types e.1.btf_id) s)
         | false ↦ λ s. refl
       ] h
 
   renewed_alike : (es : List NamedExtern) → AllByRecursion (λ e. IsListed names (lookup_name local e)) es → renewed (typed_as (id_at known) local (Some kernel)) es ≡ renewed (typed_as (kernel_ids_in kernel) local (Some kernel)) es
   renewed_alike [] h = refl
-  renewed_alike (e ∷ es) h = λ i. (e.0, same_as e h.0 i) ∷ renewed_alike es h.1 i
+  renewed_alike (e ∷ es) h = λ i. (e.0, with_result e.1 (same_with_type e h.0 i)) ∷ renewed_alike es h.1 i
 
   refused_alike : (es : List NamedExtern) → AllByRecursion (λ e. IsListed names (lookup_name local e)) es → first_some (typed_refused (id_at known) local (Some kernel)) es ≡ first_some (typed_refused (kernel_ids_in kernel) local (Some kernel)) es
   refused_alike [] h = refl
-  refused_alike (e ∷ es) h = λ i. or_else (same_refusal e h.0 i) (refused_alike es h.1 i)
+  refused_alike (e ∷ es) h = λ i. or_else (refusal_of (same_with_type e h.0 i)) (refused_alike es h.1 i)
+
+  outcomes_alike : (untyped : NamedExtern → ExternResult) (es : List NamedExtern) → AllByRecursion (λ e. IsListed names (lookup_name local e)) es → outcomes_with (result_by (id_at known) untyped local (Some kernel)) es ≡ outcomes_with (result_by (kernel_ids_in kernel) untyped local (Some kernel)) es
+  outcomes_alike untyped [] h = refl
+  outcomes_alike untyped (e ∷ es) h = λ i. record { name = e.0; desc = e.1; result = same_result untyped e h.0 i } ∷ outcomes_alike untyped es h.1 i
 
 -- a table of the names that some externs are looked up by tells enough of them
-module _ (local kernel : TypeInfo) (es : List NamedExtern) (known : List ℕ → Option NameIds) (tells : (q : List ℕ) → known q ≡ only_at (lookup_names local es) (ids_in kernel) q) where
-  pub same_renewed : renewed (typed_as (id_at known) local (Some kernel)) es ≡ renewed (typed_as (kernel_ids_of (Some kernel)) local (Some kernel)) es
-  same_renewed = renewed_alike local kernel (lookup_names local es) known tells es (all_listed (lookup_name local) es)
+module _ (local : TypeInfo) (es : List NamedExtern) (known : List ℕ → Option NameIds) where
+  pub same_renewed : (kernel : Option TypeInfo) → KnowsIds local kernel es known → renewed (typed_as (id_at known) local kernel) es ≡ renewed (typed_as (kernel_ids_of kernel) local kernel) es
+  same_renewed None h = refl
+  same_renewed (Some kernel) h = renewed_alike local kernel (lookup_names local es) known h es (all_listed (lookup_name local) es)
 
-  pub same_refused : first_some (typed_refused (id_at known) local (Some kernel)) es ≡ first_some (typed_refused (kernel_ids_of (Some kernel)) local (Some kernel)) es
-  same_refused = refused_alike local kernel (lookup_names local es) known tells es (all_listed (lookup_name local) es)
+  pub same_refused : (kernel : Option TypeInfo) → KnowsIds local kernel es known → first_some (typed_refused (id_at known) local kernel) es ≡ first_some (typed_refused (kernel_ids_of kernel) local kernel) es
+  same_refused None h = refl
+  same_refused (Some kernel) h = refused_alike local kernel (lookup_names local es) known h es (all_listed (lookup_name local) es)
+
+  pub same_outcomes : (untyped : NamedExtern → ExternResult) (kernel : Option TypeInfo) → KnowsIds local kernel es known → outcomes_with (result_by (id_at known) untyped local kernel) es ≡ outcomes_with (result_by (kernel_ids_of kernel) untyped local kernel) es
+  same_outcomes untyped None h = refl
+  same_outcomes untyped (Some kernel) h = outcomes_alike local kernel (lookup_names local es) known h untyped es (all_listed (lookup_name local) es)

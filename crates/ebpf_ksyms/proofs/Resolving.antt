@@ -25,6 +25,7 @@ use Rattle.ebpf_base.specs.Faults.{first_some, or_else}
 use Rattle.ebpf_base.specs.Maps.{last_at, text_cmp, text_total, lent_bytes}
 use Rattle.ebpf_btf.specs.TypeInfo.{TypeInfo}
 use Rattle.ebpf_ksyms.proofs.Reading.{lines_fault-none}
+use Rattle.ebpf_ksyms.proofs.Results.{typed_refusals, typed_written}
 use Rattle.ebpf_ksyms.specs.Addresses.{is_one_of, Item, Line, address_of, line_of_item}
 use Rattle.ebpf_ksyms.specs.Externs.{NamedExtern, Externs, renew, renewed, IsResolutionFault, IsResolved, kernel_ids_of, is_typed, is_typeless, left_without, name_refused, names_read, names_refused, outcome, resolved_externs, resolved_as, types_refused, wanted_names, with_address, with_outcome, Outcome}
 use Rattle.ebpf_ksyms.specs.PrivateContracts.{entry_named, externs_from, only_at, AreRead, KnownAddresses, StopsAt, flattened, known_at, typeless_as, typeless_refused, typed_as, typed_refused}
@@ -221,7 +222,7 @@ typed_stays d (Err f) e = not_both (not d.is_resolved) d.is_typed e
 
 -- ---- a typeless extern's name is among the wanted ones
 
-IsWanted : List (List ℕ) → NamedExtern → Type 0
+pub IsWanted : List (List ℕ) → NamedExtern → Type 0
 IsWanted names e = is_typeless e.1 ≡ true → is_one_of names e.0 ≡ true
 
 wanted_more : (n : List ℕ) (names : List (List ℕ)) (es : List NamedExtern) → AllByRecursion (IsWanted names) es → AllByRecursion (IsWanted (n ∷ names)) es
@@ -232,7 +233,7 @@ wanted_more n names (e ∷ es) h = (λ t. ap (λ b. bytes_eq n e.0 || b) (h.0 t)
 is_same : (n : List ℕ) → bytes_eq n n ≡ true
 is_same n = (bytes_eq-Decides n n).1 refl
 
-all_wanted : (es : List NamedExtern) → AllByRecursion (IsWanted (wanted_names es)) es
+pub all_wanted : (es : List NamedExtern) → AllByRecursion (IsWanted (wanted_names es)) es
 unfolding IsWanted
 all_wanted [] = tt
 all_wanted (e ∷ es) =
@@ -244,7 +245,7 @@ all_wanted (e ∷ es) =
 -- ---- each entry
 
 module _ (local : TypeInfo) (kernel : Option TypeInfo) (lines : List Line) (names : List (List ℕ)) (known : KnownAddresses) (tells : (q : List ℕ) → known q ≡ only_at names (λ name. address_of name lines) q) where
-  address_known : (e : NamedExtern) → IsWanted names e → is_typeless e.1 ≡ true → known_at known e.0 ≡ address_of e.0 lines
+  pub address_known : (e : NamedExtern) → IsWanted names e → is_typeless e.1 ≡ true → known_at known e.0 ≡ address_of e.0 lines
   unfolding IsWanted
   address_known e h t = ap flattened (tells e.0) ∙ ap (λ b. flattened (cond b (Some (address_of e.0 lines)) None)) (h t)
 
@@ -272,12 +273,20 @@ module _ (local : TypeInfo) (kernel : Option TypeInfo) (lines : List Line) (name
   all_stand : (es : List NamedExtern) → AllByRecursion (IsWanted names) es → AllByRecursion (λ e. typeless_as (known_at known) (e.0, typed e) ≡ resolved_as local kernel lines e) es
   unfolding typed
   all_stand [] h = tt
-  all_stand (e ∷ es) h = (stands e (outcome local kernel e) (is_typed e.1) refl h.0, all_stand es h.1)
+  all_stand (e ∷ es) h = (
+    ap (λ d. typeless_as (known_at known) (e.0, d)) (typed_written (kernel_ids_of kernel) local kernel e)
+        ∙ stands e (outcome local kernel e) (is_typed e.1) refl h.0,
+    all_stand es h.1,
+  )
 
   first_refused : (es : List NamedExtern) → AllByRecursion (IsWanted names) es → first_some (typeless_refused (known_at known)) (renewed typed es) ≡ first_some (name_refused lines) es
   unfolding typed
   first_refused [] h = refl
-  first_refused (e ∷ es) h = λ i. or_else (refused e (outcome local kernel e) (is_typed e.1) refl h.0 i) (first_refused es h.1 i)
+  first_refused (e ∷ es) h =
+      let one : typeless_refused (known_at known) (e.0, typed_as (kernel_ids_of kernel) local kernel e) ≡ name_refused lines e =
+      ap (λ d. typeless_refused (known_at known) (e.0, d)) (typed_written (kernel_ids_of kernel) local kernel e)
+      ∙ refused e (outcome local kernel e) (is_typed e.1) refl h.0 in
+      λ i. or_else (one i) (first_refused es h.1 i)
 
 -- ---- the whole
 
@@ -293,18 +302,18 @@ module _ {S : Type 0} (steps : S → Option Item → S → Type 0) (source : S) 
 
     pub at_type : (e : KsymsError) → first_some (typed_refused (kernel_ids_of kernel) local kernel) (entries externs) ≡ Some e → IsResolutionFault steps source (Some local) kernel externs e
     unfolding types_refused
-    at_type e h = inl h
+    at_type e h = inl (sym (typed_refusals (kernel_ids_of kernel) local kernel (entries externs)) ∙ h)
 
     pub at_line : (e : KsymsError) → first_some (typed_refused (kernel_ids_of kernel) local kernel) (entries externs) ≡ None → StopsAt steps source (wanted_names (entries externs)) e → IsResolutionFault steps source (Some local) kernel externs e
     unfolding types_refused names_read
-    at_line e types h = inr (inl (record { items = h.items; item = h.item; rest = h.rest; wanted = h.wanted; came = h.came; types = types; before = h.before; refused = h.refused }))
+    at_line e types h = inr (inl (record { items = h.items; item = h.item; rest = h.rest; wanted = h.wanted; came = h.came; types = sym (typed_refusals (kernel_ids_of kernel) local kernel (entries externs)) ∙ types; before = h.before; refused = h.refused }))
 
     pub at_name : (e : KsymsError) (known : KnownAddresses) → first_some (typed_refused (kernel_ids_of kernel) local kernel) (entries externs) ≡ None → AreRead steps source (wanted_names (entries externs)) known → first_some (typeless_refused (known_at known)) (renewed (typed_as (kernel_ids_of kernel) local kernel) (entries externs)) ≡ Some e → IsResolutionFault steps source (Some local) kernel externs e
     unfolding types_refused names_read names_refused typed
     at_name e known types h left = inr (inr (record {
       items = h.items;
       counted = h.counted;
-      types = types;
+      types = sym (typed_refusals (kernel_ids_of kernel) local kernel (entries externs)) ∙ types;
       read = h.read;
       refused = sym (first_refused local kernel (map line_of_item h.items) (wanted_names (entries externs)) known h.addresses (entries externs) (all_wanted (entries externs))) ∙ left;
     }))
@@ -314,7 +323,7 @@ module _ {S : Type 0} (steps : S → Option Item → S → Type 0) (source : S) 
     is_resolved known after types h left is = record {
       items = h.items;
       counted = h.counted;
-      types = types;
+      types = sym (typed_refusals (kernel_ids_of kernel) local kernel (entries externs)) ∙ types;
       read = h.read;
       names = sym (first_refused local kernel (map line_of_item h.items) (wanted_names (entries externs)) known h.addresses (entries externs) (all_wanted (entries externs))) ∙ left;
       stands =

@@ -1,5 +1,7 @@
--- Refusals of the layers below, the lines in which a kernel tells its symbols, and the addresses
--- that they give names.
+-- The addresses that a kernel's symbols state of names, and the lines that are refused. Each line
+-- has an address in hexadecimal digits, a letter for the kind, a name, and more (proc(5),
+-- "/proc/kallsyms"; the kernel's kernel/kallsyms.c, s_show). The address of a name is the first
+-- that a line states and that is not 0. A line that states another one is refused.
 use Rattle.std.specs.Char.{digit_value, is_ascii_whitespace}
 use Rattle.std.specs.IoError.{error_kind}
 use Rattle.std.specs.Iterator.{Drains}
@@ -25,7 +27,7 @@ use Rattle.ebpf_ksyms.specs.declared.error.KsymsError.TheVariants.{KallsymsParse
 
 -- ---- refusals of the layers below, as refusals of resolution
 
--- the one answer that no definition states: want of memory
+-- out of memory: the one error that no definition states
 abbrev pub is_ksyms_memory : KsymsError → Bool
 is_ksyms_memory OutOfMemory = true
 is_ksyms_memory _ = false
@@ -43,13 +45,9 @@ is_memory_kind _ = false
 abbrev pub line_read_fault : Error → KsymsError
 line_read_fault e = if is_memory_kind (error_kind e) then OutOfMemory else KallsymsAccessError e
 
--- ---- the lines in which a kernel tells its symbols, and the addresses that they give names
+-- ---- the words of a line
 
--- The lines in which a kernel tells its symbols: each an address in hexadecimal digits, a letter
--- for the kind, a name, and more (proc(5), "/proc/kallsyms"; the kernel's kernel/kallsyms.c,
--- s_show).
-
--- the words of a line: what stands between runs of the bytes 0x09, 0x0a, 0x0c, 0x0d and 0x20
+-- the words of a line: the bytes between runs of 0x09, 0x0a, 0x0c, 0x0d and 0x20
 unfoldable pub words : List ℕ → List (List ℕ)
 words line = filter (λ word. nat_lt 0 (length word)) (slice_split is_ascii_whitespace line)
 
@@ -93,9 +91,9 @@ module _ {S A : Type 0} (steps : S → Option A → S → Type 0) (lines : S) wh
 abbrev pub is_one_of : List (List ℕ) → List ℕ → Bool
 is_one_of names name = list_any (λ n. bytes_eq n name) names
 
--- ---- the addresses that a kernel's lines give names, and the lines that are refused
+-- ---- lines, and items of an iterator
 
--- what an iterator gives for a line
+-- an item of an iterator: the string of a line, or an error
 abbrev pub Item : Type 0
 Item = Result (String Global) Error
 
@@ -120,16 +118,16 @@ address_if_named name None = None
 address_if_named name (Some pair) =
     if bytes_eq pair.1 name then nonzero (stated_address pair.0) else None
 
--- the nonzero address that a line gives a name
+-- the nonzero address that a line states of a name
 abbrev pub address_in_line : List ℕ → Line → Option ℕ
 address_in_line name (Err e) = None
 address_in_line name (Ok line) = address_if_named name (address_and_name line)
 
--- all nonzero addresses that lines give a name
+-- all nonzero addresses that lines state of a name
 unfoldable pub addresses : List ℕ → List Line → List ℕ
 addresses name lines = filter_map (address_in_line name) lines
 
--- the address of a name: the one that lines give it, of which the first is taken where they differ
+-- the address of a name: the first that lines state of it
 unfoldable pub address_of : List ℕ → List Line → Option ℕ
 address_of name lines = slice_get (addresses name lines) 0
 
@@ -163,7 +161,9 @@ named_address_fault is_wanted before (Some pair) =
     else None
 
 -- The fault of a line after others: it could not be read, or it is wanted and states no address, or
--- another one than those before.
+-- another one than those before. For example, after `12 T a` the line `12 t a` has no fault,
+-- `13 t a` has the fault `AmbiguousResolution a 0x12 0x13`, and `13 t b` has none
+-- (proofs/Examples.antt).
 unfoldable pub line_fault : (List ℕ → Bool) → List Line → Line → Option KsymsError
 line_fault is_wanted before (Err e) = Some e
 line_fault is_wanted before (Ok line) = named_address_fault is_wanted before (address_and_name line)

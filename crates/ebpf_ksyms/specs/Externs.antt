@@ -1,4 +1,6 @@
--- What the kernel has for an extern, what stands at each after resolution, and why it is refused.
+-- Resolution of externs: each extern gets the id of the kernel's type that it stands for, or the
+-- address of its name, or the first refusal is the error. `IsResolved` relates the externs before
+-- and after, and `IsResolutionFault` is the first refusal.
 use Rattle.std.specs.FinMap.{FinMap, entries, from_sorted}
 use Rattle.std.specs.Iterator.{Yields}
 use Rattle.std.specs.List.{filter_map}
@@ -31,17 +33,13 @@ use Rattle.ebpf_ksyms.specs.declared.ids.ExternKind.{ExternKind}
 use Rattle.ebpf_ksyms.specs.declared.ids.ExternKind.TheVariants.{Function, Variable}
 use Rattle.ebpf_model.specs.declared.symbol.ExternDesc.{ExternDesc}
 
--- ---- what an extern with a type is looked up by, and what the kernel has for it
+-- ---- the key of an extern with a type
 
--- whether a function or a variable is looked up, its name, and the type id of the local one
+-- the kind that is looked up, the name, and the id of the type that the local FUNC or VAR holds
 pub record LookupKeyValue : Type 0 where
   pub kind : ExternKind
   pub name : List ℕ
   pub type_id : ℕ
-
--- ---- what the kernel has for an extern with a type
-
--- ---- what is looked up
 
 -- A function is looked up by its name before the first three underscores, a variable by its whole
 -- name.
@@ -55,9 +53,9 @@ abbrev pub btf_kind_of : ExternKind → BtfKind
 btf_kind_of Function = kinds.Func
 btf_kind_of Variable = kinds.Var
 
--- ---- what is found
+-- ---- the type of the kernel
 
--- the kernel's FUNC or VAR of the name, with the lowest id
+-- the lowest id of the kernel's FUNCs or VARs of a name
 abbrev pub KernelIds : Type 0
 KernelIds = ExternKind → List ℕ → Option ℕ
 
@@ -78,7 +76,7 @@ are_types_compatible local type_id kernel id =
 abbrev pub Outcome : Type 0
 Outcome = Result (Option ℕ) KsymsError
 
--- what stays unresolved where it is weak
+-- no id where the extern is weak, else the error
 abbrev pub unless_weak : Bool → KsymsError → Outcome
 unless_weak true e = Ok None
 unless_weak false e = Err e
@@ -113,7 +111,7 @@ at_type local kernel kernel_ids name weak (Err e) = Err (of_type_fault e)
 at_type local kernel kernel_ids name weak (Ok t) =
     at_lookup_key local kernel kernel_ids name weak (lookup_key_of name t)
 
--- ---- what stands at each extern after resolution, and why it is refused
+-- ---- externs
 
 abbrev pub Externs : Type 0
 Externs = FinMap text_cmp ExternDesc
@@ -134,7 +132,7 @@ is_typeless d = not d.is_resolved && not d.is_typed
 
 -- ---- externs with a type
 
--- what the kernel has for an extern; `kernel_ids` gives ids of the kernel by name
+-- the outcome of an extern with a type; `kernel_ids` gives ids of the kernel by name
 abbrev pub outcome_by : KernelIds → TypeInfo → Option TypeInfo → NamedExtern → Outcome
 outcome_by kernel_ids local None e = unless_weak e.1.is_weak TypedKsymRequiresKernelBtf
 outcome_by kernel_ids local (Some kernel) e =
@@ -173,7 +171,7 @@ wanted_names es = filter_map wanted_name es
 
 -- ---- all externs
 
--- what stands at a name afterwards
+-- an extern after resolution
 abbrev pub resolved_as : TypeInfo → Option TypeInfo → List Line → NamedExtern → ExternDesc
 resolved_as local kernel lines e =
     if is_typed e.1 then with_outcome e.1 (outcome local kernel e)

@@ -1,13 +1,13 @@
 -- What contracts of private functions name and no public one: entries, ids and addresses in tables.
 use Rattle.std.specs.Prelude.{ℕ, List, [], ◌∷◌, Option, Some, None, if◌then◌else◌, ◌≡◌, true, ◌++◌}
-use Rattle.std.specs.Prelude.{length, map, nat_lt, Ok, Err, option_map}
+use Rattle.std.specs.Prelude.{length, map, nat_lt, Ok, Err, option_map, ⊤}
 use Rattle.std.specs.FinMap.{empty}
 use Rattle.std.specs.List.{position_from, filter_map}
 use Rattle.std.specs.Option.{option_and_then}
 use Rattle.std.specs.BTreeMap.{get_by}
 use Rattle.std.specs.Iterator.{Yields}
 use Rattle.std.specs.Result.{result_ok}
-use Rattle.ebpf_base.specs.Faults.{or_else, fault_of}
+use Rattle.ebpf_base.specs.Faults.{or_else}
 use Rattle.ebpf_base.specs.Maps.{put_all, text_cmp}
 use Rattle.ebpf_btf.specs.Steps.{type_at}
 use Rattle.ebpf_btf.specs.Strings.{is_named, is_text, id_of_name, type_name, text_at}
@@ -20,8 +20,11 @@ use Rattle.ebpf_ksyms.specs.Addresses.{is_one_of, Item, Line, address_of, line_o
 use Rattle.ebpf_ksyms.specs.Addresses.{address_if_named, stated_fault, Counts, address_and_name}
 use Rattle.ebpf_ksyms.specs.Addresses.{stated_address}
 use Rattle.ebpf_ksyms.specs.Externs.{NamedExtern, Externs, is_typeless, left_without, with_address}
-use Rattle.ebpf_ksyms.specs.Externs.{is_typed, outcome_by, with_outcome, KernelIds, lookup_key_of}
+use Rattle.ebpf_ksyms.specs.Externs.{is_typed, outcome_by, KernelIds, lookup_key_of}
+use Rattle.ebpf_ksyms.specs.Outcomes.{address_result, refusal_of, typed_result, with_result}
 use Rattle.ebpf_ksyms.specs.declared.error.KsymsError.{KsymsError}
+use Rattle.ebpf_ksyms.specs.declared.extern_outcome.ExternResult.{ExternResult}
+use Rattle.ebpf_ksyms.specs.declared.extern_outcome.ExternResult.TheVariants.{Kept, Untyped}
 use Rattle.ebpf_ksyms.specs.declared.ids.NameIds.{NameIds}
 use Rattle.ebpf_ksyms.specs.declared.ids.ExternKind.{ExternKind}
 use Rattle.ebpf_ksyms.specs.declared.ids.ExternKind.TheVariants.{Function, Variable}
@@ -193,11 +196,27 @@ lookup_name local e =
 abbrev pub lookup_names : TypeInfo → List NamedExtern → List (List ℕ)
 lookup_names local es = filter_map (lookup_name local) es
 
+-- the result of an extern by its type, as `result_by` gives it; others are kept
+abbrev pub result_with_type : KernelIds → TypeInfo → Option TypeInfo → NamedExtern → ExternResult
+result_with_type kernel_ids local kernel e =
+    if is_typed e.1 then typed_result (outcome_by kernel_ids local kernel e) else Kept
+
 -- what stands at an extern, and why it is refused
 abbrev pub typed_as : KernelIds → TypeInfo → Option TypeInfo → NamedExtern → ExternDesc
 typed_as kernel_ids local kernel e =
-    if is_typed e.1 then with_outcome e.1 (outcome_by kernel_ids local kernel e) else e.1
+    with_result e.1 (result_with_type kernel_ids local kernel e)
 
 abbrev pub typed_refused : KernelIds → TypeInfo → Option TypeInfo → NamedExtern → Option KsymsError
-typed_refused kernel_ids local kernel e =
-    if is_typed e.1 then fault_of (outcome_by kernel_ids local kernel e) else None
+typed_refused kernel_ids local kernel e = refusal_of (result_with_type kernel_ids local kernel e)
+
+-- the ids of the names that some externs are looked up by; without a kernel none is asked
+abbrev pub KnowsIds : TypeInfo → Option TypeInfo → List NamedExtern → (List ℕ → Option NameIds)
+    → Type 0
+KnowsIds local None es known = ⊤
+KnowsIds local (Some kernel) es known =
+    (q : List ℕ) → known q ≡ only_at (lookup_names local es) (ids_in kernel) q
+
+-- the result of an extern without a type, where a table of addresses may be there
+abbrev pub untyped_by : Option (NameTable (Option ℕ)) → NamedExtern → ExternResult
+untyped_by None e = Untyped
+untyped_by (Some addresses) e = address_result e (known_at (value_named addresses) e.0)

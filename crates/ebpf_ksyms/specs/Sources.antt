@@ -1,4 +1,5 @@
--- Resolution with lines from a reader or from a text.
+-- Resolution with the lines of a reader or of a text in memory. A line ends before a byte 0x0a.
+-- Where the bytes are known, so are the lines, and the externs after resolution or the refusal.
 use Rattle.std.specs.Prelude.{◌≡◌, ℕ, ◌<◌, ◌⊎◌, ⊤, Bool, true, false, List, [], ◌∷◌, ◌++◌, length}
 use Rattle.std.specs.Prelude.{map, Option, Some, None, Ok, IfSome, Err, MatchBool, MatchOption}
 use Rattle.std.specs.Prelude.{string_bytes, if◌then◌else◌}

@@ -1,15 +1,19 @@
 //! Externs with what the kernel has for them: an id by its types, or an address by its lines.
 
 ghost use Rattle.std.specs.Option.{option_copied};
-ghost use Rattle.std.specs.Prelude.{◌≡◌, IfOk, unwrap_or};
-ghost use Rattle.ebpf_base.specs.Faults.{Gives, Refuses, first_some};
+ghost use Rattle.std.specs.Prelude.{◌≡◌, IfOk, IfErr, false, unwrap_or};
+ghost use Rattle.ebpf_base.specs.Faults.{Gives, Refuses, fault_of, first_some};
 ghost use Rattle.ebpf_base.specs.Maps.{lent_bytes};
 ghost use Rattle.ebpf_btf.specs.Types.{type_word};
-ghost use Rattle.ebpf_ksyms.specs.Externs.{kernel_ids_of, outcome_by, renewed, at_found, compared_outcome, are_types_compatible, not_alike, not_found};
+ghost use Rattle.ebpf_ksyms.specs.Externs.{kernel_ids_of, outcome_by, renewed, at_found, compared_outcome, are_types_compatible, left_without, not_alike, not_found, with_address};
 ghost use Rattle.ebpf_ksyms.specs.Addresses.{is_ksyms_memory};
-ghost use Rattle.ebpf_ksyms.specs.PrivateContracts.{id_at, value_named, lookup_name, lookup_names, typed_as, typed_refused, known_at, typeless_as, typeless_refused};
+ghost use Rattle.ebpf_ksyms.specs.Outcomes.{address_result, outcome_with, outcomes_with, refusal_of, result_by, with_result};
+ghost use Rattle.ebpf_ksyms.specs.PrivateContracts.{id_at, value_named, lookup_name, lookup_names, typed_as, typed_refused, known_at, typeless_as, typeless_refused, KnowsIds, result_with_type, untyped_by};
+ghost use Rattle.ebpf_ksyms.specs.declared.error.KsymsError.TheVariants.{OutOfMemory};
+ghost use Rattle.ebpf_ksyms.specs.declared.extern_outcome.ExternResult.TheVariants.{Refused, Kept};
 
 use crate::error::KsymsError;
+use crate::extern_outcome::{ExternOutcome, ExternResult};
 use crate::ids::{ExternKind, LookupKey, NameIds, id_at, ids_in, lookup_key_of};
 use crate::named::{NameTable, NamedExtern};
 use ebpf_base::Text;
@@ -130,7 +134,59 @@ fn outcome(
     outcome_by_key(alloc, local, kernel, ids, is_weak, &lookup_key)
 }
 
-/// An extern with what the kernel has for it, where it has a type.
+/// The result `Refused` for an error.
+///
+/// # Errors
+///
+/// `AllocError`: the error is `OutOfMemory`.
+fn refused(error: KsymsError) -> Result<ExternResult, AllocError>
+    ensures stated { IfOk result (λ r. r ≡ Refused error) }
+    ensures other { IfOk result (λ _. is_ksyms_memory error ≡ false) }
+{
+    match error {
+        KsymsError::OutOfMemory => Err(AllocError),
+        other => Ok(ExternResult::Refused(other)),
+    }
+}
+
+/// The result of an extern by its type. One that is resolved or has no type is `Kept`.
+fn typed_result(
+    alloc: Global,
+    local: &Btf,
+    kernel: Option<&Btf>,
+    ids: &NameTable<'_, NameIds>,
+    entry: &NamedExtern<'_>,
+) -> Result<ExternResult, AllocError>
+    ensures { IfOk result (λ r.
+        r
+        ≡ result_with_type (id_at (value_named ids.now)) local.now (option_copied kernel.entry)
+        entry.now) }
+{
+    if !entry.is_typed() {
+        return Ok(ExternResult::Kept);
+    }
+    match outcome(alloc, local, kernel, ids, entry) {
+        Ok(Some(id)) => Ok(ExternResult::Id(id)),
+        Ok(None) => Ok(ExternResult::Absent),
+        Err(error) => refused(error),
+    }
+}
+
+/// An extern with a result written. A refusal is the error.
+fn entry_after<'a>(
+    entry: &NamedExtern<'a>,
+    found: ExternResult,
+) -> Result<NamedExtern<'a>, KsymsError>
+    ensures stands { IfOk result (λ e. e ≡ (entry.now.0, with_result entry.now.1 found)) }
+    ensures fault { fault_of result ≡ refusal_of found }
+{
+    match found {
+        ExternResult::Refused(error) => Err(error),
+        other => Ok(entry.with(other.apply_to(entry.desc))),
+    }
+}
+
+/// An extern with its result by its type.
 fn typed_entry<'a>(
     alloc: Global,
     local: &Btf,
@@ -149,22 +205,10 @@ fn typed_entry<'a>(
         (typed_refused (id_at (value_named ids.now)) local.now (option_copied kernel.entry)
         entry.now) }
 {
-    if !entry.is_typed() {
-        return Ok(entry.with(entry.desc));
+    match typed_result(alloc, local, kernel, ids, entry) {
+        Ok(found) => entry_after(entry, found),
+        Err(_) => Err(KsymsError::OutOfMemory),
     }
-    let desc = match outcome(alloc, local, kernel, ids, entry) {
-        Ok(Some(id)) => ExternDesc {
-            kernel_btf_id: Some(id),
-            is_resolved: true,
-            ..entry.desc
-        },
-        Ok(None) => ExternDesc {
-            ksym_addr: Some(0),
-            ..entry.desc
-        },
-        Err(error) => return Err(error),
-    };
-    Ok(entry.with(desc))
 }
 
 /// All externs, those with a type as `typed_entry` gives them.
@@ -225,6 +269,25 @@ fn lookup_names<'a>(
     Ok(names)
 }
 
+/// The ids in the kernel's types of the names that externs are looked up by, by one pass over these types. Without a
+/// kernel no name has any.
+fn ids_of<'a>(
+    alloc: Global,
+    local: &Btf,
+    kernel: Option<&Btf>,
+    all: &[NamedExtern<'a>],
+) -> Result<NameTable<'a, NameIds>, KsymsError>
+    ensures known { IfOk result (λ ids.
+        KnowsIds local.now (option_copied kernel.entry) all.now (value_named ids)) }
+    ensures memory { IfErr result (λ e. e ≡ OutOfMemory) }
+{
+    let Some(types) = kernel else {
+        return Ok(NameTable::new(alloc, &[], NameIds::NONE)?);
+    };
+    let names = lookup_names(alloc, local, all)?;
+    ids_in(alloc, types, &names)
+}
+
 /// All externs, those with a type with what the kernel has for them. Its types are read once.
 pub fn with_types<'a>(
     alloc: Global,
@@ -242,13 +305,8 @@ pub fn with_types<'a>(
         (typed_refused (kernel_ids_of (option_copied kernel.entry)) local.now
         (option_copied kernel.entry)) all.now) }
 {
-    let Some(types) = kernel else {
-        let ids = NameTable::new(alloc, &[], NameIds::NONE)?;
-        return typed_entries(alloc, local, None, &ids, all);
-    };
-    let names = lookup_names(alloc, local, all)?;
-    let ids = ids_in(alloc, types, &names)?;
-    typed_entries(alloc, local, Some(types), &ids, all)
+    let ids = ids_of(alloc, local, kernel, all)?;
+    typed_entries(alloc, local, kernel, &ids, all)
 }
 
 /// The address of a name, where there is one.
@@ -256,6 +314,45 @@ fn known_at(addresses: &NameTable<'_, Option<u64>>, name: &str) -> Option<u64>
     ensures { result ≡ known_at (value_named addresses.now) name.now }
 {
     addresses.get(name)?
+}
+
+/// The result of an extern without a type, by the addresses of names.
+fn address_result(
+    alloc: Global,
+    addresses: &NameTable<'_, Option<u64>>,
+    entry: &NamedExtern<'_>,
+) -> Result<ExternResult, AllocError>
+    ensures { IfOk result (λ r.
+        r ≡ address_result entry.now (known_at (value_named addresses.now) entry.now.0)) }
+{
+    match known_at(addresses, entry.name) {
+        Some(address) => Ok(ExternResult::Address(address)),
+        None if entry.desc.is_weak => Ok(ExternResult::Absent),
+        None => Ok(ExternResult::Refused(KsymsError::VariableNotFound {
+            name: Text::from_str(alloc, entry.name)?,
+        })),
+    }
+}
+
+/// An extern with the address of its name.
+fn entry_by_address<'a>(
+    alloc: Global,
+    addresses: &NameTable<'_, Option<u64>>,
+    entry: &NamedExtern<'a>,
+) -> Result<NamedExtern<'a>, KsymsError>
+    ensures stands { IfOk result (λ e.
+        e
+        ≡ (
+          entry.now.0,
+          with_address entry.now.1 (known_at (value_named addresses.now) entry.now.0),
+        )) }
+    ensures fault { Refuses is_ksyms_memory result
+        (left_without (known_at (value_named addresses.now) entry.now.0) entry.now) }
+{
+    match address_result(alloc, addresses, entry) {
+        Ok(found) => entry_after(entry, found),
+        Err(_) => Err(KsymsError::OutOfMemory),
+    }
 }
 
 /// An extern with its address, where it has no type.
@@ -272,23 +369,7 @@ fn typeless_entry<'a>(
     if !entry.is_typeless() {
         return Ok(entry.with(entry.desc));
     }
-    let desc = match known_at(addresses, entry.name) {
-        Some(address) => ExternDesc {
-            ksym_addr: Some(address),
-            is_resolved: true,
-            ..entry.desc
-        },
-        None if entry.desc.is_weak => ExternDesc {
-            ksym_addr: Some(0),
-            ..entry.desc
-        },
-        None => {
-            return Err(KsymsError::VariableNotFound {
-                name: Text::from_str(alloc, entry.name)?,
-            });
-        }
-    };
-    Ok(entry.with(desc))
+    entry_by_address(alloc, addresses, entry)
 }
 
 /// All externs, those without a type with their addresses.
@@ -311,4 +392,122 @@ pub fn with_addresses<'a>(
         new.push(with_addresses)?;
     }
     Ok(new)
+}
+
+/// The result of an extern. Without addresses one that needs them is `Untyped`.
+fn extern_result(
+    alloc: Global,
+    local: &Btf,
+    kernel: Option<&Btf>,
+    ids: &NameTable<'_, NameIds>,
+    addresses: Option<&NameTable<'_, Option<u64>>>,
+    entry: &NamedExtern<'_>,
+) -> Result<ExternResult, AllocError>
+    ensures { IfOk result (λ r.
+        r
+        ≡ result_by (id_at (value_named ids.now)) (untyped_by (option_copied addresses.entry))
+        local.now (option_copied kernel.entry) entry.now) }
+{
+    if entry.is_typed() {
+        return typed_result(alloc, local, kernel, ids, entry);
+    }
+    if !entry.is_typeless() {
+        return Ok(ExternResult::Kept);
+    }
+    match addresses {
+        Some(addresses) => address_result(alloc, addresses, entry),
+        None => Ok(ExternResult::Untyped),
+    }
+}
+
+/// The outcome of an extern with a result.
+fn outcome_of_entry<'a>(entry: &NamedExtern<'a>, found: ExternResult) -> ExternOutcome<'a>
+    ensures { result ≡ outcome_with (λ _. found) entry.now }
+{
+    ExternOutcome {
+        name: entry.name,
+        desc: entry.desc,
+        result: found,
+    }
+}
+
+/// The outcome of an extern, under its name. Without addresses one that needs them is `Untyped`.
+fn named_outcome<'a>(
+    alloc: Global,
+    local: &Btf,
+    kernel: Option<&Btf>,
+    ids: &NameTable<'_, NameIds>,
+    addresses: Option<&NameTable<'_, Option<u64>>>,
+    entry: &NamedExtern<'a>,
+) -> Result<ExternOutcome<'a>, AllocError>
+    ensures { IfOk result (λ o.
+        o
+        ≡ outcome_with
+        (result_by (id_at (value_named ids.now)) (untyped_by (option_copied addresses.entry))
+        local.now (option_copied kernel.entry)) entry.now) }
+{
+    let result = extern_result(alloc, local, kernel, ids, addresses, entry)?;
+    Ok(outcome_of_entry(entry, result))
+}
+
+/// The outcome of each extern by the ids of names. Without addresses those that need them are `Untyped`.
+fn outcomes_by_ids<'a>(
+    alloc: Global,
+    local: &Btf,
+    kernel: Option<&Btf>,
+    ids: &NameTable<'_, NameIds>,
+    addresses: Option<&NameTable<'_, Option<u64>>>,
+    all: &[NamedExtern<'a>],
+) -> Result<Vec<ExternOutcome<'a>>, AllocError>
+    ensures { IfOk result (λ outcomes.
+        outcomes.items
+        ≡ outcomes_with
+        (result_by (id_at (value_named ids.now)) (untyped_by (option_copied addresses.entry))
+        local.now (option_copied kernel.entry)) all.now) }
+{
+    let mut outcomes = Vec::with_capacity(alloc, all.len())?;
+    for entry in all {
+        let outcome = named_outcome(alloc, local, kernel, ids, addresses, entry)?;
+        outcomes.push(outcome)?;
+    }
+    Ok(outcomes)
+}
+
+/// The outcome of each extern. The kernel's types are read once. Without addresses those that need them are `Untyped`.
+pub fn outcomes_of<'a>(
+    alloc: Global,
+    local: &Btf,
+    kernel: Option<&Btf>,
+    addresses: Option<&NameTable<'_, Option<u64>>>,
+    all: &[NamedExtern<'a>],
+) -> Result<Vec<ExternOutcome<'a>>, AllocError>
+    ensures { IfOk result (λ outcomes.
+        outcomes.items
+        ≡ outcomes_with
+        (result_by (kernel_ids_of (option_copied kernel.entry))
+        (untyped_by (option_copied addresses.entry)) local.now
+        (option_copied kernel.entry)) all.now) }
+{
+    match ids_of(alloc, local, kernel, all) {
+        Ok(ids) => outcomes_by_ids(alloc, local, kernel, &ids, addresses, all),
+        Err(_) => Err(AllocError),
+    }
+}
+
+/// The outcome `Kept` of each extern.
+pub fn kept_outcomes<'a>(
+    alloc: Global,
+    all: &[NamedExtern<'a>],
+) -> Result<Vec<ExternOutcome<'a>>, AllocError>
+    ensures { IfOk result (λ outcomes. outcomes.items ≡ outcomes_with (λ _. Kept) all.now) }
+{
+    let mut outcomes = Vec::with_capacity(alloc, all.len())?;
+    for entry in all {
+        outcomes.push(ExternOutcome {
+            name: entry.name,
+            desc: entry.desc,
+            result: ExternResult::Kept,
+        })?;
+    }
+    Ok(outcomes)
 }

@@ -109,7 +109,7 @@ fn extern_kind_of(kind: BtfKind) -> Option<ExternKind>
     }
 }
 
-/// The ids with one more, which doesn't count where a lower one is there.
+/// The ids with one more. It doesn't count if its kind has an id, which is lower.
 fn with_lower_id(ids: NameIds, kind: ExternKind, id: u32) -> NameIds
     ensures { result ≡ with_lower_id ids kind id }
 {
@@ -125,7 +125,7 @@ fn with_lower_id(ids: NameIds, kind: ExternKind, id: u32) -> NameIds
     }
 }
 
-/// Takes one more type of the kernel into account, whose id is above those before.
+/// Adds one more type of the kernel, whose id is above those before.
 fn add_kernel_type(
     kernel: &Btf,
     ids: &mut NameTable<'_, NameIds>,
@@ -153,7 +153,11 @@ fn add_kernel_type(
     Ok(())
 }
 
-/// The lowest ids of some names, by one pass over the kernel's types.
+/// The lowest ids of some names, by one pass over the kernel's types. Without names nothing is read.
+///
+/// # Errors
+///
+/// `OutOfMemory`: out of memory, and no other.
 pub fn ids_in<'a>(
     alloc: Global,
     kernel: &Btf,

@@ -20,9 +20,12 @@ use std::alloc::{AllocError, Global};
 use std::marker::Model;
 use std::{io, str};
 
-/// The lines of a text in memory, as `BufRead::lines` gives those of a reader: each ends before a byte 0x0a, which it is
-/// without, as it is without a byte 0x0d right before that; what stands behind the last 0x0a is a line where it is not
-/// empty. An item is an error exactly where the line is not UTF-8, of kind `InvalidData`, and where memory was refused.
+/// The lines of a text in memory, as `BufRead::lines` gives those of a reader.
+///
+/// A line ends before a byte 0x0a and is without it. It is also without a byte 0x0d right before that. The bytes behind
+/// the last 0x0a are a line unless they are none.
+///
+/// An item is an error if its line is not UTF-8, of kind `InvalidData`, or if memory is refused. Else it is the line.
 #[derive(Drop)]
 pub struct TextLines<'a> {
     alloc: Global,
@@ -38,7 +41,7 @@ impl<'a> Model for TextLines<'a> {
     ghost view = { λ s. record { text = s.rest.now; error = s.not_utf8 } };
 }
 
-/// The first and the third word of a line, where it has three: the word that states an address, and a name.
+/// The address word and the name of a line: its first and its third word. `None` of fewer than three words.
 pub fn address_and_name(line: &str) -> Option<(&str, &str)>
     ensures { option_map (λ pair. (pair.0.now, pair.1.now)) result ≡ address_and_name line.now }
 {
@@ -49,14 +52,14 @@ pub fn address_and_name(line: &str) -> Option<(&str, &str)>
     Some((address, name))
 }
 
-/// The address that a word states.
+/// The address that a word states: hexadecimal digits after an optional plus. `None` of other words and from 2^64 on.
 pub fn stated_address(word: &str) -> Option<u64>
     ensures { result ≡ stated_address word.now }
 {
     u64::from_str_radix(word, 16).ok()
 }
 
-/// The place of the first byte 0x0a.
+/// The index of the first byte 0x0a.
 fn line_end(text: &[u8]) -> Option<usize>
     ensures place { result ≡ position (λ b. b == 10) text.now }
     ensures inside { IfSome result (λ at. at < length text.now) }
@@ -74,7 +77,7 @@ fn without_return(line: &[u8]) -> &[u8]
     }
 }
 
-/// The first line of a text, and what stands behind it.
+/// The first line of a text, and the text behind it. `None` of the empty text.
 fn first_line(text: &[u8]) -> Option<(&[u8], &[u8])>
     ensures { MatchOption result (lines text.now ≡ []) (λ cut.
         lines text.now ≡ cut.0.now ∷ lines cut.1.now) }
@@ -86,7 +89,7 @@ fn first_line(text: &[u8]) -> Option<(&[u8], &[u8])>
     }
 }
 
-/// The string of a line, or the error where it is not UTF-8.
+/// The string of a line. One that is not UTF-8 gives the error.
 fn item_of(alloc: Global, line: &[u8], not_utf8: io::Error) -> io::Result<String>
     ensures { IsItem not_utf8 line.now result }
 {
@@ -182,7 +185,7 @@ fn new_address(
     }
 }
 
-/// Takes a line into account.
+/// Adds the address that a line states of a wanted name.
 fn add_line(
     alloc: Global,
     addresses: &mut NameTable<'_, Option<u64>>,
@@ -205,7 +208,7 @@ fn add_line(
     Ok(())
 }
 
-/// Takes an item into account: a line, or the error in its place.
+/// Adds the address of an item: that of a line, or the error in its place.
 fn add_item(
     alloc: Global,
     addresses: &mut NameTable<'_, Option<u64>>,

@@ -16,8 +16,8 @@ use std::alloc::{AllocError, Global};
 use std::collections::BTreeMap;
 use std::marker::Model;
 
-/// Values by name, in the order of the names, so that no names make a look-up slow. Their marks tell most other names from
-/// them at once.
+/// Values by name. A filter of the names' hashes refuses most other names at once, and a tree in the order of the names
+/// finds the rest, whatever the names.
 #[derive(Drop)]
 pub struct NameTable<'a, V> {
     marks: Vec<bool>,
@@ -42,7 +42,7 @@ impl<'a> Model for NamedExtern<'a> {
     ghost view = { λ e. (e.name.now, e.desc) };
 }
 
-/// Marks of some names.
+/// The filter of some names.
 fn marks_of(alloc: Global, names: &[&str]) -> Result<Vec<bool>, AllocError>
     ensures { IfOk result (λ marks.
         All (λ name. is_hash_marked marks.items (name_hash name.now) ≡ true) names.now) }
@@ -71,7 +71,7 @@ impl<'a, V: Copy + Drop> NameTable<'a, V> {
         Ok(NameTable { marks, values })
     }
 
-    /// The value at a name.
+    /// The value at a name. `None` of other names.
     #[tactic(auto, unfolding(crate::specs::PrivateContracts::value_named))]
     pub fn get(&self, name: &str) -> Option<V>
         ensures { result ≡ value_named self.now name.now }
@@ -82,7 +82,7 @@ impl<'a, V: Copy + Drop> NameTable<'a, V> {
         self.values.get(name).copied()
     }
 
-    /// Puts a value in the place of the one at a name. No memory is taken; where none is there all stays.
+    /// Replaces the value at a name, without memory. If the name has none, the table stays.
     pub fn replace(&mut self, name: &str, value: V)
         ensures { (q : List ℕ)
             → value_named self.new q

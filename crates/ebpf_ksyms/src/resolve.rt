@@ -1,4 +1,4 @@
-//! The resolution of externs, and where the lines of a kernel's symbols come from.
+//! The resolution of externs, and the sources of the lines of a kernel's symbols.
 
 ghost use Rattle.std.specs.Iterator.{IsFinite};
 ghost use Rattle.std.specs.Option.{option_copied};
@@ -21,7 +21,11 @@ use std::io::{self, BufRead};
 pub trait SymbolSource: Drop {
     ghost source: { Self → Source };
 
-    /// The externs of an object, resolved with these lines, as `resolve_lines` does.
+    /// Resolves the externs of an object with these lines.
+    ///
+    /// # Errors
+    ///
+    /// Those of `resolve_lines` in its order.
     fn resolve(
         self,
         alloc: Global,
@@ -54,8 +58,8 @@ impl<R: BufRead + Drop> SymbolSource for R {
     }
 }
 
-/// A text in memory that has the lines of a kernel's symbols. Where they are read from it, as `resolve_text` does, the one
-/// access error is of a line that is not UTF-8; a reader may refuse at any line.
+/// A text in memory with the lines of a kernel's symbols, as `/proc/kallsyms` has them. Its only access error is that
+/// of a line that is not UTF-8.
 #[derive(Clone, Copy)]
 pub struct SymbolText<'a>(pub &'a [u8]);
 
@@ -73,30 +77,37 @@ impl<'a> SymbolSource for SymbolText<'a> {
     }
 }
 
-/// The externs of an object, resolved with a kernel's types and the lines that tell its addresses.
+/// Resolves the externs of an object with a kernel's types and the lines of its symbols.
 ///
-/// Without the object's types `btf`, and where all are resolved already, the externs stay. Of the others, those with a
-/// type are looked up in `kernel_btf`: a function by its name before `___`, a variable by its whole name, each the one with
-/// the lowest id; it gets that id where the types that both hold fit, as `types_are_compatible` says of them once they
-/// are resolved. Those without a type are looked up in the lines, if there are any. Each line is cut into words at runs of
-/// the bytes 0x09, 0x0a, 0x0c, 0x0d and 0x20; its first word is an address, in hexadecimal digits after an optional
-/// plus, and its third word a name. Lines of fewer words and of other names are passed over, and so is the address 0. A
-/// weak extern that is not found gets the address 0 and stays unresolved. All lines are read, one at a time.
+/// - A resolved extern stays. Without the object's types `btf` all externs stay.
+/// - An extern with a type is looked up in `kernel_btf`, a function by its name before `___`, a variable by its whole
+///   name. The type with the lowest id counts. The extern gets this id if both types, resolved, are compatible
+///   (`types_are_compatible`).
+/// - An extern without a type is looked up in the lines, and gets the address that they state of its name.
+/// - A weak extern that is not found gets the address 0 and stays unresolved.
 ///
-/// The refusal is the first, of the externs with a type in the order of their names, then of the lines, then of the
-/// names that are left:
+/// Each line is cut into words at runs of the bytes 0x09, 0x0a, 0x0c, 0x0d and 0x20. Its first word is an address in
+/// hexadecimal digits, after an optional plus. Its third word is a name. Lines of fewer words, lines of other names and
+/// the address 0 are passed over. All lines are read, one at a time. If no extern needs the lines, none is read.
 ///
-/// - `TypedKsymRequiresKernelBtf` of an extern with a type that is not weak, without `kernel_btf`;
-/// - `BtfError` where a type that is needed can't be found or resolved, or the comparison refuses;
-/// - `InvalidExternType` of a type that is neither a FUNC nor a VAR;
-/// - `FunctionNotFound`, `VariableNotFound`, `IncompatibleFunctionSignature` and `IncompatibleVariableType`, with the
-///   name that was looked up, of an extern that is not weak;
-/// - `KallsymsAccessError` of a line that could not be read;
-/// - `KallsymsParseError` of a line with a wanted name and no address below 2^64;
-/// - `AmbiguousResolution` of a second address of a name;
-/// - `VariableNotFound` of a name without an address that is not weak.
+/// `typed_outcomes` and `extern_outcomes` give each extern's outcome, also behind one that is refused.
 ///
-/// `OutOfMemory` where memory is refused, also where a line's error says so.
+/// # Errors
+///
+/// First come the externs with a type in the order of their names, next the lines, last the externs without a type in
+/// the order of their names. Names in errors are those that were looked up.
+///
+/// - `TypedKsymRequiresKernelBtf`: an extern with a type is not weak, and there is no `kernel_btf`.
+/// - `BtfError`: a type that is needed can't be found or resolved, or the comparison refuses.
+/// - `InvalidExternType`: the type of an extern is neither a FUNC nor a VAR.
+/// - `FunctionNotFound`, `VariableNotFound`: the kernel's types lack an extern that is not weak.
+/// - `IncompatibleFunctionSignature`, `IncompatibleVariableType`: an extern that is not weak has another type in the
+///   kernel.
+/// - `KallsymsAccessError`: a line could not be read.
+/// - `KallsymsParseError`: a line has a wanted name and no address below 2^64.
+/// - `AmbiguousResolution`: a line has a second address of a wanted name.
+/// - `VariableNotFound`: the lines lack an extern that is not weak.
+/// - `OutOfMemory`: out of memory, also if a line's error says so.
 pub fn resolve_lines<I: Iterator<Item = io::Result<String>> + Drop>(
     alloc: Global,
     btf: Option<&Btf>,
@@ -124,8 +135,12 @@ pub fn resolve_lines<I: Iterator<Item = io::Result<String>> + Drop>(
     Ok(externs_from(alloc, &after)?)
 }
 
-/// `resolve_lines` with the lines of a reader: its bytes up to each byte 0x0a. A read that fails, and a line that is
-/// not UTF-8, is `KallsymsAccessError`. Where no line is wanted nothing is read.
+/// Resolves the externs of an object as `resolve_lines` does, with the lines of a reader. A line ends before a byte
+/// 0x0a.
+///
+/// # Errors
+///
+/// Those of `resolve_lines` in its order. `KallsymsAccessError`: a read fails, or a line is not UTF-8.
 pub fn resolve_externs<R: BufRead + Drop>(
     alloc: Global,
     btf: Option<&Btf>,
@@ -144,9 +159,13 @@ pub fn resolve_externs<R: BufRead + Drop>(
     resolve_lines(alloc, btf, externs, kernel_btf, kallsyms.lines(alloc))
 }
 
-/// `resolve_lines` with the lines of a text in memory, split as `resolve_externs` splits those of a reader. It is refused
-/// exactly where there is a fault: `KallsymsAccessError` is that of the first line that is not UTF-8, where lines are
-/// wanted, of kind `InvalidData`.
+/// Resolves the externs of an object as `resolve_lines` does, with the lines of a text in memory. They are those that
+/// `resolve_externs` reads of the same bytes.
+///
+/// # Errors
+///
+/// Those of `resolve_lines` in its order, and exactly where there is a fault. `KallsymsAccessError`: lines are read,
+/// and one is not UTF-8. The kind of its error is `InvalidData`.
 pub fn resolve_text(
     alloc: Global,
     btf: Option<&Btf>,

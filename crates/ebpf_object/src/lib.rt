@@ -6,6 +6,7 @@ pub mod core_relo;
 pub mod elf;
 mod explained;
 mod explained_parse;
+pub mod extern_outcomes;
 pub mod extern_types;
 pub mod laws;
 mod link_map;
