@@ -52,7 +52,8 @@ pub record IsWrittenOver (kernel : TypeInfo) (slots : Written) (o unlinked : Obj
   pub slots_put : HasSlots slots o relocated
   pub passes : IsWritten kernel relocated unlinked
 
--- an object that was written, where no extern is lacking; nothing is said of one that a pass refuses
+-- an object that was written, where no extern is lacking; nothing is said of one that a pass
+-- refuses
 abbrev pub IsWrittenAs : TypeInfo → Written → Object → Result WrittenObject PrepareError → Type 0
 IsWrittenAs kernel slots o (Ok w) = w.lacking ≡ [] → IsWrittenOver kernel slots o w.object
 IsWrittenAs kernel slots o (Err e) = ⊤
