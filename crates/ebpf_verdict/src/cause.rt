@@ -3,7 +3,6 @@
 ghost use Rattle.std.specs.Prelude.{◌≡◌, slice_get};
 ghost use Rattle.std.specs.Option.{option_copied};
 ghost use Rattle.ebpf_load_info.specs.KernelNumbers.{knows_helper, knows_map_type};
-ghost use Rattle.ebpf_parts.specs.Slots.{is_poisoned};
 ghost use Rattle.ebpf_verdict.specs.Causes.{call_cause, calls_by_number, helper_cause, map_cause, map_number, names_map, slot_cause, type_cause};
 
 use ebpf_load_info::KernelNumbers;
@@ -34,13 +33,6 @@ pub enum Cause {
         /// The number of its type.
         number: u32,
     },
-}
-
-/// Whether a CO-RE relocation poisoned a slot.
-pub fn is_poisoned(slot: bpf_insn) -> bool
-    ensures { result ≡ is_poisoned slot }
-{
-    slot.code == CALL && slot.regs == 0 && slot.off == 0 && slot.imm == POISON_CALL
 }
 
 /// Whether a slot calls a helper function, or an extern that is absent, by a number.
@@ -76,7 +68,7 @@ fn call_cause(kernel: &KernelNumbers<'_>, number: u32) -> Option<Cause>
 pub fn slot_cause(kernel: &KernelNumbers<'_>, slot: bpf_insn) -> Option<Cause>
     ensures { result ≡ slot_cause kernel.now slot }
 {
-    if is_poisoned(slot) {
+    if slot.is_poisoned() {
         return Some(Cause::Poisoned);
     }
     if !calls_by_number(slot) {
