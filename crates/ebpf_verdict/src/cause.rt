@@ -8,7 +8,7 @@ ghost use Rattle.ebpf_verdict.specs.Causes.{call_cause, calls_by_number, helper_
 use ebpf_load_info::KernelNumbers;
 use ebpf_parts::insn::bpf_insn;
 use ebpf_parts::insn::opcodes::{
-    ABSENT_KFUNC, BPF_PSEUDO_MAP_FD, BPF_PSEUDO_MAP_VALUE, CALL, LD_IMM64, POISON_CALL,
+    ABSENT_KFUNC, BPF_PSEUDO_MAP_FD, BPF_PSEUDO_MAP_VALUE, CALL, LD_IMM64,
 };
 
 /// The cause for which a slot of a finished program fails on a kernel.
