@@ -123,7 +123,14 @@ fn first_missing(
     }
 }
 
-/// Refuses descriptors that have to be complete and aren't.
+/// Refuses descriptors that have to be complete and aren't. `prepare` calls it before all passes.
+///
+/// # Errors
+///
+/// - `UnknownMap`: with the first of `Object::unknown_maps`, where nothing may be missing.
+/// - `MissingDescriptor`: with the map of the first slot of `Object::maps_without_descriptors`, where nothing may be missing
+///   and each name has a map.
+/// - `OutOfMemory`: an allocation failed.
 pub fn check_descriptors(
     object: &Object,
     descriptors: Option<&[(&str, i32)]>,
@@ -181,7 +188,7 @@ pub fn relocate_complete_maps(
 }
 
 /// Refuses an object with a call of an extern that no pass has written, where its programs are to be linked and nothing
-/// may be missing. `run_stages` calls it before programs are linked.
+/// may be missing. `prepare` calls it before programs are linked.
 ///
 /// # Errors
 ///

@@ -11,7 +11,7 @@ ghost use Rattle.ebpf_parts.specs.declared.parse_mode.ParseMode.TheVariants.{Str
 
 use crate::clones::{copy_keys, copy_names};
 pub use crate::explained::Explained;
-pub use crate::missing::{check_externs, relocate_complete_maps};
+pub use crate::missing::{check_descriptors, check_externs, relocate_complete_maps};
 use crate::object::Object;
 pub use crate::own_maps::{numbered_descriptors, relocate_own_maps};
 pub use crate::prepare_error::PrepareError;
