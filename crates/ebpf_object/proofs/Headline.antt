@@ -1,5 +1,5 @@
 -- What the passes make of an object, from what each leaves.
-use Rattle.std.proofs.Common.{◌≡◌, ℕ, Bool, true, false, cond, ◌||◌, List, [], ◌∷◌, map, Option, Some, None, refl, sym, ap, ◌∙◌, subst, inl, inr}
+use Rattle.std.proofs.Common.{◌≡◌, ℕ, Bool, true, false, cond, ◌||◌, List, [], ◌∷◌, map, Option, Some, None, refl, sym, ap, ◌∙◌, subst}
 use Rattle.std.proofs.lemmas.Option.{none-some}
 use Rattle.std.proofs.lemmas.Bool.{MatchBool-at_true, MatchBool-at_false}
 use Rattle.std.specs.Prelude.{MatchBool, Ok, option_map, if◌then◌else◌, slice_get, unwrap_or}
@@ -100,13 +100,11 @@ module _ (unlinked o : Object) (key : FunctionKey) (i : ℕ) (carrying : bpf_ins
       ∙ is
 
   in_copy : (text_sections : TextSections) → IsCopiedTo text_sections unlinked o key i at place → slot_in o at place ≡ Some carrying
-  in_copy text_sections c = elim c.kept [
-    | inl plain ↦ ap (λ (f : Option Function). slice_get (own_slots f) place) c.there
-        ∙ ap (λ (p : ℕ). slice_get c.linked.instructions p) c.here
-        ∙ copied_slots_stay (linkable_of unlinked text_sections) at c.linked c.is key c.base i carrying c.begins
-        (ap (λ (xs : List bpf_insn). slice_get xs i) (own_body (get unlinked.functions key)) ∙ is, plain)
-    | inr same ↦ same ∙ is
-  ]
+  in_copy text_sections c =
+      ap (λ (f : Option Function). slice_get (own_slots f) place) c.there
+      ∙ ap (λ (p : ℕ). slice_get c.linked.instructions p) c.here
+      ∙ copied_slots_stay (linkable_of unlinked text_sections) at c.linked c.is key c.base i carrying c.begins
+      (ap (λ (xs : List bpf_insn). slice_get xs i) (own_body (get unlinked.functions key)) ∙ is, c.kept)
 
   by_program : (text_sections : TextSections) → Links (Some text_sections) unlinked o → (b : Bool) → is_program_key (programs_in_order unlinked.programs) at ≡ b
       → MatchBool b (IsCopiedTo text_sections unlinked o key i at place) ((at ≡ key) × (place ≡ i)) → slot_in o at place ≡ Some carrying

@@ -17,7 +17,7 @@
 -- or on a wide load, as long as the separate run hasn't left its function, and neither machine
 -- enters a function that a helper calls back. A value that doesn't exist is a poisoned slot. No
 -- public field is written by hand between the calls.
-use Rattle.std.specs.Prelude.{◌≡◌, ◌⊎◌, ℕ, ◌+◌, List, ◌∷◌, Option, Some, None, option_map, Ok}
+use Rattle.std.specs.Prelude.{◌≡◌, ℕ, ◌+◌, List, ◌∷◌, Option, Some, None, option_map, Ok}
 use Rattle.std.specs.Prelude.{if◌then◌else◌, slice_get, MatchBool}
 use Rattle.std.specs.FinMap.{get}
 use Rattle.ebpf_btf_ext.specs.ExtReading.{ExtInfo}
@@ -91,12 +91,10 @@ pub record IsAlone (inputs : RelocationInputs) (records : List (ℕ × Relocatio
       → Touches inputs record_at key i
       → slot_in unlinked key i ≡ slot_in relocated key i
 
--- Linking leaves a slot as it is: it refers to no function, or where it stands is what it was.
-abbrev pub LinkingKeeps : TextSections → Object → Object → FunctionKey → ℕ → FunctionKey → ℕ
-    → Type 0
-LinkingKeeps text_sections unlinked o key i at place =
-    ((separate_functions (linkable_of unlinked text_sections)).reference key i ≡ Nothing) ⊎
-    (slot_in o at place ≡ slot_in unlinked key i)
+-- Linking leaves a slot as it is, since it refers to no function.
+abbrev pub LinkingKeeps : TextSections → Object → FunctionKey → ℕ → Type 0
+LinkingKeeps text_sections unlinked key i =
+    (separate_functions (linkable_of unlinked text_sections)).reference key i ≡ Nothing
 
 -- Slot i of the function at a key stands, once its program is linked, in the linked function at
 -- another key: that is the program's own function or has a copy of it, which begins at a base.
@@ -110,7 +108,7 @@ pub record IsCopiedTo (text_sections : TextSections) (unlinked o : Object) (key 
   pub begins : BeginsAt (separate_functions (linkable_of unlinked text_sections)) (at ∷ is.order)
       key base
   pub here : place ≡ base + i
-  pub kept : LinkingKeeps text_sections unlinked o key i at place
+  pub kept : LinkingKeeps text_sections unlinked key i
 
 -- Where slot i of the function at a key stands in the finished object, unchanged by linking: in
 -- each program's function, once programs are linked, and in its own function where that is no
