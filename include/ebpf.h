@@ -64,6 +64,8 @@ enum ebpf_number {
 	EBPF_NO_EXTERN = 8,    /* no kconfig extern has the name */
 	EBPF_WRONG_LENGTH = 9, /* the data has another length than that of the map */
 	EBPF_NO_VARIABLE = 10, /* no symbol has the name, or its bytes are not inside the data of a map */
+	EBPF_PASS_MADE = 11,   /* the pass is the last one that was made of the object */
+	EBPF_PASS_ORDER = 12,  /* a later pass was made of the object; for what sets something, any pass was made */
 
 	/* 100 to 199: the file can't be parsed, or an object can't be changed by values */
 	EBPF_PARSE_FILE = 100,	  /* + ebpf_file_fault: the file is no ELF64 object */
@@ -485,7 +487,7 @@ uint32_t ebpf_externs(struct ebpf_handle *handle, struct ebpf_extern *rows, size
 
 /*
  * The name of the section of a program, as `ebpf_sections` lists it. *len is its length: 0 if the section is not
- * listed. Numbers: 1, 2, 3, 4.
+ * listed. Numbers: 1, 3, 4.
  */
 uint32_t ebpf_program_section(struct ebpf_handle *handle, const char *name, size_t name_len, char *text, size_t room,
 			      size_t *len);
@@ -593,12 +595,15 @@ uint32_t ebpf_func_infos(struct ebpf_handle *handle, const char *name, size_t na
 uint32_t ebpf_line_infos(struct ebpf_handle *handle, const char *name, size_t name_len, struct ebpf_line_info *rows,
 			 size_t room, size_t *count);
 
-/* ---- what is done to an object, before and beside its relocation */
+/*
+ * ---- what is set of an object, before its first pass. After a pass each of these calls is refused (12), and changes
+ * nothing
+ */
 
 /*
  * Writes the value of a variable into the data of the map that holds it. Of symbols with the name the one with the
  * greatest index counts. If there is none and `must_exist` is 0, the object is unchanged and the number is 0. A name
- * that is no UTF-8 is refused before all other faults of the value. Numbers: 2, 3, 6, 150 to 152.
+ * that is no UTF-8 is refused before all other faults of the value. Numbers: 2, 3, 6, 12, 150 to 152.
  */
 uint32_t ebpf_set_value(struct ebpf_handle *handle, const char *name, size_t name_len, const uint8_t *value,
 			size_t value_len, uint32_t must_exist, char *about, size_t about_room,
@@ -619,7 +624,7 @@ struct ebpf_value {
  *    the bytes, then the first fault in byte order of the names.
  *  - The table of the variables' names is made once for all rows. Each `ebpf_set_value` makes it anew, so 1,000 of
  *    those cost 1,000 tables.
- * Numbers: 2, 3, 6, 7, 150 to 152.
+ * Numbers: 2, 3, 6, 7, 12, 150 to 152.
  */
 uint32_t ebpf_set_values(struct ebpf_handle *handle, const struct ebpf_value *rows, size_t rows_len, const char *text,
 			 size_t text_len, const uint8_t *bytes, size_t bytes_len, char *about, size_t about_room,
@@ -686,7 +691,7 @@ uint32_t ebpf_kconfig_number(struct ebpf_handle *handle, const char *name, size_
  *  - An object without such externs is unchanged.
  *  - Faults of rows come first, those of names before those of values. Then come those of the list, then the first of
  *    the values.
- * Numbers: 2, 3, 6, 7, 900 to 906.
+ * Numbers: 2, 3, 6, 7, 12, 900 to 906.
  */
 uint32_t ebpf_define_kconfig(struct ebpf_handle *handle, const struct ebpf_value *rows, size_t rows_len,
 			     const char *text, size_t text_len, const uint8_t *bytes, size_t bytes_len, char *about,
@@ -711,23 +716,33 @@ uint32_t ebpf_variables(struct ebpf_handle *handle, struct ebpf_variable *rows, 
 uint32_t ebpf_value(struct ebpf_handle *handle, const char *name, size_t name_len, uint8_t *value, size_t room,
 		    size_t *len);
 
-/* Sets all of the initial data of a map, which has as many bytes as before. Numbers: 3, 5, 9. */
+/* Sets all of the initial data of a map, which has as many bytes as before. Numbers: 3, 5, 9, 12. */
 uint32_t ebpf_set_map_data(struct ebpf_handle *handle, const char *name, size_t name_len, const uint8_t *data,
 			   size_t data_len);
 
-/* Sets how many entries a map holds at most. Numbers: 3, 5. */
+/* Sets how many entries a map holds at most. Numbers: 3, 5, 12. */
 uint32_t ebpf_set_max_entries(struct ebpf_handle *handle, const char *name, size_t name_len, uint32_t entries);
 
-/* Sets the size of a map's values, in bytes. Numbers: 3, 5. */
+/* Sets the size of a map's values, in bytes. Numbers: 3, 5, 12. */
 uint32_t ebpf_set_value_size(struct ebpf_handle *handle, const char *name, size_t name_len, uint32_t size);
 
 /*
  * If `has_newer` is 0, replaces newer helper functions in every function. 4 (probe_read) replaces 112 and 113
- * (probe_read_user, probe_read_kernel). 45 (probe_read_str) replaces 114 and 115. Numbers: 3.
+ * (probe_read_user, probe_read_kernel). 45 (probe_read_str) replaces 114 and 115. Numbers: 3, 12.
  */
 uint32_t ebpf_sanitize(struct ebpf_handle *handle, uint32_t has_newer);
 
-/* ---- relocation, a pass at a time, in this order */
+/*
+ * ---- relocation, a pass at a time, in this order: ebpf_relocate_types, ebpf_relocate_maps, ebpf_resolve_externs,
+ * ebpf_relocate_externs, ebpf_relocate_calls; or all of them by ebpf_prepare_handle
+ *
+ * A handle knows the last pass that was made of its object. Each pass may be left out, and each is made at most once:
+ *  - The pass that was made last is refused (11). So is one that comes before it (12). Nothing is changed.
+ *  - A pass that is refused was not made, and may be made again. `ebpf_prepare_handle` begins with the first pass.
+ *  - A copy (ebpf_clone) knows what the handle knew.
+ * So, whatever calls are made with a handle and whatever they return, its slots are those of the passes that returned 0,
+ * each made once and in this order, of the object as it was when the first of them began. This is proved.
+ */
 
 /*
  * A map's name, a place in the text that is given beside the rows, and its descriptor.
@@ -743,7 +758,7 @@ struct ebpf_descriptor {
 
 /*
  * Relocates the functions to a kernel's types (CO-RE). `types` is raw BTF in the byte order that its magic number
- * states. Numbers: 2, 3, 200 to 299.
+ * states. Numbers: 2, 3, 11, 12, 200 to 299.
  */
 uint32_t ebpf_relocate_types(struct ebpf_handle *handle, const uint8_t *types, size_t types_len, char *about,
 			     size_t about_room, struct ebpf_refusal *refusal);
@@ -795,7 +810,7 @@ uint32_t ebpf_record_outcomes(struct ebpf_handle *handle, const uint8_t *types, 
 
 /*
  * Writes descriptors of maps into the slots that refer to them. A row whose name is no UTF-8, or not inside the text,
- * is refused before all other faults. Numbers: 2, 3, 6, 300 to 399.
+ * is refused before all other faults of the rows. Numbers: 2, 3, 6, 11, 12, 300 to 399.
  */
 uint32_t ebpf_relocate_maps(struct ebpf_handle *handle, const struct ebpf_descriptor *rows, size_t rows_len,
 			    const char *text, size_t text_len, char *about, size_t about_room,
@@ -803,17 +818,18 @@ uint32_t ebpf_relocate_maps(struct ebpf_handle *handle, const struct ebpf_descri
 
 /*
  * Finds the externs in a kernel's types and in its symbols, which are given as the text of /proc/kallsyms. Types of
- * length 0 are none. A line that is no UTF-8 is refused if lines are needed. Numbers: 2, 3, 200 to 219, 400 to 499.
+ * length 0 are none. A line that is no UTF-8 is refused if lines are needed.
+ * Numbers: 2, 3, 11, 12, 200 to 219, 400 to 499.
  */
 uint32_t ebpf_resolve_externs(struct ebpf_handle *handle, const uint8_t *types, size_t types_len,
 			      const uint8_t *symbols, size_t symbols_len, char *about, size_t about_room,
 			      struct ebpf_refusal *refusal);
 
-/* Writes what is known of the externs into the slots that refer to them. Numbers: 2, 3, 500 to 599. */
+/* Writes what is known of the externs into the slots that refer to them. Numbers: 2, 3, 11, 12, 500 to 599. */
 uint32_t ebpf_relocate_externs(struct ebpf_handle *handle, char *about, size_t about_room,
 			       struct ebpf_refusal *refusal);
 
-/* Links each program with the functions that it reaches. Numbers: 2, 3, 600 to 699. */
+/* Links each program with the functions that it reaches. Numbers: 2, 3, 11, 600 to 699. */
 uint32_t ebpf_relocate_calls(struct ebpf_handle *handle, char *about, size_t about_room, struct ebpf_refusal *refusal);
 
 /* A copy of a function in a linked program. Slots are counted, each 8 bytes. */
@@ -866,9 +882,10 @@ uint32_t ebpf_prepare(const uint8_t *file, size_t file_len, const uint8_t *types
 		      size_t about_room, struct ebpf_refusal *refusal);
 
 /*
- * Runs the same passes over the object that the handle holds. Its values and sizes may be set before. So make the maps
- * as `ebpf_maps` lists them, and prepare the same object with their descriptors. The rows' names are looked at first,
- * then the types are read. After a refusal the object is unchanged. Numbers: 2, 3, 6, 200 to 299, .., 600 to 699.
+ * Runs the same passes over the object that the handle holds, of which no pass was made. Its values and sizes may be set
+ * before. So make the maps as `ebpf_maps` lists them, and prepare the same object with their descriptors. The rows'
+ * names are looked at first, then the types are read. After a refusal the object is unchanged, and no pass was made.
+ * Numbers: 2, 3, 6, 11, 12, 200 to 299, .., 600 to 699.
  */
 uint32_t ebpf_prepare_handle(struct ebpf_handle *handle, const uint8_t *types, size_t types_len,
 			     const struct ebpf_descriptor *rows, size_t rows_len, const char *text, size_t text_len,

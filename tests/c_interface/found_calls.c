@@ -180,7 +180,7 @@ uint32_t link_as_told(const struct made_on *on)
 		told[at] = told_of(on, text + rows[at].name_at, rows[at].name_len);
 	*on->refusal = unwritten();
 	number = ebpf_relocate_calls(on->object, on->about, on->about_room, on->refusal);
-	if (on->object->at)
+	if (on->object->at && number != EBPF_PASS_MADE)
 		need_same_refusal(on, told, counts.rows, number);
 	for (size_t at = 0; at < counts.rows; at++) {
 		if (number == EBPF_DONE)

@@ -22,8 +22,8 @@ fn write_both(first: &[u8], second: &[u8], out: &mut [u8], count: &mut usize) ->
     DONE
 }
 
-/// Writes the name of a number, as `parse: BadMagic`: the stage and the fault. Each number of a stage and a fault that can
-/// be its has one, whether a call answers it or not; of every other number it is empty.
+/// Writes the name of a number, as `parse: BadMagic`: the stage and the fault. Each number of a stage and a fault that
+/// can be its has one, whether a call answers it or not; of every other number it is empty.
 ///
 /// # Answers
 ///
