@@ -5,21 +5,27 @@
  * alone. docs/C.md goes from a file to a running program.
  *
  * What a caller upholds, in one place. No call checks these, and no call asks for more:
- *  - No pointer is null, and each is aligned for its type. This holds for a count of 0 too: any address of the caller's
- *    own serves there. A count is no greater than what lies behind its pointer.
+ *  - A count is no greater than what lies behind its pointer, and each pointer is aligned for its type.
  *  - What a call may write (each pointer without const) overlaps nothing else that the call is given. No other thread
- *    touches it during the call. What is const does not change during the call.
- *  - What lies behind each pointer is initialised, also where the call writes it (calloc, or = {0}).
- *  - A handle is all zero (EBPF_CLOSED_HANDLE), which is closed, or holds what a call left in it. It is moved and never
- *    copied: of two copies of an open one, one alone is used from then on. It stays on the thread that opened it. One
- *    call at a time uses it. `ebpf_close` is what frees it.
+ *    touches it during the call. What is const does not change during the call: that goes for a mapped file too.
+ *  - A handle is what `ebpf_open`, `ebpf_open_broad`, `ebpf_open_within`, `ebpf_prepare` or `ebpf_clone` gave. It stays on
+ *    the thread that made it, and one call at a time uses it, also where it is const: a call takes the object out of
+ *    the handle while it runs. `ebpf_close` frees it, once.
  *  - malloc, realloc and free are of one allocator and align as the C standard says. No call is made from a signal
  *    handler, nor in the child that a process with threads forked.
- * Beyond these anything may be passed: any bytes as a file, types, symbols, names or values, a closed handle, any
- * numbers.
+ * Beyond these anything may be passed: any bytes as a file, types, symbols, names or values, any numbers.
+ *  - A null array is empty, whatever its count. A null handle is a closed one (3). A null count, row or refusal is not
+ *    written. Only where a handle is given out (`struct ebpf_handle **`) the pointer is not null.
+ *  - Memory that a call writes needn't be initialised. The calls that give out a handle write it, and never read it: it
+ *    is NULL where the call refuses.
+ *  - No pointer that a call is given is kept behind the call. The object has copies of all that it needs.
+ *
+ * The calls are two layers. The lower one is proved; its names begin with `exact_`, and it takes no null pointer and a
+ * handle in the caller's own memory. The upper one is C (c/calls.c, c/handles.c): it puts an empty array, a closed handle
+ * or a place of its own where a pointer is null, makes and frees the block that a handle is, and changes nothing else.
  *
  * A call returns a number. 0 (EBPF_DONE): all is done and written, exactly as the call's text says. Any other number:
- * handles and buffers are unchanged, but for what is said here of counts and of `about`.
+ * handles and buffers are unchanged, but for what is said here of counts and of `about`, and for a handle that is given out.
  *
  * Counts: with the numbers 0 and 1 (EBPF_ROOM), a call's counts (*len, *count, *counts, *is_found) say how much there
  * is. So they say how much room is needed. With any other number they are unchanged.
@@ -37,6 +43,15 @@
 
 #include <stddef.h>
 #include <stdint.h>
+
+/* What compilers check: that an answer is looked at, and where a pointer is not null. EBPF_NO_CHECKS leaves it out. */
+#if defined(__GNUC__) && !defined(EBPF_NO_CHECKS)
+#define EBPF_CHECKED __attribute__((warn_unused_result))
+#define EBPF_NONNULL(number) __attribute__((nonnull(number)))
+#else
+#define EBPF_CHECKED
+#define EBPF_NONNULL(number)
+#endif
 
 #ifdef __cplusplus
 extern "C" {
@@ -56,7 +71,7 @@ enum ebpf_number {
 	EBPF_DONE = 0,
 	EBPF_ROOM = 1,	       /* a buffer is too small; the counts say how much is needed */
 	EBPF_MEMORY = 2,       /* out of memory */
-	EBPF_CLOSED = 3,       /* the handle is closed */
+	EBPF_CLOSED = 3,       /* the handle is closed: it is NULL */
 	EBPF_NO_PROGRAM = 4,   /* no program has the name */
 	EBPF_NO_MAP = 5,       /* no map has the name */
 	EBPF_BAD_NAME = 6,     /* a name that is given is no UTF-8, or a row's name is not inside the text beside it */
@@ -264,18 +279,15 @@ uint32_t ebpf_number_name(uint32_t number, char *text, size_t room, size_t *len)
 
 /* ---- handles */
 
-struct ebpf_handle {
-	void *at; /* the library's */
-};
-
-#define EBPF_CLOSED_HANDLE { 0 }
+/* An object that was opened, and the last pass that was made of it. */
+struct ebpf_handle;
 
 /*
- * Opens the object of a file by strict parsing. With the number 0 an object that the handle held before is closed.
+ * Opens the object of a file by strict parsing, and gives out a handle: *handle is NULL with other numbers than 0.
  * Numbers: 2, 100 to 199.
  */
-uint32_t ebpf_open(const uint8_t *file, size_t file_len, struct ebpf_handle *handle, char *about, size_t about_room,
-		   struct ebpf_refusal *refusal);
+EBPF_CHECKED uint32_t ebpf_open(const uint8_t *file, size_t file_len, struct ebpf_handle **handle, char *about,
+			size_t about_room, struct ebpf_refusal *refusal) EBPF_NONNULL(3);
 
 /*
  * Opens the object of a file by lenient parsing. It differs from `ebpf_open`:
@@ -289,26 +301,27 @@ uint32_t ebpf_open(const uint8_t *file, size_t file_len, struct ebpf_handle *han
  *  - A file for another machine is refused (158): e_machine is neither EM_BPF nor EM_NONE.
  * For any other file that `ebpf_open` accepts, both give the same object. Numbers: 2, 100 to 199.
  */
-uint32_t ebpf_open_broad(const uint8_t *file, size_t file_len, struct ebpf_handle *handle, char *about,
-			 size_t about_room, struct ebpf_refusal *refusal);
+EBPF_CHECKED uint32_t ebpf_open_broad(const uint8_t *file, size_t file_len, struct ebpf_handle **handle,
+			char *about, size_t about_room, struct ebpf_refusal *refusal) EBPF_NONNULL(3);
 
 /*
  * Opens the object of a file from strangers: a file of some kilobytes can make an object of gigabytes. Parsing is
  * strict if `lenient` is 0, else lenient. The call counts the bytes that the object would own before it makes the object.
  * Above `most_bytes` it returns 157. docs/BEHAVIOUR.md, 'Limits', says what counts. Numbers: 2, 100 to 199.
  */
-uint32_t ebpf_open_within(const uint8_t *file, size_t file_len, uint32_t lenient, uint64_t most_bytes,
-			  struct ebpf_handle *handle, char *about, size_t about_room, struct ebpf_refusal *refusal);
+EBPF_CHECKED uint32_t ebpf_open_within(const uint8_t *file, size_t file_len, uint32_t lenient, uint64_t most_bytes,
+			struct ebpf_handle **handle, char *about, size_t about_room,
+			struct ebpf_refusal *refusal) EBPF_NONNULL(5);
 
-/* Makes `copy` hold a copy of what `handle` holds; what `copy` held before is closed. Numbers: 2, 3. */
-uint32_t ebpf_clone(struct ebpf_handle *handle, struct ebpf_handle *copy);
+/* Gives out a handle with a copy of what `handle` holds: *copy is NULL with other numbers than 0. Numbers: 2, 3. */
+EBPF_CHECKED uint32_t ebpf_clone(const struct ebpf_handle *handle, struct ebpf_handle **copy) EBPF_NONNULL(2);
 
-/* Frees what the handle holds, and leaves it closed. A closed one stays so. */
+/* Frees the handle and what it holds. NULL is freed as `free` does: nothing happens. */
 void ebpf_close(struct ebpf_handle *handle);
 
 /* ---- what an object has */
 
-struct ebpf_info {
+struct ebpf_object_info {
 	uint32_t is_big_endian;	     /* 1 or 0: the byte order of the file */
 	uint32_t has_kernel_version; /* 1 or 0 */
 	uint32_t kernel_version;     /* 0 where the file states none */
@@ -318,13 +331,13 @@ struct ebpf_info {
 };
 
 /* Numbers: 3. */
-uint32_t ebpf_info(struct ebpf_handle *handle, struct ebpf_info *info);
+EBPF_CHECKED uint32_t ebpf_info(const struct ebpf_handle *handle, struct ebpf_object_info *info);
 
 /* The license, without its zero byte. *len is its length. Numbers: 1, 3. */
-uint32_t ebpf_license(struct ebpf_handle *handle, char *text, size_t room, size_t *len);
+EBPF_CHECKED uint32_t ebpf_license(const struct ebpf_handle *handle, char *text, size_t room, size_t *len);
 
 /* Sets *states to 1 if the file has a section `license`, else to 0: the license is then the default GPL. Numbers: 3. */
-uint32_t ebpf_states_license(struct ebpf_handle *handle, uint32_t *states);
+EBPF_CHECKED uint32_t ebpf_states_license(const struct ebpf_handle *handle, uint32_t *states);
 
 /*
  * How many rows a list has, and how many bytes its text has. A row is one C struct of a list. Its name is a place and a
@@ -406,14 +419,15 @@ struct ebpf_program {
  *    sections with one name.
  * Numbers: 1, 2, 3.
  */
-uint32_t ebpf_programs(struct ebpf_handle *handle, struct ebpf_program *rows, size_t rows_room, char *text,
-		       size_t text_room, struct ebpf_counts *counts);
+EBPF_CHECKED uint32_t ebpf_programs(const struct ebpf_handle *handle, struct ebpf_program *rows, size_t rows_room,
+			char *text, size_t text_room, struct ebpf_counts *counts);
 
 /*
  * Writes the row of the program of a name, as `ebpf_programs` lists it. The text that the row points into is `name`
  * itself (`name_at` is 0). No list is made. Numbers: 3, 4.
  */
-uint32_t ebpf_find_program(struct ebpf_handle *handle, const char *name, size_t name_len, struct ebpf_program *row);
+EBPF_CHECKED uint32_t ebpf_find_program(const struct ebpf_handle *handle, const char *name, size_t name_len,
+			struct ebpf_program *row);
 
 /* what the section that declares a map is for */
 enum ebpf_section_kind {
@@ -457,18 +471,19 @@ struct ebpf_map {
  *  - An inner map has its ids by the same types and rules.
  * Numbers: 1, 2, 3.
  */
-uint32_t ebpf_maps(struct ebpf_handle *handle, struct ebpf_map *rows, size_t rows_room, char *text, size_t text_room,
-		   struct ebpf_counts *counts);
+EBPF_CHECKED uint32_t ebpf_maps(const struct ebpf_handle *handle, struct ebpf_map *rows, size_t rows_room,
+			char *text, size_t text_room, struct ebpf_counts *counts);
 
 /*
  * Writes the row of the map of a name, as `ebpf_maps` lists it. The text that the row points into is `name` itself
  * (`name_at` is 0). No list is made. Numbers: 3, 5.
  */
-uint32_t ebpf_find_map(struct ebpf_handle *handle, const char *name, size_t name_len, struct ebpf_map *row);
+EBPF_CHECKED uint32_t ebpf_find_map(const struct ebpf_handle *handle, const char *name, size_t name_len,
+			struct ebpf_map *row);
 
 /* The initial data of a map. *len is its length. Numbers: 1, 3, 5. */
-uint32_t ebpf_map_data(struct ebpf_handle *handle, const char *name, size_t name_len, uint8_t *data, size_t room,
-		       size_t *len);
+EBPF_CHECKED uint32_t ebpf_map_data(const struct ebpf_handle *handle, const char *name, size_t name_len,
+			uint8_t *data, size_t room, size_t *len);
 
 struct ebpf_extern {
 	size_t name_at, name_len; /* its name's place in the text */
@@ -482,15 +497,15 @@ struct ebpf_extern {
 };
 
 /* Lists the externs: a row each, their names one after the other in `text`. Numbers: 1, 2, 3. */
-uint32_t ebpf_externs(struct ebpf_handle *handle, struct ebpf_extern *rows, size_t rows_room, char *text,
-		      size_t text_room, struct ebpf_counts *counts);
+EBPF_CHECKED uint32_t ebpf_externs(const struct ebpf_handle *handle, struct ebpf_extern *rows, size_t rows_room,
+			char *text, size_t text_room, struct ebpf_counts *counts);
 
 /*
  * The name of the section of a program, as `ebpf_sections` lists it. *len is its length: 0 if the section is not
  * listed. Numbers: 1, 3, 4.
  */
-uint32_t ebpf_program_section(struct ebpf_handle *handle, const char *name, size_t name_len, char *text, size_t room,
-			      size_t *len);
+EBPF_CHECKED uint32_t ebpf_program_section(const struct ebpf_handle *handle, const char *name, size_t name_len,
+			char *text, size_t room, size_t *len);
 
 struct ebpf_section {
 	size_t name_at, name_len; /* its name's place in the text */
@@ -502,8 +517,8 @@ struct ebpf_section {
  * section says what the program is attached to. Of two sections with one name the later one is listed.
  * Numbers: 1, 2, 3.
  */
-uint32_t ebpf_sections(struct ebpf_handle *handle, struct ebpf_section *rows, size_t rows_room, char *text,
-		       size_t text_room, struct ebpf_counts *counts);
+EBPF_CHECKED uint32_t ebpf_sections(const struct ebpf_handle *handle, struct ebpf_section *rows, size_t rows_room,
+			char *text, size_t text_room, struct ebpf_counts *counts);
 
 /* ---- what a loader hands to the kernel, laid out as its own structs */
 
@@ -515,8 +530,8 @@ uint32_t ebpf_sections(struct ebpf_handle *handle, struct ebpf_section *rows, si
  *  - Ids and offsets of strings stay. So those of func info, line info and maps fit.
  * *len is the length of the types: 0 if the file has no .BTF. Numbers: 1, 2, 700 to 799.
  */
-uint32_t ebpf_kernel_types(const uint8_t *file, size_t file_len, uint8_t *types, size_t room, size_t *len, char *about,
-			   size_t about_room, struct ebpf_refusal *refusal);
+EBPF_CHECKED uint32_t ebpf_kernel_types(const uint8_t *file, size_t file_len, uint8_t *types, size_t room,
+			size_t *len, char *about, size_t about_room, struct ebpf_refusal *refusal);
 
 /* what is known of the type that a program is attached to */
 enum ebpf_target_answer {
@@ -538,8 +553,8 @@ enum ebpf_target_answer {
  *  - Of types of one name the first is found.
  * Numbers: 2, 6, 200 to 219.
  */
-uint32_t ebpf_attach_target(const char *section_name, size_t section_name_len, const uint8_t *types, size_t types_len,
-			    uint32_t *answer, uint32_t *type_id);
+EBPF_CHECKED uint32_t ebpf_attach_target(const char *section_name, size_t section_name_len, const uint8_t *types,
+			size_t types_len, uint32_t *answer, uint32_t *type_id);
 
 /* An initial value of a map of maps or of an array of programs. */
 struct ebpf_initial_slot {
@@ -557,9 +572,9 @@ struct ebpf_initial_slot {
  *  - A loader writes the maps once all are made, and the programs once all are loaded.
  * Numbers: 1, 2, 3, 800 to 899.
  */
-uint32_t ebpf_initial_slots(const uint8_t *file, size_t file_len, struct ebpf_handle *handle,
-			    struct ebpf_initial_slot *rows, size_t rows_room, char *text, size_t text_room,
-			    struct ebpf_counts *counts, char *about, size_t about_room, struct ebpf_refusal *refusal);
+EBPF_CHECKED uint32_t ebpf_initial_slots(const uint8_t *file, size_t file_len, const struct ebpf_handle *handle,
+			struct ebpf_initial_slot *rows, size_t rows_room, char *text, size_t text_room,
+			struct ebpf_counts *counts, char *about, size_t about_room, struct ebpf_refusal *refusal);
 
 /* struct bpf_insn */
 struct ebpf_insn {
@@ -584,16 +599,16 @@ struct ebpf_line_info {
 };
 
 /* The slots of a program as they stand. *count is how many. Numbers: 1, 3, 4. */
-uint32_t ebpf_slots(struct ebpf_handle *handle, const char *name, size_t name_len, struct ebpf_insn *slots,
-		    size_t room, size_t *count);
+EBPF_CHECKED uint32_t ebpf_slots(const struct ebpf_handle *handle, const char *name, size_t name_len,
+			struct ebpf_insn *slots, size_t room, size_t *count);
 
 /* A program's func info, by slot. *count is how many. Numbers: 1, 3, 4. */
-uint32_t ebpf_func_infos(struct ebpf_handle *handle, const char *name, size_t name_len, struct ebpf_func_info *rows,
-			 size_t room, size_t *count);
+EBPF_CHECKED uint32_t ebpf_func_infos(const struct ebpf_handle *handle, const char *name, size_t name_len,
+			struct ebpf_func_info *rows, size_t room, size_t *count);
 
 /* A program's line info, by slot. *count is how many. Numbers: 1, 3, 4. */
-uint32_t ebpf_line_infos(struct ebpf_handle *handle, const char *name, size_t name_len, struct ebpf_line_info *rows,
-			 size_t room, size_t *count);
+EBPF_CHECKED uint32_t ebpf_line_infos(const struct ebpf_handle *handle, const char *name, size_t name_len,
+			struct ebpf_line_info *rows, size_t room, size_t *count);
 
 /*
  * ---- what is set of an object, before its first pass. After a pass each of these calls is refused (12), and changes
@@ -605,12 +620,12 @@ uint32_t ebpf_line_infos(struct ebpf_handle *handle, const char *name, size_t na
  * greatest index counts. If there is none and `must_exist` is 0, the object is unchanged and the number is 0. A name
  * that is no UTF-8 is refused before all other faults of the value. Numbers: 2, 3, 6, 12, 150 to 152.
  */
-uint32_t ebpf_set_value(struct ebpf_handle *handle, const char *name, size_t name_len, const uint8_t *value,
-			size_t value_len, uint32_t must_exist, char *about, size_t about_room,
+EBPF_CHECKED uint32_t ebpf_set_value(struct ebpf_handle *handle, const char *name, size_t name_len,
+			const uint8_t *value, size_t value_len, uint32_t must_exist, char *about, size_t about_room,
 			struct ebpf_refusal *refusal);
 
 /* A variable's name and its value: places in the text and in the bytes that are given beside the rows. */
-struct ebpf_value {
+struct ebpf_value_row {
 	size_t name_at, name_len;
 	size_t value_at, value_len;
 	uint32_t must_exist; /* 0: the row is passed over where no symbol has the name */
@@ -626,9 +641,9 @@ struct ebpf_value {
  *    those cost 1,000 tables.
  * Numbers: 2, 3, 6, 7, 12, 150 to 152.
  */
-uint32_t ebpf_set_values(struct ebpf_handle *handle, const struct ebpf_value *rows, size_t rows_len, const char *text,
-			 size_t text_len, const uint8_t *bytes, size_t bytes_len, char *about, size_t about_room,
-			 struct ebpf_refusal *refusal);
+EBPF_CHECKED uint32_t ebpf_set_values(struct ebpf_handle *handle, const struct ebpf_value_row *rows,
+			size_t rows_len, const char *text, size_t text_len, const uint8_t *bytes, size_t bytes_len,
+			char *about, size_t about_room, struct ebpf_refusal *refusal);
 
 /* what a kconfig extern holds */
 enum ebpf_kconfig_kind {
@@ -651,9 +666,9 @@ struct ebpf_kconfig_extern {
  * Lists the kconfig externs (`extern .. __kconfig`): a row each, their names one after the other in `text`. They are in
  * the order in which the object's types name them, and not by name. Numbers: 1, 2, 3, 900 to 903.
  */
-uint32_t ebpf_kconfig(struct ebpf_handle *handle, struct ebpf_kconfig_extern *rows, size_t rows_room, char *text,
-		      size_t text_room, struct ebpf_counts *counts, char *about, size_t about_room,
-		      struct ebpf_refusal *refusal);
+EBPF_CHECKED uint32_t ebpf_kconfig(const struct ebpf_handle *handle, struct ebpf_kconfig_extern *rows,
+			size_t rows_room, char *text, size_t text_room, struct ebpf_counts *counts, char *about,
+			size_t about_room, struct ebpf_refusal *refusal);
 
 /*
  * Writes the value of a kconfig extern by a kernel's configuration. `config` is its text: /proc/config.gz or
@@ -665,9 +680,9 @@ uint32_t ebpf_kconfig(struct ebpf_handle *handle, struct ebpf_kconfig_extern *ro
  *  - The first extern of the name counts.
  * Numbers: 1, 2, 3, 8, 900 to 903, 907, 908.
  */
-uint32_t ebpf_kconfig_value(struct ebpf_handle *handle, const char *name, size_t name_len, const char *config,
-			    size_t config_len, uint8_t *value, size_t room, size_t *len, uint32_t *is_found,
-			    char *about, size_t about_room, struct ebpf_refusal *refusal);
+EBPF_CHECKED uint32_t ebpf_kconfig_value(const struct ebpf_handle *handle, const char *name, size_t name_len,
+			const char *config, size_t config_len, uint8_t *value, size_t room, size_t *len,
+			uint32_t *is_found, char *about, size_t about_room, struct ebpf_refusal *refusal);
 
 /*
  * Writes a number as the value of a kconfig extern: what the loader knows of the kernel. *len is the value's length.
@@ -677,9 +692,9 @@ uint32_t ebpf_kconfig_value(struct ebpf_handle *handle, const char *name, size_t
  *  - The first extern of the name counts.
  * Numbers: 1, 2, 3, 8, 900 to 903, 907, 908.
  */
-uint32_t ebpf_kconfig_number(struct ebpf_handle *handle, const char *name, size_t name_len, uint64_t number,
-			     uint8_t *value, size_t room, size_t *len, char *about, size_t about_room,
-			     struct ebpf_refusal *refusal);
+EBPF_CHECKED uint32_t ebpf_kconfig_number(const struct ebpf_handle *handle, const char *name, size_t name_len,
+			uint64_t number, uint8_t *value, size_t room, size_t *len, char *about, size_t about_room,
+			struct ebpf_refusal *refusal);
 
 /*
  * Adds the map `.kconfig`, whose data are the values of the kconfig externs, and makes their symbols variables of it.
@@ -693,9 +708,9 @@ uint32_t ebpf_kconfig_number(struct ebpf_handle *handle, const char *name, size_
  *    the values.
  * Numbers: 2, 3, 6, 7, 12, 900 to 906.
  */
-uint32_t ebpf_define_kconfig(struct ebpf_handle *handle, const struct ebpf_value *rows, size_t rows_len,
-			     const char *text, size_t text_len, const uint8_t *bytes, size_t bytes_len, char *about,
-			     size_t about_room, struct ebpf_refusal *refusal);
+EBPF_CHECKED uint32_t ebpf_define_kconfig(struct ebpf_handle *handle, const struct ebpf_value_row *rows,
+			size_t rows_len, const char *text, size_t text_len, const uint8_t *bytes, size_t bytes_len,
+			char *about, size_t about_room, struct ebpf_refusal *refusal);
 
 struct ebpf_variable {
 	size_t name_at, name_len; /* its name's place in the text */
@@ -709,28 +724,30 @@ struct ebpf_variable {
  * the symbols that have bytes, all of them inside the data of a map. Of symbols of one name the one with the greatest
  * index counts. Numbers: 1, 2, 3.
  */
-uint32_t ebpf_variables(struct ebpf_handle *handle, struct ebpf_variable *rows, size_t rows_room, char *text,
-			size_t text_room, struct ebpf_counts *counts);
+EBPF_CHECKED uint32_t ebpf_variables(const struct ebpf_handle *handle, struct ebpf_variable *rows, size_t rows_room,
+			char *text, size_t text_room, struct ebpf_counts *counts);
 
 /* The bytes of a variable in the data of its map, as they are now. *len is how many. Numbers: 1, 2, 3, 10. */
-uint32_t ebpf_value(struct ebpf_handle *handle, const char *name, size_t name_len, uint8_t *value, size_t room,
-		    size_t *len);
+EBPF_CHECKED uint32_t ebpf_value(const struct ebpf_handle *handle, const char *name, size_t name_len,
+			uint8_t *value, size_t room, size_t *len);
 
 /* Sets all of the initial data of a map, which has as many bytes as before. Numbers: 3, 5, 9, 12. */
-uint32_t ebpf_set_map_data(struct ebpf_handle *handle, const char *name, size_t name_len, const uint8_t *data,
-			   size_t data_len);
+EBPF_CHECKED uint32_t ebpf_set_map_data(struct ebpf_handle *handle, const char *name, size_t name_len,
+			const uint8_t *data, size_t data_len);
 
 /* Sets how many entries a map holds at most. Numbers: 3, 5, 12. */
-uint32_t ebpf_set_max_entries(struct ebpf_handle *handle, const char *name, size_t name_len, uint32_t entries);
+EBPF_CHECKED uint32_t ebpf_set_max_entries(struct ebpf_handle *handle, const char *name, size_t name_len,
+			uint32_t entries);
 
 /* Sets the size of a map's values, in bytes. Numbers: 3, 5, 12. */
-uint32_t ebpf_set_value_size(struct ebpf_handle *handle, const char *name, size_t name_len, uint32_t size);
+EBPF_CHECKED uint32_t ebpf_set_value_size(struct ebpf_handle *handle, const char *name, size_t name_len,
+			uint32_t size);
 
 /*
  * If `has_newer` is 0, replaces newer helper functions in every function. 4 (probe_read) replaces 112 and 113
  * (probe_read_user, probe_read_kernel). 45 (probe_read_str) replaces 114 and 115. Numbers: 3, 12.
  */
-uint32_t ebpf_sanitize(struct ebpf_handle *handle, uint32_t has_newer);
+EBPF_CHECKED uint32_t ebpf_sanitize(struct ebpf_handle *handle, uint32_t has_newer);
 
 /*
  * ---- relocation, a pass at a time, in this order: ebpf_relocate_types, ebpf_relocate_maps, ebpf_resolve_externs,
@@ -760,8 +777,8 @@ struct ebpf_descriptor {
  * Relocates the functions to a kernel's types (CO-RE). `types` is raw BTF in the byte order that its magic number
  * states. Numbers: 2, 3, 11, 12, 200 to 299.
  */
-uint32_t ebpf_relocate_types(struct ebpf_handle *handle, const uint8_t *types, size_t types_len, char *about,
-			     size_t about_room, struct ebpf_refusal *refusal);
+EBPF_CHECKED uint32_t ebpf_relocate_types(struct ebpf_handle *handle, const uint8_t *types, size_t types_len,
+			char *about, size_t about_room, struct ebpf_refusal *refusal);
 
 /* the outcome of a CO-RE relocation over a kernel's types; the names of this part call it a record */
 enum ebpf_record_result {
@@ -803,34 +820,34 @@ struct ebpf_record_outcome {
  *  - An object without types or CO-RE relocations has no rows.
  * Numbers: 1, 2, 3, 200 to 219.
  */
-uint32_t ebpf_record_outcomes(struct ebpf_handle *handle, const uint8_t *types, size_t types_len,
-			      struct ebpf_record_outcome *rows, size_t rows_room, char *text, size_t text_room,
-			      struct ebpf_counts *counts, char *about, size_t about_room,
-			      struct ebpf_refusal *refusal);
+EBPF_CHECKED uint32_t ebpf_record_outcomes(const struct ebpf_handle *handle, const uint8_t *types, size_t types_len,
+			struct ebpf_record_outcome *rows, size_t rows_room, char *text, size_t text_room,
+			struct ebpf_counts *counts, char *about, size_t about_room, struct ebpf_refusal *refusal);
 
 /*
  * Writes descriptors of maps into the slots that refer to them. A row whose name is no UTF-8, or not inside the text,
  * is refused before all other faults of the rows. Numbers: 2, 3, 6, 11, 12, 300 to 399.
  */
-uint32_t ebpf_relocate_maps(struct ebpf_handle *handle, const struct ebpf_descriptor *rows, size_t rows_len,
-			    const char *text, size_t text_len, char *about, size_t about_room,
-			    struct ebpf_refusal *refusal);
+EBPF_CHECKED uint32_t ebpf_relocate_maps(struct ebpf_handle *handle, const struct ebpf_descriptor *rows,
+			size_t rows_len, const char *text, size_t text_len, char *about, size_t about_room,
+			struct ebpf_refusal *refusal);
 
 /*
  * Finds the externs in a kernel's types and in its symbols, which are given as the text of /proc/kallsyms. Types of
  * length 0 are none. A line that is no UTF-8 is refused if lines are needed.
  * Numbers: 2, 3, 11, 12, 200 to 219, 400 to 499.
  */
-uint32_t ebpf_resolve_externs(struct ebpf_handle *handle, const uint8_t *types, size_t types_len,
-			      const uint8_t *symbols, size_t symbols_len, char *about, size_t about_room,
-			      struct ebpf_refusal *refusal);
+EBPF_CHECKED uint32_t ebpf_resolve_externs(struct ebpf_handle *handle, const uint8_t *types, size_t types_len,
+			const uint8_t *symbols, size_t symbols_len, char *about, size_t about_room,
+			struct ebpf_refusal *refusal);
 
 /* Writes what is known of the externs into the slots that refer to them. Numbers: 2, 3, 11, 12, 500 to 599. */
-uint32_t ebpf_relocate_externs(struct ebpf_handle *handle, char *about, size_t about_room,
-			       struct ebpf_refusal *refusal);
+EBPF_CHECKED uint32_t ebpf_relocate_externs(struct ebpf_handle *handle, char *about, size_t about_room,
+			struct ebpf_refusal *refusal);
 
 /* Links each program with the functions that it reaches. Numbers: 2, 3, 11, 600 to 699. */
-uint32_t ebpf_relocate_calls(struct ebpf_handle *handle, char *about, size_t about_room, struct ebpf_refusal *refusal);
+EBPF_CHECKED uint32_t ebpf_relocate_calls(struct ebpf_handle *handle, char *about, size_t about_room,
+			struct ebpf_refusal *refusal);
 
 /* A copy of a function in a linked program. Slots are counted, each 8 bytes. */
 struct ebpf_code_copy {
@@ -850,9 +867,9 @@ struct ebpf_code_copy {
  *    are not looked at.
  * Numbers: 1, 2, 3, 4, 600 to 699.
  */
-uint32_t ebpf_link_map(struct ebpf_handle *handle, const char *name, size_t name_len, struct ebpf_code_copy *rows,
-		       size_t rows_room, char *text, size_t text_room, struct ebpf_counts *counts, char *about,
-		       size_t about_room, struct ebpf_refusal *refusal);
+EBPF_CHECKED uint32_t ebpf_link_map(const struct ebpf_handle *handle, const char *name, size_t name_len,
+			struct ebpf_code_copy *rows, size_t rows_room, char *text, size_t text_room,
+			struct ebpf_counts *counts, char *about, size_t about_room, struct ebpf_refusal *refusal);
 
 /* A slot of a linked program that refers to one of its copies. */
 struct ebpf_code_reference {
@@ -866,20 +883,20 @@ struct ebpf_code_reference {
  * *count is how many. Call it before `ebpf_relocate_calls`. It refuses as `ebpf_link_map` does.
  * Numbers: 1, 2, 3, 4, 600 to 699.
  */
-uint32_t ebpf_link_references(struct ebpf_handle *handle, const char *name, size_t name_len,
-			      struct ebpf_code_reference *rows, size_t room, size_t *count, char *about,
-			      size_t about_room, struct ebpf_refusal *refusal);
+EBPF_CHECKED uint32_t ebpf_link_references(const struct ebpf_handle *handle, const char *name, size_t name_len,
+			struct ebpf_code_reference *rows, size_t room, size_t *count, char *about,
+			size_t about_room, struct ebpf_refusal *refusal);
 
 /*
  * Opens the object of a file by strict parsing, and runs all of these passes over it. If `types_len` is 0, functions
- * are not relocated and externs are looked up in the symbols alone. With the number 0 an object that the handle held
- * before is closed. The rows' names are looked at first, then the types are read, then the file.
+ * are not relocated and externs are looked up in the symbols alone. It gives out a handle: *handle is NULL with other
+ * numbers than 0. The rows' names are looked at first, then the types are read, then the file.
  * Numbers: 2, 6, 100 to 199, 200 to 299, .., 600 to 699.
  */
-uint32_t ebpf_prepare(const uint8_t *file, size_t file_len, const uint8_t *types, size_t types_len,
-		      const struct ebpf_descriptor *rows, size_t rows_len, const char *text, size_t text_len,
-		      const uint8_t *symbols, size_t symbols_len, struct ebpf_handle *handle, char *about,
-		      size_t about_room, struct ebpf_refusal *refusal);
+EBPF_CHECKED uint32_t ebpf_prepare(const uint8_t *file, size_t file_len, const uint8_t *types, size_t types_len,
+			const struct ebpf_descriptor *rows, size_t rows_len, const char *text, size_t text_len,
+			const uint8_t *symbols, size_t symbols_len, struct ebpf_handle **handle, char *about,
+			size_t about_room, struct ebpf_refusal *refusal) EBPF_NONNULL(11);
 
 /*
  * Runs the same passes over the object that the handle holds, of which no pass was made. Its values and sizes may be set
@@ -887,10 +904,10 @@ uint32_t ebpf_prepare(const uint8_t *file, size_t file_len, const uint8_t *types
  * names are looked at first, then the types are read. After a refusal the object is unchanged, and no pass was made.
  * Numbers: 2, 3, 6, 11, 12, 200 to 299, .., 600 to 699.
  */
-uint32_t ebpf_prepare_handle(struct ebpf_handle *handle, const uint8_t *types, size_t types_len,
-			     const struct ebpf_descriptor *rows, size_t rows_len, const char *text, size_t text_len,
-			     const uint8_t *symbols, size_t symbols_len, char *about, size_t about_room,
-			     struct ebpf_refusal *refusal);
+EBPF_CHECKED uint32_t ebpf_prepare_handle(struct ebpf_handle *handle, const uint8_t *types, size_t types_len,
+			const struct ebpf_descriptor *rows, size_t rows_len, const char *text, size_t text_len,
+			const uint8_t *symbols, size_t symbols_len, char *about, size_t about_room,
+			struct ebpf_refusal *refusal);
 
 #ifdef __cplusplus
 }

@@ -107,6 +107,7 @@ def main(folder, library, words):
     count, made = Count(), {}
     for what, fault in builds.header_faults():
         count.add("the header", what, fault)
+    count.add("the layer", "c/calls.c", builds.layer_fault())
     for build in builds.programs(folder, library):
         count.add("builds", build.name, build.fault)
         made[build.path.name] = build

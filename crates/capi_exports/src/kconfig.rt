@@ -44,7 +44,7 @@ fn list_kconfig(alloc: Global, object: &Object) -> Result<Listing<ebpf_kconfig_e
 /// 0; 1 where not all fits; 2; 3 where the handle is closed; 900 to 903 for the first extern that can't be listed,
 /// about it where its name can be read. The buffers are then as they were, and `counts` too but for 1.
 #[unsafe(no_mangle)]
-pub extern "C" fn ebpf_kconfig(
+pub extern "C" fn exact_ebpf_kconfig(
     alloc: Global,
     handle: &mut ebpf_handle,
     rows: &mut [ebpf_kconfig_extern],
@@ -145,7 +145,7 @@ fn number_value(
 /// then 8 where none has the name; then 907 where what the line says doesn't suit the extern's type, 908 where its
 /// number is out of range, both about the extern. The buffer is then as it was, and `len` and `is_found` too but for 1.
 #[unsafe(no_mangle)]
-pub extern "C" fn ebpf_kconfig_value(
+pub extern "C" fn exact_ebpf_kconfig_value(
     alloc: Global,
     handle: &mut ebpf_handle,
     name: &[u8],
@@ -181,7 +181,7 @@ pub extern "C" fn ebpf_kconfig_value(
 /// then 8 where none has the name; then 907 where the extern is neither a number nor a bool, 908 where the number is
 /// out of its range, both about the extern. The buffer is then as it was, and `len` too but for 1.
 #[unsafe(no_mangle)]
-pub extern "C" fn ebpf_kconfig_number(
+pub extern "C" fn exact_ebpf_kconfig_number(
     alloc: Global,
     handle: &mut ebpf_handle,
     name: &[u8],
@@ -266,7 +266,7 @@ fn define_held(
 /// be listed; then 904 and 905 for the first without a value or with one of another size, about the extern; then 906
 /// where they are too large together. What the handle holds is then as it was.
 #[unsafe(no_mangle)]
-pub extern "C" fn ebpf_define_kconfig(
+pub extern "C" fn exact_ebpf_define_kconfig(
     alloc: Global,
     handle: &mut ebpf_handle,
     rows: &[ebpf_value],

@@ -66,7 +66,7 @@ fn pass_calls(alloc: Global, held: &mut Held) -> Result<(), Refusal>
 /// 0; 2; 3 where the handle is closed; then 11 where the pass was made; 600 to 611 for the first program that can't be
 /// linked, about it. What the handle holds is then as it was.
 #[unsafe(no_mangle)]
-pub extern "C" fn ebpf_relocate_calls(
+pub extern "C" fn exact_ebpf_relocate_calls(
     alloc: Global,
     handle: &mut ebpf_handle,
     about: &mut [u8],
@@ -140,7 +140,7 @@ pub fn references_of(
 /// program can't be linked, about it, as `ebpf_relocate_calls` refuses it. The buffers are then as they were, and
 /// `counts` too but for 1.
 #[unsafe(no_mangle)]
-pub extern "C" fn ebpf_link_map(
+pub extern "C" fn exact_ebpf_link_map(
     alloc: Global,
     handle: &mut ebpf_handle,
     name: &[u8],
@@ -175,7 +175,7 @@ pub extern "C" fn ebpf_link_map(
 /// program can't be linked, about it, as `ebpf_relocate_calls` refuses it. The buffer is then as it was, and `count`
 /// too but for 1.
 #[unsafe(no_mangle)]
-pub extern "C" fn ebpf_link_references(
+pub extern "C" fn exact_ebpf_link_references(
     alloc: Global,
     handle: &mut ebpf_handle,
     name: &[u8],

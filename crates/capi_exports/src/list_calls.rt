@@ -47,7 +47,7 @@ fn write_programs(
 ///
 /// 0; 1 where not all fits; 2; 3. The buffers are then as they were, and `counts` too but for 1.
 #[unsafe(no_mangle)]
-pub extern "C" fn ebpf_programs(
+pub extern "C" fn exact_ebpf_programs(
     alloc: Global,
     handle: &mut ebpf_handle,
     rows: &mut [ebpf_program],
@@ -89,7 +89,7 @@ fn write_maps(
 ///
 /// 0; 1 where not all fits; 2; 3. The buffers are then as they were, and `counts` too but for 1.
 #[unsafe(no_mangle)]
-pub extern "C" fn ebpf_maps(
+pub extern "C" fn exact_ebpf_maps(
     alloc: Global,
     handle: &mut ebpf_handle,
     rows: &mut [ebpf_map],
@@ -117,7 +117,7 @@ pub extern "C" fn ebpf_maps(
 ///
 /// 0; 1 where not all fits; 2; 3. The buffers are then as they were, and `counts` too but for 1.
 #[unsafe(no_mangle)]
-pub extern "C" fn ebpf_externs(
+pub extern "C" fn exact_ebpf_externs(
     alloc: Global,
     handle: &mut ebpf_handle,
     rows: &mut [ebpf_extern],
@@ -145,7 +145,7 @@ pub extern "C" fn ebpf_externs(
 ///
 /// 0; 1 where not all fits; 2; 3. The buffers are then as they were, and `counts` too but for 1.
 #[unsafe(no_mangle)]
-pub extern "C" fn ebpf_sections(
+pub extern "C" fn exact_ebpf_sections(
     alloc: Global,
     handle: &mut ebpf_handle,
     rows: &mut [ebpf_section],
@@ -191,7 +191,7 @@ fn list_initial_slots(
 /// first relocation that can't be told, from 822 on about its map. The buffers are then as they were, and `counts` too
 /// but for 1.
 #[unsafe(no_mangle)]
-pub extern "C" fn ebpf_initial_slots(
+pub extern "C" fn exact_ebpf_initial_slots(
     alloc: Global,
     file: &[u8],
     handle: &mut ebpf_handle,
@@ -223,7 +223,7 @@ pub extern "C" fn ebpf_initial_slots(
 ///
 /// 0; 3 where the handle is closed; 5 where no map has the name. The row is then as it was.
 #[unsafe(no_mangle)]
-pub extern "C" fn ebpf_find_map(
+pub extern "C" fn exact_ebpf_find_map(
     alloc: Global,
     handle: &mut ebpf_handle,
     name: &[u8],
@@ -249,7 +249,7 @@ pub extern "C" fn ebpf_find_map(
 ///
 /// 0; 3 where the handle is closed; 4 where no program has the name. The row is then as it was.
 #[unsafe(no_mangle)]
-pub extern "C" fn ebpf_find_program(
+pub extern "C" fn exact_ebpf_find_program(
     alloc: Global,
     handle: &mut ebpf_handle,
     name: &[u8],
@@ -305,7 +305,7 @@ fn rows_over_bytes(
 /// 0; 1 where not all fits; 2; 3 where the handle is closed; 200 to 214 where the types can't be read. The buffers are
 /// then as they were, and `counts` too but for 1.
 #[unsafe(no_mangle)]
-pub extern "C" fn ebpf_record_outcomes(
+pub extern "C" fn exact_ebpf_record_outcomes(
     alloc: Global,
     handle: &mut ebpf_handle,
     types: &[u8],

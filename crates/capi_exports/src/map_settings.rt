@@ -81,7 +81,7 @@ fn set_held(held: &mut Held, name: &[u8], setting: Setting<'_>) -> u32
 /// 0; 3 where the handle is closed; 12 where a pass was made; 5 where no map has the name. What the handle holds is
 /// then as it was.
 #[unsafe(no_mangle)]
-pub extern "C" fn ebpf_set_max_entries(
+pub extern "C" fn exact_ebpf_set_max_entries(
     alloc: Global,
     handle: &mut ebpf_handle,
     name: &[u8],
@@ -105,7 +105,7 @@ pub extern "C" fn ebpf_set_max_entries(
 /// 0; 3 where the handle is closed; 12 where a pass was made; 5 where no map has the name. What the handle holds is
 /// then as it was.
 #[unsafe(no_mangle)]
-pub extern "C" fn ebpf_set_value_size(
+pub extern "C" fn exact_ebpf_set_value_size(
     alloc: Global,
     handle: &mut ebpf_handle,
     name: &[u8],
@@ -159,7 +159,7 @@ fn set_held_data(held: &mut Held, name: &[u8], bytes: &[u8]) -> u32
 /// 0; 3 where the handle is closed; 12 where a pass was made; 5 where no map has the name; 9 where its data has another
 /// length. What the handle holds is then as it was.
 #[unsafe(no_mangle)]
-pub extern "C" fn ebpf_set_map_data(
+pub extern "C" fn exact_ebpf_set_map_data(
     alloc: Global,
     handle: &mut ebpf_handle,
     name: &[u8],
@@ -234,7 +234,7 @@ fn set_held_values(
 /// or is no text; then 7 where a row's value is not inside the bytes; then 150 to 152 for the first fault in byte order
 /// of the names, about the variable. What the handle holds is then as it was.
 #[unsafe(no_mangle)]
-pub extern "C" fn ebpf_set_values(
+pub extern "C" fn exact_ebpf_set_values(
     alloc: Global,
     handle: &mut ebpf_handle,
     rows: &[ebpf_value],

@@ -29,7 +29,7 @@ fn write_both(first: &[u8], second: &[u8], out: &mut [u8], count: &mut usize) ->
 ///
 /// 0; 1 where it doesn't fit.
 #[unsafe(no_mangle)]
-pub extern "C" fn ebpf_number_name(number: u32, text: &mut [u8], len: &mut usize) -> u32
+pub extern "C" fn exact_ebpf_number_name(number: u32, text: &mut [u8], len: &mut usize) -> u32
     ensures { (name : List ℕ) × FillsList (Ok name) result text.old text.new len.old len.new }
 {
     let (stage, fault) = name_of(number);

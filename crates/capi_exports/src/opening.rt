@@ -63,7 +63,7 @@ fn open(
 ///
 /// 0; 2, and 100 to 199 for the fault of the file. The handle is then as it was.
 #[unsafe(no_mangle)]
-pub extern "C" fn ebpf_open(
+pub extern "C" fn exact_ebpf_open(
     alloc: Global,
     file: &[u8],
     handle: &mut ebpf_handle,
@@ -87,7 +87,7 @@ pub extern "C" fn ebpf_open(
 ///
 /// 0; 2, and 100 to 199 for the fault of the file. The handle is then as it was.
 #[unsafe(no_mangle)]
-pub extern "C" fn ebpf_open_broad(
+pub extern "C" fn exact_ebpf_open_broad(
     alloc: Global,
     file: &[u8],
     handle: &mut ebpf_handle,
@@ -125,7 +125,7 @@ fn copy_of(alloc: Global, held: &Held) -> Result<Box<Held>, AllocError>
 ///
 /// 0; 2; 3 where `handle` is closed. `copy` is then as it was.
 #[unsafe(no_mangle)]
-pub extern "C" fn ebpf_clone(alloc: Global, handle: &mut ebpf_handle, copy: &mut ebpf_handle) -> u32
+pub extern "C" fn exact_ebpf_clone(alloc: Global, handle: &mut ebpf_handle, copy: &mut ebpf_handle) -> u32
     ensures stays { handle.new.held ≡ handle.old.held }
     ensures copied { result ≡ DONE → copy.new.held ≡ handle.old.held }
     ensures refused { ¬ (result ≡ DONE) → copy.new.held ≡ copy.old.held }
@@ -148,7 +148,7 @@ pub extern "C" fn ebpf_clone(alloc: Global, handle: &mut ebpf_handle, copy: &mut
 
 /// Frees what a handle holds, and leaves it closed.
 #[unsafe(no_mangle)]
-pub extern "C" fn ebpf_close(alloc: Global, handle: &mut ebpf_handle)
+pub extern "C" fn exact_ebpf_close(alloc: Global, handle: &mut ebpf_handle)
     ensures { handle.new.held ≡ None }
 {
     let _held = handle.take(alloc);
@@ -190,7 +190,7 @@ fn open_object_within(
 ///
 /// 0; 2, and 100 to 199 for the fault of the file, 157 where more would be made. The handle is then as it was.
 #[unsafe(no_mangle)]
-pub extern "C" fn ebpf_open_within(
+pub extern "C" fn exact_ebpf_open_within(
     alloc: Global,
     file: &[u8],
     lenient: u32,

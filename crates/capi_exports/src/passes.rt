@@ -59,7 +59,7 @@ fn pass_types(alloc: Global, held: &mut Held, types: &[u8]) -> Result<(), Refusa
 /// to 214 where the types can't be read; 220 to 249 for the first record that can't be applied, about its section. What
 /// the handle holds is then as it was.
 #[unsafe(no_mangle)]
-pub extern "C" fn ebpf_relocate_types(
+pub extern "C" fn exact_ebpf_relocate_types(
     alloc: Global,
     handle: &mut ebpf_handle,
     types: &[u8],
@@ -136,7 +136,7 @@ fn pass_maps(
 /// 6 where a row's name is not inside the text or is no text; then 300 to 311 for the first relocation that can't be
 /// applied, about its function. What the handle holds is then as it was.
 #[unsafe(no_mangle)]
-pub extern "C" fn ebpf_relocate_maps(
+pub extern "C" fn exact_ebpf_relocate_maps(
     alloc: Global,
     handle: &mut ebpf_handle,
     rows: &[ebpf_descriptor],
@@ -217,7 +217,7 @@ fn pass_resolution(
 /// line that can't be read: 406 is of a line that is not UTF-8, where lines are wanted. What the handle holds is then
 /// as it was.
 #[unsafe(no_mangle)]
-pub extern "C" fn ebpf_resolve_externs(
+pub extern "C" fn exact_ebpf_resolve_externs(
     alloc: Global,
     handle: &mut ebpf_handle,
     types: &[u8],
@@ -278,7 +278,7 @@ fn pass_externs(held: &mut Held) -> Result<(), Refusal>
 /// 0; 2; 3 where the handle is closed; then 11 where the pass is the last that was made, 12 where a later one was; 500
 /// to 511 for the first relocation that can't be applied, about its function. What the handle holds is then as it was.
 #[unsafe(no_mangle)]
-pub extern "C" fn ebpf_relocate_externs(
+pub extern "C" fn exact_ebpf_relocate_externs(
     alloc: Global,
     handle: &mut ebpf_handle,
     about: &mut [u8],
@@ -328,7 +328,7 @@ fn set_helpers(held: &mut Held, has_newer: bool) -> u32
 ///
 /// 0; 3 where the handle is closed; 12 where a pass was made. It is then as it was.
 #[unsafe(no_mangle)]
-pub extern "C" fn ebpf_sanitize(alloc: Global, handle: &mut ebpf_handle, has_newer: u32) -> u32
+pub extern "C" fn exact_ebpf_sanitize(alloc: Global, handle: &mut ebpf_handle, has_newer: u32) -> u32
     ensures { OfHandle (Sets (IsSanitized (not (has_newer == 0)))) handle.old.held result
         handle.new.held }
 {

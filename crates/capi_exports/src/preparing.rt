@@ -61,7 +61,7 @@ fn prepare_box(
 /// the number of the fault of the first stage that has one, as of the calls for the stages. The handle is then as it
 /// was.
 #[unsafe(no_mangle)]
-pub extern "C" fn ebpf_prepare(
+pub extern "C" fn exact_ebpf_prepare(
     alloc: Global,
     file: &[u8],
     types: &[u8],
@@ -152,7 +152,7 @@ fn prepare_all(
 /// the number of the fault of the first stage that has one, as of the calls for the stages. What the handle holds is
 /// then as it was.
 #[unsafe(no_mangle)]
-pub extern "C" fn ebpf_prepare_handle(
+pub extern "C" fn exact_ebpf_prepare_handle(
     alloc: Global,
     handle: &mut ebpf_handle,
     types: &[u8],

@@ -25,7 +25,7 @@ use std::alloc::Global;
 ///
 /// 0; 3, and `info` is then as it was.
 #[unsafe(no_mangle)]
-pub extern "C" fn ebpf_info(
+pub extern "C" fn exact_ebpf_info(
     alloc: Global,
     handle: &mut ebpf_handle,
     info: &mut ebpf_object_info,
@@ -49,7 +49,7 @@ pub extern "C" fn ebpf_info(
 ///
 /// 0; 1 where it doesn't fit; 3. The buffer is then as it was, and `len` too but for 1.
 #[unsafe(no_mangle)]
-pub extern "C" fn ebpf_license(
+pub extern "C" fn exact_ebpf_license(
     alloc: Global,
     handle: &mut ebpf_handle,
     text: &mut [u8],
@@ -74,7 +74,7 @@ pub extern "C" fn ebpf_license(
 ///
 /// 0; 3, and `states` is then as it was.
 #[unsafe(no_mangle)]
-pub extern "C" fn ebpf_states_license(
+pub extern "C" fn exact_ebpf_states_license(
     alloc: Global,
     handle: &mut ebpf_handle,
     states: &mut u32,
@@ -107,7 +107,7 @@ fn write_section(object: &Object, name: &[u8], text: &mut [u8], len: &mut usize)
 ///
 /// 0; 1 where it doesn't fit; 3; 4. The buffer is then as it was, and `len` too but for 1.
 #[unsafe(no_mangle)]
-pub extern "C" fn ebpf_program_section(
+pub extern "C" fn exact_ebpf_program_section(
     alloc: Global,
     handle: &mut ebpf_handle,
     name: &[u8],
@@ -133,7 +133,7 @@ pub extern "C" fn ebpf_program_section(
 ///
 /// 0; 1 where they don't fit; 3; 4. The buffer is then as it was, and `count` too but for 1.
 #[unsafe(no_mangle)]
-pub extern "C" fn ebpf_slots(
+pub extern "C" fn exact_ebpf_slots(
     alloc: Global,
     handle: &mut ebpf_handle,
     name: &[u8],
@@ -159,7 +159,7 @@ pub extern "C" fn ebpf_slots(
 ///
 /// 0; 1 where they don't fit; 3; 4. The buffer is then as it was, and `count` too but for 1.
 #[unsafe(no_mangle)]
-pub extern "C" fn ebpf_func_infos(
+pub extern "C" fn exact_ebpf_func_infos(
     alloc: Global,
     handle: &mut ebpf_handle,
     name: &[u8],
@@ -185,7 +185,7 @@ pub extern "C" fn ebpf_func_infos(
 ///
 /// 0; 1 where they don't fit; 3; 4. The buffer is then as it was, and `count` too but for 1.
 #[unsafe(no_mangle)]
-pub extern "C" fn ebpf_line_infos(
+pub extern "C" fn exact_ebpf_line_infos(
     alloc: Global,
     handle: &mut ebpf_handle,
     name: &[u8],
@@ -211,7 +211,7 @@ pub extern "C" fn ebpf_line_infos(
 ///
 /// 0; 1 where it doesn't fit; 3; 5. The buffer is then as it was, and `len` too but for 1.
 #[unsafe(no_mangle)]
-pub extern "C" fn ebpf_map_data(
+pub extern "C" fn exact_ebpf_map_data(
     alloc: Global,
     handle: &mut ebpf_handle,
     name: &[u8],

@@ -62,7 +62,7 @@ fn find_target(alloc: Global, name: &[u8], types: &[u8]) -> Result<AttachTarget,
 /// 0; 2; 6 where the name is no text; then 200 to 214 where the types can't be read. `answer` and `type_id` are then as
 /// they were.
 #[unsafe(no_mangle)]
-pub extern "C" fn ebpf_attach_target(
+pub extern "C" fn exact_ebpf_attach_target(
     alloc: Global,
     section_name: &[u8],
     types: &[u8],
@@ -106,7 +106,7 @@ fn types_for_kernel(alloc: Global, file: &[u8]) -> Result<Items<u8>, Refusal>
 /// its name can be read; 744 where what comes out passes 32 bits. The buffer is then as it was, and `len` too but for
 /// 1.
 #[unsafe(no_mangle)]
-pub extern "C" fn ebpf_kernel_types(
+pub extern "C" fn exact_ebpf_kernel_types(
     alloc: Global,
     file: &[u8],
     types: &mut [u8],

@@ -89,7 +89,7 @@ fn set_held_value(
 /// 0; 2; 3 where the handle is closed; then 12 where a pass was made; then 6 where the name is no text; then 150 to 152
 /// for the fault, about the variable. What the handle holds is then as it was.
 #[unsafe(no_mangle)]
-pub extern "C" fn ebpf_set_value(
+pub extern "C" fn exact_ebpf_set_value(
     alloc: Global,
     handle: &mut ebpf_handle,
     name: &[u8],
@@ -143,7 +143,7 @@ fn write_variables(
 ///
 /// 0; 1 where not all fits; 2; 3. The buffers are then as they were, and `counts` too but for 1.
 #[unsafe(no_mangle)]
-pub extern "C" fn ebpf_variables(
+pub extern "C" fn exact_ebpf_variables(
     alloc: Global,
     handle: &mut ebpf_handle,
     rows: &mut [ebpf_variable],
@@ -171,7 +171,7 @@ pub extern "C" fn ebpf_variables(
 /// 0; 1 where they don't fit; 2; 3; 10 where no symbol has the name, or its bytes are not inside the data of a map. The
 /// buffer is then as it was, and `len` too but for 1.
 #[unsafe(no_mangle)]
-pub extern "C" fn ebpf_value(
+pub extern "C" fn exact_ebpf_value(
     alloc: Global,
     handle: &mut ebpf_handle,
     name: &[u8],

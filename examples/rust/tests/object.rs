@@ -3,9 +3,7 @@ use ebpf_c_wrapper::{version, Details, Error, Object, Target};
 use std::path::PathBuf;
 
 fn file(name: &str) -> Vec<u8> {
-    let path = PathBuf::from(env!("CARGO_MANIFEST_DIR"))
-        .join("../..")
-        .join(name);
+    let path = PathBuf::from(env!("CARGO_MANIFEST_DIR")).join("../..").join(name);
     std::fs::read(path).expect("a file of the repository")
 }
 

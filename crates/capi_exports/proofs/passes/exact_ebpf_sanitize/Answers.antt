@@ -3,7 +3,7 @@ use Rattle.capi_exports.proofs.Handles.{of_handle}
 use Rattle.capi_exports.specs.PassOrder.{Sets}
 use Rattle.std.specs.Prelude.{not, ◌==◌}
 use Rattle.capi_exports.specs.Settings.{IsSanitized}
-use Rattle.capi_exports.proofs.passes.ebpf_sanitize.Goals as goal
+use Rattle.capi_exports.proofs.passes.exact_ebpf_sanitize.Goals as goal
 
 pub returns : goal.returns
 returns c =

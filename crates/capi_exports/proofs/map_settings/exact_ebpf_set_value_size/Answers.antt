@@ -3,7 +3,7 @@ use Rattle.capi_exports.proofs.Handles.{of_handle}
 use Rattle.capi_exports.specs.PassOrder.{Sets}
 use Rattle.capi_exports.specs.Settings.{SetsMap}
 use Rattle.ebpf_parts.specs.Maps.{with_value_size}
-use Rattle.capi_exports.proofs.map_settings.ebpf_set_value_size.Goals as goal
+use Rattle.capi_exports.proofs.map_settings.exact_ebpf_set_value_size.Goals as goal
 
 pub returns : goal.returns
 returns c =

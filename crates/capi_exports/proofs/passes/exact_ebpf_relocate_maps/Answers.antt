@@ -3,7 +3,7 @@ use Rattle.capi_rows.specs.Descriptors.{CannotWriteMapFds}
 use Rattle.capi_exports.specs.PassOrder.{CannotPass}
 use Rattle.capi_exports.specs.declared.held.Pass.TheVariants.{Maps}
 use Rattle.capi_exports.proofs.Handles.{refused_with}
-use Rattle.capi_exports.proofs.passes.ebpf_relocate_maps.Goals as goal
+use Rattle.capi_exports.proofs.passes.exact_ebpf_relocate_maps.Goals as goal
 
 pub returns-clause-refused : goal.returns-clause-refused
 returns-clause-refused c =

@@ -3,7 +3,7 @@ use Rattle.capi_exports.specs.PassOrder.{CannotPass}
 use Rattle.capi_exports.specs.Passes.{CannotLink}
 use Rattle.capi_exports.specs.declared.held.Pass.TheVariants.{Calls}
 use Rattle.capi_exports.proofs.Handles.{refused_with}
-use Rattle.capi_exports.proofs.linking.ebpf_relocate_calls.Goals as goal
+use Rattle.capi_exports.proofs.linking.exact_ebpf_relocate_calls.Goals as goal
 
 pub returns-clause-refused : goal.returns-clause-refused
 returns-clause-refused c =

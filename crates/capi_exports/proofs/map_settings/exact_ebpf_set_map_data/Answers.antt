@@ -2,7 +2,7 @@ use Rattle.std.proofs.Common.{Some, ap, ◌∙◌}
 use Rattle.capi_exports.proofs.Handles.{of_handle}
 use Rattle.capi_exports.specs.PassOrder.{Sets}
 use Rattle.capi_exports.specs.Settings.{SetsData}
-use Rattle.capi_exports.proofs.map_settings.ebpf_set_map_data.Goals as goal
+use Rattle.capi_exports.proofs.map_settings.exact_ebpf_set_map_data.Goals as goal
 
 pub returns : goal.returns
 returns c =

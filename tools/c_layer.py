@@ -1,0 +1,92 @@
+#!/usr/bin/env python3
+"""Makes c/calls.c of the prototypes of include/ebpf.h: each call over the proved one, whose name begins with `exact_`.
+
+The proved calls take no null pointer. What the layer adds is the same for each call:
+  - a null array is given as an empty one, whatever its count;
+  - a null handle is given as a closed one, so the call returns 3;
+  - a null result (a count, a refusal, a row) is given a place of the layer's own.
+Calls that make or free a handle are in c/handles.c.
+usage: c_layer.py [--check]      --check: writes nothing, and fails where c/calls.c is another"""
+import re
+import sys
+from pathlib import Path
+
+TOP = Path(__file__).parents[1]
+HEADER, MADE = TOP / "include/ebpf.h", TOP / "c/calls.c"
+
+# Calls that make or free a handle, and those whose text is C's own.
+BY_HAND = {"ebpf_open", "ebpf_open_broad", "ebpf_open_within", "ebpf_prepare", "ebpf_clone", "ebpf_close", "ebpf_strerror"}
+
+HEAD = """\
+/* Made by tools/c_layer.py of include/ebpf.h. Each call gives the proved one no null pointer. */
+#include "layer.h"
+
+uint64_t ebpf_nothing;
+"""
+
+
+def prototypes(text):
+    """The calls of the header: what each returns, its name and its parameters."""
+    text = re.sub(r"/\*.*?\*/", "", text, flags=re.DOTALL)
+    text = re.sub(r"^\s*#.*?$", "", text, flags=re.MULTILINE)
+    for result, name, words in re.findall(r"^(?:EBPF_\w+ )?(\w+) (ebpf_\w+)\(([^(){};]*)\)[^{};]*;", text, re.MULTILINE):
+        yield result, name, [" ".join(word.split()) for word in words.split(",") if word.strip() != "void"]
+
+
+def parts(parameter):
+    """The type of a parameter, and its name."""
+    kind, name = re.fullmatch(r"(.*?)(\w+)", parameter).groups()
+    return kind.strip(), name
+
+
+def given(parameters):
+    """What the proved call is given, and the places that the layer has for what is null."""
+    words, places, at = [], [], 0
+    while at < len(parameters):
+        kind, name = parts(parameters[at])
+        behind = parts(parameters[at + 1]) if at + 1 < len(parameters) else ("", "")
+        if kind.removeprefix("const ") == "struct ebpf_handle *":
+            words.append(f"EBPF_HANDLE({name})")
+            places.append("struct ebpf_handle closed = { NULL };")
+        elif kind.endswith("*") and behind[0] == "size_t":
+            words.append(f"EBPF_ARRAY({name}, {behind[1]})")
+            at += 1
+        elif kind.endswith("*"):
+            words.append(f"{name} ? {name} : &no_{name}")
+            one = kind.removesuffix("*").strip()
+            places.append(f"{one} no_{name} = {'{ 0 }' if one.startswith('struct') else '0'};")
+        else:
+            words.append(name)
+        at += 1
+    return words, places
+
+
+def exact(result, name, parameters):
+    """The prototype of the proved call: what is behind a handle changes while it runs."""
+    taken = [word.replace("const struct ebpf_handle", "struct ebpf_handle") for word in parameters]
+    return f"{result} exact_{name}({', '.join(taken) or 'void'});\n"
+
+
+def call(result, name, parameters):
+    """The call over the proved one."""
+    words, places = given(parameters)
+    body = "".join(f"\t{place}\n" for place in places) + ("\n" if places else "")
+    return f"{result} {name}({', '.join(parameters) or 'void'})\n{{\n{body}\treturn exact_{name}({', '.join(words)});\n}}\n"
+
+
+def made():
+    """The text of c/calls.c."""
+    calls = [it for it in prototypes(HEADER.read_text()) if it[1] not in BY_HAND]
+    return "\n".join([HEAD, "".join(exact(*it) for it in calls), *[call(*it) for it in calls]])
+
+
+def main():
+    text = made()
+    if sys.argv[1:] != ["--check"]:
+        MADE.write_text(text)
+    elif MADE.read_text() != text:
+        sys.exit("c/calls.c is not what tools/c_layer.py makes of include/ebpf.h")
+
+
+if __name__ == "__main__":
+    main()
