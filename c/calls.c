@@ -1,8 +1,6 @@
 /* Made by tools/c_layer.py of include/ebpf.h. Each call gives the proved one no null pointer. */
 #include "layer.h"
 
-uint64_t ebpf_nothing;
-
 uint32_t exact_ebpf_version_number(void);
 uint32_t exact_ebpf_number_name(uint32_t number, char *text, size_t room, size_t *len);
 uint32_t exact_ebpf_info(struct ebpf_handle *handle, struct ebpf_object_info *info);

@@ -9,12 +9,12 @@ struct ebpf_handle {
 };
 
 /* Where an empty array is. */
-extern uint64_t ebpf_nothing;
+static uint64_t nothing;
 
 /* A null handle is a closed one, in a place of the call's own. */
 #define EBPF_HANDLE(handle) ((handle) ? (struct ebpf_handle *)(handle) : &closed)
 
 /* A null array is empty. */
-#define EBPF_ARRAY(array, count) (array) ? (void *)(array) : (void *)&ebpf_nothing, (array) ? (count) : 0
+#define EBPF_ARRAY(array, count) (array) ? (void *)(array) : (void *)&nothing, (array) ? (count) : 0
 
 #endif

@@ -20,8 +20,6 @@ BY_HAND = {"ebpf_open", "ebpf_open_broad", "ebpf_open_within", "ebpf_prepare", "
 HEAD = """\
 /* Made by tools/c_layer.py of include/ebpf.h. Each call gives the proved one no null pointer. */
 #include "layer.h"
-
-uint64_t ebpf_nothing;
 """
 
 
