@@ -16,7 +16,7 @@ fi
 mkdir -p examples/out
 kit=$(dirname "$(rt doc)")
 compiler=${CC:-cc}
-for layer in calls handles; do
+for layer in calls handles strerror; do
     "$compiler" -std=c11 -O2 -fPIC -Wall -Wextra -Iinclude -c c/$layer.c -o examples/out/$layer.o
 done
 "${AR:-ar}" -M <<END
@@ -25,6 +25,7 @@ ADDLIB $archive
 ADDLIB $kit/c/liblibc_c.a
 ADDMOD examples/out/calls.o
 ADDMOD examples/out/handles.o
+ADDMOD examples/out/strerror.o
 SAVE
 END
 if [ "${1:-}" = --build ]; then

@@ -1,18 +1,19 @@
 #!/usr/bin/env python3
-"""Makes c/calls.c of the prototypes of include/ebpf.h: each call over the proved one, whose name begins with `exact_`.
+"""Makes of include/ebpf.h c/calls.c, each call over the proved one, whose name begins with `exact_`, and c/strerror.c,
+which has the texts beside the numbers.
 
 The proved calls take no null pointer. What the layer adds is the same for each call:
   - a null array is given as an empty one, whatever its count;
   - a null handle is given as a closed one, so the call returns 3;
   - a null result (a count, a refusal, a row) is given a place of the layer's own.
 Calls that make or free a handle are in c/handles.c.
-usage: c_layer.py [--check]      --check: writes nothing, and fails where c/calls.c is another"""
+usage: c_layer.py [--check]      --check: writes nothing, and fails where one of them is another"""
 import re
 import sys
 from pathlib import Path
 
 TOP = Path(__file__).parents[1]
-HEADER, MADE = TOP / "include/ebpf.h", TOP / "c/calls.c"
+HEADER = TOP / "include/ebpf.h"
 
 # Calls that make or free a handle, and those whose text is C's own.
 BY_HAND = {"ebpf_open", "ebpf_open_broad", "ebpf_open_within", "ebpf_prepare", "ebpf_clone", "ebpf_close", "ebpf_strerror"}
@@ -72,18 +73,37 @@ def call(result, name, parameters):
     return f"{result} {name}({', '.join(parameters) or 'void'})\n{{\n{body}\treturn exact_{name}({', '.join(words)});\n}}\n"
 
 
-def made():
+def calls_made(text):
     """The text of c/calls.c."""
-    calls = [it for it in prototypes(HEADER.read_text()) if it[1] not in BY_HAND]
+    calls = [it for it in prototypes(text) if it[1] not in BY_HAND]
     return "\n".join([HEAD, "".join(exact(*it) for it in calls), *[call(*it) for it in calls]])
 
 
+TEXTS_HEAD = """\
+/* Made by tools/c_layer.py of include/ebpf.h: what its numbers say. */
+#include "ebpf.h"
+
+const char *ebpf_strerror(uint32_t number)
+{
+\tswitch (number) {
+"""
+
+
+def texts_made(text):
+    """The text of c/strerror.c."""
+    [body] = re.findall(r"enum ebpf_number \{(.*?)\n\};", text, re.DOTALL)
+    rows = re.findall(r"\t(EBPF_\w+) = \d+,\s*/\* (.*?) \*/", body)
+    cases = "".join(f'\tcase {name}:\n\t\treturn "{says}";\n' for name, says in rows)
+    return f'{TEXTS_HEAD}{cases}\tdefault:\n\t\treturn "an unknown number";\n\t}}\n}}\n'
+
+
 def main():
-    text = made()
-    if sys.argv[1:] != ["--check"]:
-        MADE.write_text(text)
-    elif MADE.read_text() != text:
-        sys.exit("c/calls.c is not what tools/c_layer.py makes of include/ebpf.h")
+    text = HEADER.read_text()
+    for name, made in [("c/calls.c", calls_made(text)), ("c/strerror.c", texts_made(text))]:
+        if sys.argv[1:] != ["--check"]:
+            (TOP / name).write_text(made)
+        elif (TOP / name).read_text() != made:
+            sys.exit(f"{name} is not what tools/c_layer.py makes of include/ebpf.h")
 
 
 if __name__ == "__main__":

@@ -297,9 +297,9 @@ static void check_handles(const struct guarded *file)
 	CHECK("ebpf_clone", ebpf_clone(object, &copy) == EBPF_DONE && first_key(copy) == (uint32_t)-1);
 	ebpf_close(copy);
 	CHECK("ebpf_relocate_calls", ebpf_relocate_calls(NULL, (char *)text.at, 0, &refusal) == EBPF_CLOSED);
-	CHECK("ebpf_open", ebpf_open(file->at, 63, &closed, (char *)text.at, 0, &refusal) == EBPF_PARSE_FILE && !closed);
+	CHECK("ebpf_open", ebpf_open(file->at, 63, &closed, (char *)text.at, 0, &refusal) == EBPF_PARSE_TOO_SHORT && !closed);
 	closed = (void *)file;
-	CHECK("ebpf_open", ebpf_open(file->at, 0, &closed, (char *)text.at, 0, &refusal) == EBPF_PARSE_FILE && !closed);
+	CHECK("ebpf_open", ebpf_open(file->at, 0, &closed, (char *)text.at, 0, &refusal) == EBPF_PARSE_TOO_SHORT && !closed);
 	ebpf_close(object);
 	release(&text);
 }
@@ -355,7 +355,7 @@ static void check_changes(const struct guarded *file)
 	CHECK("ebpf_sanitize", ebpf_sanitize(object, 0) == EBPF_DONE && ebpf_sanitize(closed, 0) == EBPF_CLOSED);
 	CHECK("ebpf_relocate_maps", ebpf_relocate_maps(object, &row, 1, "a", 1, text, 0, &refusal) == EBPF_BAD_NAME);
 	CHECK("ebpf_relocate_maps", ebpf_relocate_maps(closed, &row, 0, text, 0, text, 0, &refusal) == EBPF_CLOSED);
-	CHECK("ebpf_relocate_types", ebpf_relocate_types(object, none.at, 0, text, 0, &refusal) == EBPF_TYPES_READ);
+	CHECK("ebpf_relocate_types", ebpf_relocate_types(object, none.at, 0, text, 0, &refusal) == EBPF_TYPES_READ_INVALID_HEADER);
 	CHECK("ebpf_relocate_types", ebpf_relocate_types(closed, none.at, 0, text, 0, &refusal) == EBPF_CLOSED);
 	CHECK("ebpf_resolve_externs",
 	      ebpf_resolve_externs(closed, none.at, 0, none.at, 0, text, 0, &refusal) == EBPF_CLOSED);
@@ -365,7 +365,7 @@ static void check_changes(const struct guarded *file)
 	CHECK("ebpf_prepare_handle", ebpf_prepare_handle(object, none.at, 0, &row, 1, "a", 1, none.at, 0, text, 0,
 							 &refusal) == EBPF_BAD_NAME);
 	CHECK("ebpf_prepare_handle", ebpf_prepare_handle(object, value, 8, &row, 0, "a", 1, none.at, 0, text, 0,
-							 &refusal) == EBPF_TYPES_READ);
+							 &refusal) == EBPF_TYPES_READ_INVALID_HEADER);
 	ebpf_close(object);
 	release(&none);
 }
@@ -398,6 +398,14 @@ static void check_number_names(void)
 		if (need)
 			check_name(numbers[at], need - 1, need);
 		release(&none);
+	}
+	/* what has a name has a text, and nothing else has one */
+	for (uint32_t number = 0; number < 1100; number++) {
+		const char *says = ebpf_strerror(number);
+		size_t len = 0;
+
+		CHECK("ebpf_strerror", ebpf_number_name(number, NULL, 0, &len) == (len ? EBPF_ROOM : EBPF_DONE) && says);
+		CHECK("ebpf_strerror", !strcmp(says, ebpf_strerror(UINT32_MAX)) == !len);
 	}
 }
 

@@ -160,8 +160,8 @@ static void check_outcomes(const struct guarded *file, const struct guarded *typ
 	given = types;
 	check_told_list(&records, object);
 	CHECK("ebpf_record_outcomes", ebpf_record_outcomes(object, none.at, 0, (void *)none.at, 0, (char *)none.at, 0, &counts,
-							   (char *)about.at, 8, &refusal) == EBPF_TYPES_READ);
-	CHECK("ebpf_record_outcomes", is_told(&refusal, EBPF_TYPES_READ, 0));
+							   (char *)about.at, 8, &refusal) == EBPF_TYPES_READ_INVALID_HEADER);
+	CHECK("ebpf_record_outcomes", is_told(&refusal, EBPF_TYPES_READ_INVALID_HEADER, 0));
 	CHECK("ebpf_record_outcomes", counts.rows == 77 && counts.text == 78 && is_untouched(&about, 0));
 	ebpf_close(object);
 	release(&none);

@@ -170,7 +170,7 @@ static void check_targets(struct ebpf_handle *of)
 	CHECK("ebpf_attach_target", answer == EBPF_TARGET_NOT_FOUND && type_id == 0);
 	answer = 77;
 	type_id = 78;
-	CHECK("ebpf_attach_target", ebpf_attach_target((char *)held.at, 8, none.at, 0, &answer, &type_id) == EBPF_TYPES_READ);
+	CHECK("ebpf_attach_target", ebpf_attach_target((char *)held.at, 8, none.at, 0, &answer, &type_id) == EBPF_TYPES_READ_INVALID_HEADER);
 	CHECK("ebpf_attach_target", ebpf_attach_target("\xff", 1, none.at, 0, &answer, &type_id) == EBPF_BAD_NAME);
 	CHECK("ebpf_attach_target", answer == 77 && type_id == 78);
 	free(read);
@@ -245,8 +245,8 @@ void check_loader_calls(const struct guarded *file)
 	check_bytes("ebpf_kconfig_value", configured, object, 1);
 	check_bytes("ebpf_kconfig_number", numbered, object, 1);
 	CHECK("ebpf_kernel_types", ebpf_kernel_types(file->at, 63, none.at, 0, &len, (char *)none.at, 0, &refusal) ==
-					   EBPF_KERNEL_TYPES_FILE);
-	CHECK("ebpf_kernel_types", len == 77 && is_told(&refusal, EBPF_KERNEL_TYPES_FILE, 0));
+					   EBPF_KERNEL_TYPES_FILE_TOO_SHORT);
+	CHECK("ebpf_kernel_types", len == 77 && is_told(&refusal, EBPF_KERNEL_TYPES_FILE_TOO_SHORT, 0));
 	for (size_t at = 0; at < sizeof(lists) / sizeof(lists[0]); at++)
 		check_told_list(&lists[at], object);
 	check_targets(object);

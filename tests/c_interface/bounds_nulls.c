@@ -36,14 +36,14 @@ void check_nulls(const struct guarded *file)
 	struct ebpf_handle *handle = (void *)file, *copy = (void *)file;
 
 	/* what is given out is not read, and is NULL behind a refusal */
-	CHECK("ebpf_open", ebpf_open(NULL, 0, &handle, NULL, 0, NULL) == EBPF_PARSE_FILE && !handle);
+	CHECK("ebpf_open", ebpf_open(NULL, 0, &handle, NULL, 0, NULL) == EBPF_PARSE_TOO_SHORT && !handle);
 	handle = (void *)file;
-	CHECK("ebpf_open_broad", ebpf_open_broad(NULL, 9, &handle, NULL, 9, NULL) == EBPF_PARSE_FILE && !handle);
+	CHECK("ebpf_open_broad", ebpf_open_broad(NULL, 9, &handle, NULL, 9, NULL) == EBPF_PARSE_TOO_SHORT && !handle);
 	handle = (void *)file;
 	CHECK("ebpf_open_within", ebpf_open_within(NULL, 0, 1, 0, &handle, NULL, 0, NULL) != EBPF_DONE && !handle);
 	handle = (void *)file;
 	CHECK("ebpf_prepare",
-	      ebpf_prepare(NULL, 0, NULL, 0, NULL, 0, NULL, 0, NULL, 0, &handle, NULL, 0, NULL) == EBPF_PARSE_FILE);
+	      ebpf_prepare(NULL, 0, NULL, 0, NULL, 0, NULL, 0, NULL, 0, &handle, NULL, 0, NULL) == EBPF_PARSE_TOO_SHORT);
 	CHECK("ebpf_prepare", !handle);
 	CHECK("ebpf_clone", ebpf_clone(NULL, &copy) == EBPF_CLOSED && !copy);
 	check_without(NULL, EBPF_CLOSED, EBPF_CLOSED, EBPF_CLOSED);
@@ -52,8 +52,8 @@ void check_nulls(const struct guarded *file)
 	CHECK("ebpf_sanitize", ebpf_sanitize(NULL, 0) == EBPF_CLOSED);
 	CHECK("ebpf_value", ebpf_value(NULL, NULL, 0, NULL, 0, NULL) == EBPF_CLOSED);
 	CHECK("ebpf_number_name", ebpf_number_name(0, NULL, 9, NULL) == EBPF_ROOM);
-	CHECK("ebpf_kernel_types", ebpf_kernel_types(NULL, 0, NULL, 0, NULL, NULL, 0, NULL) == EBPF_KERNEL_TYPES_FILE);
-	CHECK("ebpf_attach_target", ebpf_attach_target(NULL, 0, NULL, 0, NULL, NULL) == EBPF_TYPES_READ);
+	CHECK("ebpf_kernel_types", ebpf_kernel_types(NULL, 0, NULL, 0, NULL, NULL, 0, NULL) == EBPF_KERNEL_TYPES_FILE_TOO_SHORT);
+	CHECK("ebpf_attach_target", ebpf_attach_target(NULL, 0, NULL, 0, NULL, NULL) == EBPF_TYPES_READ_INVALID_HEADER);
 	handle = opened(file);
 	check_without(handle, EBPF_ROOM, EBPF_DONE, EBPF_DONE);
 	ebpf_close(handle);

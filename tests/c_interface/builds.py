@@ -49,14 +49,9 @@ def programs(folder, library):
 
 
 def numbers_of_header():
-    """The numbers that the header states, each with its fault where it is the first of some."""
-    text = (TOP / "include/ebpf.h").read_text()
-    enums = dict(re.findall(r"enum (ebpf_\w+) \{(.*?)\n\};", text, re.DOTALL))
-    faults = {name: len(re.findall(r"EBPF_\w+ = \d+", body)) for name, body in enums.items()}
-    found = set()
-    for first, fault in re.findall(r"EBPF_\w+ = (\d+),\s*(?:/\* \+ (ebpf_\w+))?", enums["ebpf_number"]):
-        found |= set(range(int(first), int(first) + faults.get(fault, 1)))
-    return found
+    """The numbers that the header states."""
+    [body] = re.findall(r"enum ebpf_number \{(.*?)\n\};", (TOP / "include/ebpf.h").read_text(), re.DOTALL)
+    return {int(number) for number in re.findall(r"EBPF_\w+ = (\d+),", body)}
 
 
 def layer_fault():

@@ -80,7 +80,7 @@ static const struct ebpf_record_outcome *first_refused(const struct outcomes *to
 /* A section without records may have a name that the file lacks, or that can't be read. */
 static int is_of_section(uint32_t number)
 {
-	return number == EBPF_TYPES_SECTION_NOT_FOUND || number == EBPF_TYPES_FAULT + EBPF_TYPE_STRING_OFFSET;
+	return number == EBPF_TYPES_SECTION_NOT_FOUND || number == EBPF_TYPES_FAULT_INVALID_STRING_OFFSET;
 }
 
 uint32_t relocate_as_told(const struct made_on *on)
