@@ -2,7 +2,7 @@
 use Rattle.std.proofs.Common.{◌≡◌, Bool, true, false, List, [], ◌∷◌, Option, Some, None, refl, sym, ap, ◌∙◌, subst, inl, inr}
 use Rattle.std.proofs.lemmas.Option.{none-some}
 use Rattle.std.specs.Prelude.{if◌then◌else◌}
-use Rattle.capi_exports.specs.PassOrder.{HasPassed, fault_of_pass}
+use Rattle.capi_exports.specs.PassOrder.{HasPassed, fault_of_pass, fault_of_setting}
 use Rattle.capi_exports.specs.PassSequences.{MakesTypes, MakesMaps, MakesResolution, MakesAll, IsPass, AreCalls, after_calls, before_passes, or_unpassed, IsComposed, AnyCallsCompose}
 use Rattle.capi_exports.specs.Passes.{HasWrittenExterns, HasLinked}
 use Rattle.capi_exports.specs.declared.held.Held.{Held}
@@ -18,6 +18,11 @@ use Rattle.ebpf_object.specs.Stages.{RelocatesTypes, own_maps}
 use Rattle.ebpf_object.specs.WrittenSlots.{with_externs}
 use Rattle.ebpf_object.specs.declared.object.Object.{Object}
 use Rattle.ebpf_reloc.specs.Maps.{GivenMap}
+
+-- something can be set where no pass was made
+unset : (last : Option Pass) → fault_of_setting last ≡ None → last ≡ None
+unset None may = refl
+unset (Some last) may = let no : ⊥ = cc in absurd no
 
 -- a pass is the last one now
 last_made : (old new : Held) → IsPass old new → (last : Pass) × (new.last ≡ Some last)
@@ -187,7 +192,7 @@ module _ (begun : Object) where
   after_a_pass held [] last is before tt = composed held.object (at_last held.last held.object before)
   after_a_pass held (next ∷ calls) last is before (inl same, rest) =
       after_a_pass next calls last (ap (λ (h : Held). h.last) same ∙ is) (subst (λ (h : Held). After h.last h.object) (sym same) before) rest
-  after_a_pass held (next ∷ calls) last is before (inr (inl set), rest) = absurd (none-some last (sym set.0 ∙ is))
+  after_a_pass held (next ∷ calls) last is before (inr (inl set), rest) = absurd (none-some last (sym (unset held.last set.allowed) ∙ is))
   after_a_pass held (next ∷ calls) last is before (inr (inr pass), rest) =
       after_a_pass next calls (last_made held next pass).0 (last_made held next pass).1 (pass_made held next before pass) rest
 
@@ -208,7 +213,8 @@ any_calls_compose held (next ∷ calls) none (inl same, rest) =
     let unmade : next.last ≡ None = ap (λ (h : Held). h.last) same ∙ none in
     unpassed held next calls (after_calls next calls).object unmade (any_calls_compose next calls unmade rest)
 any_calls_compose held (next ∷ calls) none (inr (inl set), rest) =
-    unpassed held next calls (after_calls next calls).object set.1 (any_calls_compose next calls set.1 rest)
+    let unmade : next.last ≡ None = set.last ∙ none in
+    unpassed held next calls (after_calls next calls).object unmade (any_calls_compose next calls unmade rest)
 any_calls_compose held (next ∷ calls) none (inr (inr pass), rest) =
     let last = last_made held next pass in
     let before : After held.object held.last held.object = subst (λ l. After held.object l held.object) (sym none) refl in

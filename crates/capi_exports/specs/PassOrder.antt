@@ -56,9 +56,9 @@ CannotPass first Why h r =
 
 -- something of the object is set, of which no pass was made
 pub record HasSetting (Change : Object → Object → Type 0) (old new : Held) : Type 0 where
-  pub allowed : old.last ≡ None
+  pub allowed : fault_of_setting old.last ≡ None
   pub change : Change old.object new.object
-  pub last : new.last ≡ None
+  pub last : new.last ≡ old.last
 
 -- after a pass it is refused before all else
 abbrev pub CannotSet : (Object → Refusal → Type 0) → Held → Refusal → Type 0

@@ -4,7 +4,7 @@
 -- An opened handle, `ebpf_set_value`, `ebpf_relocate_maps` that is refused, then made, and made
 -- again, which is refused: begun is the object with the value, and of the passes `maps` is chosen.
 use Rattle.std.specs.Prelude.{◌≡◌, ◌⊎◌, ⊤, ℕ, List, [], ◌∷◌, Option, Some, None}
-use Rattle.capi_exports.specs.PassOrder.{HasPassed}
+use Rattle.capi_exports.specs.PassOrder.{HasPassed, HasSetting}
 use Rattle.capi_exports.specs.Passes.{PreparationInputs, HasRelocatedTypes, HasResolved}
 use Rattle.capi_exports.specs.Passes.{HasWrittenExterns, HasLinked, HasPreparedHeld}
 use Rattle.capi_exports.specs.declared.held.Held.{Held}
@@ -42,11 +42,14 @@ IsPass old new =
     ⊎ HasPassed Calls Calls HasLinked old new
     ⊎ HasPassed Types Calls MakesAll old new
 
+-- whatever is set of an object
+abbrev pub AnyChange : Object → Object → Type 0
+AnyChange old new = ⊤
+
 -- What is held stays, as by a call that reads or refuses; or something is set where no pass was
 -- made; or a pass is made.
 abbrev pub IsCall : Held → Held → Type 0
-IsCall old new =
-    (new ≡ old) ⊎ ((old.last ≡ None) × (new.last ≡ None)) ⊎ IsPass old new
+IsCall old new = (new ≡ old) ⊎ HasSetting AnyChange old new ⊎ IsPass old new
 
 -- ---- calls one after the other
 

@@ -125,7 +125,11 @@ fn copy_of(alloc: Global, held: &Held) -> Result<Box<Held>, AllocError>
 ///
 /// 0; 2; 3 where `handle` is closed. `copy` is then as it was.
 #[unsafe(no_mangle)]
-pub extern "C" fn exact_ebpf_clone(alloc: Global, handle: &mut ebpf_handle, copy: &mut ebpf_handle) -> u32
+pub extern "C" fn exact_ebpf_clone(
+    alloc: Global,
+    handle: &mut ebpf_handle,
+    copy: &mut ebpf_handle,
+) -> u32
     ensures stays { handle.new.held ≡ handle.old.held }
     ensures copied { result ≡ DONE → copy.new.held ≡ handle.old.held }
     ensures refused { ¬ (result ≡ DONE) → copy.new.held ≡ copy.old.held }

@@ -328,7 +328,11 @@ fn set_helpers(held: &mut Held, has_newer: bool) -> u32
 ///
 /// 0; 3 where the handle is closed; 12 where a pass was made. It is then as it was.
 #[unsafe(no_mangle)]
-pub extern "C" fn exact_ebpf_sanitize(alloc: Global, handle: &mut ebpf_handle, has_newer: u32) -> u32
+pub extern "C" fn exact_ebpf_sanitize(
+    alloc: Global,
+    handle: &mut ebpf_handle,
+    has_newer: u32,
+) -> u32
     ensures { OfHandle (Sets (IsSanitized (not (has_newer == 0)))) handle.old.held result
         handle.new.held }
 {
