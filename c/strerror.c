@@ -242,6 +242,10 @@ const char *ebpf_strerror(uint32_t number)
 		return "maps: the linked program is too long";
 	case EBPF_MAPS_MAP_ADDRESS_OVERFLOW:
 		return "maps: a place in a map is past 2,147,483,647";
+	case EBPF_MAPS_MISSING_DESCRIPTOR:
+		return "about the map that a slot refers to, and no row names";
+	case EBPF_MAPS_UNKNOWN_MAP:
+		return "about the row's name, which no map of the object has";
 	case EBPF_KSYMS_NO_KERNEL_TYPES:
 		return "an extern has a type, and no kernel's types are given";
 	case EBPF_KSYMS_VARIABLE_NOT_FOUND:
@@ -338,6 +342,8 @@ const char *ebpf_strerror(uint32_t number)
 		return "calls: the linked program is too long";
 	case EBPF_CALLS_MAP_ADDRESS_OVERFLOW:
 		return "calls: a place in a map is past 2,147,483,647";
+	case EBPF_CALLS_UNWRITTEN_EXTERN:
+		return "about the extern: its call is not written. `ebpf_prepare*` alone";
 	case EBPF_KERNEL_TYPES_FILE_TOO_SHORT:
 		return "kernel types: the file is too short for its header";
 	case EBPF_KERNEL_TYPES_FILE_BAD_MAGIC:
