@@ -109,35 +109,35 @@ const char *ebpf_strerror(uint32_t number)
 	case EBPF_PARSE_RELOCATION_TARGET:
 		return "a relocation without a target";
 	case EBPF_PARSE_PROGRAM_SECTION:
-		return "about the section";
+		return "the name of a section of code gives no program type; about the section";
 	case EBPF_PARSE_PROGRAM_CODE:
 		return "the code of a function is no multiple of 8 bytes";
 	case EBPF_PARSE_MAP_DEFINITION:
-		return "about the map";
+		return "the definition of a map can't be read; about the map";
 	case EBPF_PARSE_SYMBOL_CONFLICT:
 		return "symbols conflict";
 	case EBPF_PARSE_UNKNOWN_SYMBOL:
 		return "a symbol is unknown";
 	case EBPF_PARSE_INVALID_SYMBOL:
-		return "about the symbol, where it has a name";
+		return "a symbol has no bytes, or some outside its section; about the symbol, where it has a name";
 	case EBPF_PARSE_GLOBAL_DATA:
-		return "about the variable: its value has another size, or passes its map's data";
+		return "a value does not fit its variable or its map; about the variable";
 	case EBPF_PARSE_SYMBOL_NOT_FOUND:
-		return "about the variable";
+		return "no symbol has the name of the variable; about the variable";
 	case EBPF_PARSE_MAP_NOT_FOUND:
 		return "no map has the variable's section";
 	case EBPF_PARSE_MAP_SYMBOL_NAME:
 		return "kept, never returned";
 	case EBPF_PARSE_NO_SYMBOLS:
-		return "about the section";
+		return "no symbol is in a section; about the section";
 	case EBPF_PARSE_NO_TYPES:
 		return "the object has no types";
 	case EBPF_PARSE_BIG_ENDIAN_CODE:
-		return "lenient parsing (`ebpf_open_broad`) alone";
+		return "the file is big-endian and has code: lenient parsing alone";
 	case EBPF_PARSE_TOO_LARGE:
-		return "ebpf_open_within alone";
+		return "what is made of the file would pass the limit: ebpf_open_within alone";
 	case EBPF_PARSE_OTHER_MACHINE:
-		return "lenient parsing (`ebpf_open_broad`) alone: e_machine is not eBPF's";
+		return "the file is for another machine than eBPF: lenient parsing alone";
 	case EBPF_TYPES_READ_INVALID_HEADER:
 		return "the kernel's types: the header of the types is not valid";
 	case EBPF_TYPES_READ_INVALID_TYPE_INFO:
@@ -243,9 +243,9 @@ const char *ebpf_strerror(uint32_t number)
 	case EBPF_MAPS_MAP_ADDRESS_OVERFLOW:
 		return "maps: a place in a map is past 2,147,483,647";
 	case EBPF_MAPS_MISSING_DESCRIPTOR:
-		return "about the map that a slot refers to, and no row names";
+		return "maps: no row names the map that a slot refers to; about the map";
 	case EBPF_MAPS_UNKNOWN_MAP:
-		return "about the row's name, which no map of the object has";
+		return "maps: the object has no map of a row's name; about the name";
 	case EBPF_KSYMS_NO_KERNEL_TYPES:
 		return "an extern has a type, and no kernel's types are given";
 	case EBPF_KSYMS_VARIABLE_NOT_FOUND:
@@ -259,9 +259,9 @@ const char *ebpf_strerror(uint32_t number)
 	case EBPF_KSYMS_AMBIGUOUS:
 		return "the kernel has several of the name";
 	case EBPF_KSYMS_LINE_ACCESS:
-		return "a line is no UTF-8";
+		return "a line of the kernel's symbols is no UTF-8";
 	case EBPF_KSYMS_LINE:
-		return "about what is wrong with the line";
+		return "a line of the kernel's symbols can't be read; about what is wrong with it";
 	case EBPF_KSYMS_FUNCTION_NOT_FOUND:
 		return "the kernel has no such function";
 	case EBPF_KSYMS_TYPES_INVALID_HEADER:
@@ -343,7 +343,7 @@ const char *ebpf_strerror(uint32_t number)
 	case EBPF_CALLS_MAP_ADDRESS_OVERFLOW:
 		return "calls: a place in a map is past 2,147,483,647";
 	case EBPF_CALLS_UNWRITTEN_EXTERN:
-		return "about the extern: its call is not written. `ebpf_prepare*` alone";
+		return "calls: no pass has written the call of an extern: ebpf_prepare and ebpf_prepare_handle alone; about the extern";
 	case EBPF_KERNEL_TYPES_FILE_TOO_SHORT:
 		return "kernel types: the file is too short for its header";
 	case EBPF_KERNEL_TYPES_FILE_BAD_MAGIC:
@@ -395,13 +395,13 @@ const char *ebpf_strerror(uint32_t number)
 	case EBPF_KERNEL_TYPES_READ_TOO_LARGE:
 		return "kernel types: the types are too large";
 	case EBPF_KERNEL_TYPES_NO_SECTION_SIZE:
-		return "about the section, of which the file has none with a size";
+		return "kernel types: the file has no section of the name with a size; about the section";
 	case EBPF_KERNEL_TYPES_NOT_A_VARIABLE:
-		return "about what a section's entry names, and is no variable";
+		return "kernel types: a section's entry names no variable; about what it names";
 	case EBPF_KERNEL_TYPES_NO_SYMBOL:
-		return "about the global variable that has no symbol";
+		return "kernel types: a global variable has no symbol; about the variable";
 	case EBPF_KERNEL_TYPES_UNSUPPORTED_EXTERN:
-		return "about the extern of .kconfig whose type has no size there";
+		return "kernel types: the type of an extern of .kconfig has no size there; about the extern";
 	case EBPF_KERNEL_TYPES_TOO_LARGE:
 		return "ids, offsets or lengths pass 32 bits";
 	case EBPF_INITIAL_SLOTS_FILE_TOO_SHORT:
@@ -449,21 +449,21 @@ const char *ebpf_strerror(uint32_t number)
 	case EBPF_KCONFIG_NOT_A_VARIABLE:
 		return "an entry of .kconfig names no variable";
 	case EBPF_KCONFIG_UNREADABLE_NAME:
-		return "the name of one can't be read";
+		return "the name of a kconfig extern can't be read";
 	case EBPF_KCONFIG_UNKNOWN_NAME:
-		return "it begins neither with CONFIG_ nor with LINUX_";
+		return "the name of a kconfig extern begins neither with CONFIG_ nor with LINUX_";
 	case EBPF_KCONFIG_UNSUPPORTED_TYPE:
-		return "its type has no values of a configuration";
+		return "the type of a kconfig extern has no values of a configuration";
 	case EBPF_KCONFIG_NO_VALUE:
-		return "it has to have a value and is given none";
+		return "a kconfig extern has to have a value and is given none";
 	case EBPF_KCONFIG_WRONG_SIZE:
-		return "its value has another size";
+		return "the value of a kconfig extern has another size";
 	case EBPF_KCONFIG_TOO_LARGE:
-		return "the values together pass 32 bits";
+		return "the values of the kconfig externs together pass 32 bits";
 	case EBPF_KCONFIG_UNSUITED_VALUE:
-		return "what is said of it is no value of its type";
+		return "what the configuration says of a kconfig extern is no value of its type";
 	case EBPF_KCONFIG_VALUE_OUT_OF_RANGE:
-		return "its number is out of the range of its type, or of 64 bits";
+		return "the number of a kconfig extern is out of the range of its type, or of 64 bits";
 	default:
 		return "an unknown number";
 	}

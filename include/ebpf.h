@@ -122,21 +122,21 @@ enum ebpf_number {
 	EBPF_PARSE_LICENSE = 141, /* the license can't be read */
 	EBPF_PARSE_KERNEL_VERSION = 142, /* the kernel version is not 4 bytes */
 	EBPF_PARSE_RELOCATION_TARGET = 143, /* a relocation without a target */
-	EBPF_PARSE_PROGRAM_SECTION = 144, /* about the section */
+	EBPF_PARSE_PROGRAM_SECTION = 144, /* the name of a section of code gives no program type; about the section */
 	EBPF_PARSE_PROGRAM_CODE = 145, /* the code of a function is no multiple of 8 bytes */
-	EBPF_PARSE_MAP_DEFINITION = 146, /* about the map */
+	EBPF_PARSE_MAP_DEFINITION = 146, /* the definition of a map can't be read; about the map */
 	EBPF_PARSE_SYMBOL_CONFLICT = 147, /* symbols conflict */
 	EBPF_PARSE_UNKNOWN_SYMBOL = 148, /* a symbol is unknown */
-	EBPF_PARSE_INVALID_SYMBOL = 149, /* about the symbol, where it has a name */
-	EBPF_PARSE_GLOBAL_DATA = 150, /* about the variable: its value has another size, or passes its map's data */
-	EBPF_PARSE_SYMBOL_NOT_FOUND = 151, /* about the variable */
+	EBPF_PARSE_INVALID_SYMBOL = 149, /* a symbol has no bytes, or some outside its section; about the symbol, where it has a name */
+	EBPF_PARSE_GLOBAL_DATA = 150, /* a value does not fit its variable or its map; about the variable */
+	EBPF_PARSE_SYMBOL_NOT_FOUND = 151, /* no symbol has the name of the variable; about the variable */
 	EBPF_PARSE_MAP_NOT_FOUND = 152, /* no map has the variable's section */
 	EBPF_PARSE_MAP_SYMBOL_NAME = 153, /* kept, never returned */
-	EBPF_PARSE_NO_SYMBOLS = 154, /* about the section */
+	EBPF_PARSE_NO_SYMBOLS = 154, /* no symbol is in a section; about the section */
 	EBPF_PARSE_NO_TYPES = 155, /* the object has no types */
-	EBPF_PARSE_BIG_ENDIAN_CODE = 156, /* lenient parsing (`ebpf_open_broad`) alone */
-	EBPF_PARSE_TOO_LARGE = 157, /* ebpf_open_within alone */
-	EBPF_PARSE_OTHER_MACHINE = 158, /* lenient parsing (`ebpf_open_broad`) alone: e_machine is not eBPF's */
+	EBPF_PARSE_BIG_ENDIAN_CODE = 156, /* the file is big-endian and has code: lenient parsing alone */
+	EBPF_PARSE_TOO_LARGE = 157, /* what is made of the file would pass the limit: ebpf_open_within alone */
+	EBPF_PARSE_OTHER_MACHINE = 158, /* the file is for another machine than eBPF: lenient parsing alone */
 
 	/* 200 to 299: types. About the section, from 220 on */
 	EBPF_TYPES_READ_INVALID_HEADER = 200, /* the kernel's types: the header of the types is not valid */
@@ -193,8 +193,8 @@ enum ebpf_number {
 	EBPF_MAPS_INVALID_LINE_INFO = 309, /* maps: line info does not fit its function */
 	EBPF_MAPS_PROGRAM_TOO_LONG = 310, /* maps: the linked program is too long */
 	EBPF_MAPS_MAP_ADDRESS_OVERFLOW = 311, /* maps: a place in a map is past 2,147,483,647 */
-	EBPF_MAPS_MISSING_DESCRIPTOR = 320, /* about the map that a slot refers to, and no row names */
-	EBPF_MAPS_UNKNOWN_MAP = 321, /* about the row's name, which no map of the object has */
+	EBPF_MAPS_MISSING_DESCRIPTOR = 320, /* maps: no row names the map that a slot refers to; about the map */
+	EBPF_MAPS_UNKNOWN_MAP = 321, /* maps: the object has no map of a row's name; about the name */
 
 	/* 400 to 499: finding externs. About the extern, where one is named */
 	EBPF_KSYMS_NO_KERNEL_TYPES = 400, /* an extern has a type, and no kernel's types are given */
@@ -203,8 +203,8 @@ enum ebpf_number {
 	EBPF_KSYMS_VARIABLE_TYPE = 403, /* the kernel's variable has another type */
 	EBPF_KSYMS_EXTERN_TYPE = 404, /* the type of an extern is neither a function nor a variable */
 	EBPF_KSYMS_AMBIGUOUS = 405, /* the kernel has several of the name */
-	EBPF_KSYMS_LINE_ACCESS = 406, /* a line is no UTF-8 */
-	EBPF_KSYMS_LINE = 407, /* about what is wrong with the line */
+	EBPF_KSYMS_LINE_ACCESS = 406, /* a line of the kernel's symbols is no UTF-8 */
+	EBPF_KSYMS_LINE = 407, /* a line of the kernel's symbols can't be read; about what is wrong with it */
 	EBPF_KSYMS_FUNCTION_NOT_FOUND = 408, /* the kernel has no such function */
 	EBPF_KSYMS_TYPES_INVALID_HEADER = 420, /* a type of an extern: the header of the types is not valid */
 	EBPF_KSYMS_TYPES_INVALID_TYPE_INFO = 421, /* a type of an extern: a type can't be read */
@@ -249,7 +249,7 @@ enum ebpf_number {
 	EBPF_CALLS_INVALID_LINE_INFO = 609, /* calls: line info does not fit its function */
 	EBPF_CALLS_PROGRAM_TOO_LONG = 610, /* calls: the linked program is too long */
 	EBPF_CALLS_MAP_ADDRESS_OVERFLOW = 611, /* calls: a place in a map is past 2,147,483,647 */
-	EBPF_CALLS_UNWRITTEN_EXTERN = 620, /* about the extern: its call is not written. `ebpf_prepare*` alone */
+	EBPF_CALLS_UNWRITTEN_EXTERN = 620, /* calls: no pass has written the call of an extern: ebpf_prepare and ebpf_prepare_handle alone; about the extern */
 
 	/* 700 to 799: a file's types for the kernel. About the type of the file that is named, where it has a name */
 	EBPF_KERNEL_TYPES_FILE_TOO_SHORT = 700, /* kernel types: the file is too short for its header */
@@ -277,10 +277,10 @@ enum ebpf_number {
 	EBPF_KERNEL_TYPES_READ_MULTI_LEVEL_MAP_IN_MAP_NOT_SUPPORTED = 732, /* kernel types: maps of maps nest */
 	EBPF_KERNEL_TYPES_READ_INVALID_VALUES_SPEC = 733, /* kernel types: the values of a map are not declared as such */
 	EBPF_KERNEL_TYPES_READ_TOO_LARGE = 734, /* kernel types: the types are too large */
-	EBPF_KERNEL_TYPES_NO_SECTION_SIZE = 740, /* about the section, of which the file has none with a size */
-	EBPF_KERNEL_TYPES_NOT_A_VARIABLE = 741, /* about what a section's entry names, and is no variable */
-	EBPF_KERNEL_TYPES_NO_SYMBOL = 742, /* about the global variable that has no symbol */
-	EBPF_KERNEL_TYPES_UNSUPPORTED_EXTERN = 743, /* about the extern of .kconfig whose type has no size there */
+	EBPF_KERNEL_TYPES_NO_SECTION_SIZE = 740, /* kernel types: the file has no section of the name with a size; about the section */
+	EBPF_KERNEL_TYPES_NOT_A_VARIABLE = 741, /* kernel types: a section's entry names no variable; about what it names */
+	EBPF_KERNEL_TYPES_NO_SYMBOL = 742, /* kernel types: a global variable has no symbol; about the variable */
+	EBPF_KERNEL_TYPES_UNSUPPORTED_EXTERN = 743, /* kernel types: the type of an extern of .kconfig has no size there; about the extern */
 	EBPF_KERNEL_TYPES_TOO_LARGE = 744, /* ids, offsets or lengths pass 32 bits */
 
 	/* 800 to 899: initial values of maps of maps and of arrays of programs. About the map, from 822 on */
@@ -308,14 +308,14 @@ enum ebpf_number {
 
 	/* 900 to 999: kconfig externs. About the extern, but for 900, 901 and 906 */
 	EBPF_KCONFIG_NOT_A_VARIABLE = 900, /* an entry of .kconfig names no variable */
-	EBPF_KCONFIG_UNREADABLE_NAME = 901, /* the name of one can't be read */
-	EBPF_KCONFIG_UNKNOWN_NAME = 902, /* it begins neither with CONFIG_ nor with LINUX_ */
-	EBPF_KCONFIG_UNSUPPORTED_TYPE = 903, /* its type has no values of a configuration */
-	EBPF_KCONFIG_NO_VALUE = 904, /* it has to have a value and is given none */
-	EBPF_KCONFIG_WRONG_SIZE = 905, /* its value has another size */
-	EBPF_KCONFIG_TOO_LARGE = 906, /* the values together pass 32 bits */
-	EBPF_KCONFIG_UNSUITED_VALUE = 907, /* what is said of it is no value of its type */
-	EBPF_KCONFIG_VALUE_OUT_OF_RANGE = 908, /* its number is out of the range of its type, or of 64 bits */
+	EBPF_KCONFIG_UNREADABLE_NAME = 901, /* the name of a kconfig extern can't be read */
+	EBPF_KCONFIG_UNKNOWN_NAME = 902, /* the name of a kconfig extern begins neither with CONFIG_ nor with LINUX_ */
+	EBPF_KCONFIG_UNSUPPORTED_TYPE = 903, /* the type of a kconfig extern has no values of a configuration */
+	EBPF_KCONFIG_NO_VALUE = 904, /* a kconfig extern has to have a value and is given none */
+	EBPF_KCONFIG_WRONG_SIZE = 905, /* the value of a kconfig extern has another size */
+	EBPF_KCONFIG_TOO_LARGE = 906, /* the values of the kconfig externs together pass 32 bits */
+	EBPF_KCONFIG_UNSUITED_VALUE = 907, /* what the configuration says of a kconfig extern is no value of its type */
+	EBPF_KCONFIG_VALUE_OUT_OF_RANGE = 908, /* the number of a kconfig extern is out of the range of its type, or of 64 bits */
 };
 
 /* ---- what a refusal reports beside the name that it is about */
