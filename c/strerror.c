@@ -119,7 +119,7 @@ const char *ebpf_strerror(uint32_t number)
 	case EBPF_PARSE_UNKNOWN_SYMBOL:
 		return "a symbol is unknown";
 	case EBPF_PARSE_INVALID_SYMBOL:
-		return "a symbol has no bytes, or some outside its section; about the symbol, where it has a name";
+		return "a symbol has no bytes, or some outside its section; about the symbol";
 	case EBPF_PARSE_GLOBAL_DATA:
 		return "a value does not fit its variable or its map; about the variable";
 	case EBPF_PARSE_SYMBOL_NOT_FOUND:
@@ -343,7 +343,7 @@ const char *ebpf_strerror(uint32_t number)
 	case EBPF_CALLS_MAP_ADDRESS_OVERFLOW:
 		return "calls: a place in a map is past 2,147,483,647";
 	case EBPF_CALLS_UNWRITTEN_EXTERN:
-		return "calls: no pass has written the call of an extern: ebpf_prepare and ebpf_prepare_handle alone; about the extern";
+		return "calls: no pass has written the call of an extern; about the extern";
 	case EBPF_KERNEL_TYPES_FILE_TOO_SHORT:
 		return "kernel types: the file is too short for its header";
 	case EBPF_KERNEL_TYPES_FILE_BAD_MAGIC:
@@ -395,13 +395,13 @@ const char *ebpf_strerror(uint32_t number)
 	case EBPF_KERNEL_TYPES_READ_TOO_LARGE:
 		return "kernel types: the types are too large";
 	case EBPF_KERNEL_TYPES_NO_SECTION_SIZE:
-		return "kernel types: the file has no section of the name with a size; about the section";
+		return "kernel types: no section of the name has a size; about the section";
 	case EBPF_KERNEL_TYPES_NOT_A_VARIABLE:
 		return "kernel types: a section's entry names no variable; about what it names";
 	case EBPF_KERNEL_TYPES_NO_SYMBOL:
 		return "kernel types: a global variable has no symbol; about the variable";
 	case EBPF_KERNEL_TYPES_UNSUPPORTED_EXTERN:
-		return "kernel types: the type of an extern of .kconfig has no size there; about the extern";
+		return "kernel types: the type of a kconfig extern has no size; about the extern";
 	case EBPF_KERNEL_TYPES_TOO_LARGE:
 		return "ids, offsets or lengths pass 32 bits";
 	case EBPF_INITIAL_SLOTS_FILE_TOO_SHORT:

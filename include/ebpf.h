@@ -127,7 +127,7 @@ enum ebpf_number {
 	EBPF_PARSE_MAP_DEFINITION = 146, /* the definition of a map can't be read; about the map */
 	EBPF_PARSE_SYMBOL_CONFLICT = 147, /* symbols conflict */
 	EBPF_PARSE_UNKNOWN_SYMBOL = 148, /* a symbol is unknown */
-	EBPF_PARSE_INVALID_SYMBOL = 149, /* a symbol has no bytes, or some outside its section; about the symbol, where it has a name */
+	EBPF_PARSE_INVALID_SYMBOL = 149, /* a symbol has no bytes, or some outside its section; about the symbol */
 	EBPF_PARSE_GLOBAL_DATA = 150, /* a value does not fit its variable or its map; about the variable */
 	EBPF_PARSE_SYMBOL_NOT_FOUND = 151, /* no symbol has the name of the variable; about the variable */
 	EBPF_PARSE_MAP_NOT_FOUND = 152, /* no map has the variable's section */
@@ -249,7 +249,7 @@ enum ebpf_number {
 	EBPF_CALLS_INVALID_LINE_INFO = 609, /* calls: line info does not fit its function */
 	EBPF_CALLS_PROGRAM_TOO_LONG = 610, /* calls: the linked program is too long */
 	EBPF_CALLS_MAP_ADDRESS_OVERFLOW = 611, /* calls: a place in a map is past 2,147,483,647 */
-	EBPF_CALLS_UNWRITTEN_EXTERN = 620, /* calls: no pass has written the call of an extern: ebpf_prepare and ebpf_prepare_handle alone; about the extern */
+	EBPF_CALLS_UNWRITTEN_EXTERN = 620, /* calls: no pass has written the call of an extern; about the extern */
 
 	/* 700 to 799: a file's types for the kernel. About the type of the file that is named, where it has a name */
 	EBPF_KERNEL_TYPES_FILE_TOO_SHORT = 700, /* kernel types: the file is too short for its header */
@@ -277,10 +277,10 @@ enum ebpf_number {
 	EBPF_KERNEL_TYPES_READ_MULTI_LEVEL_MAP_IN_MAP_NOT_SUPPORTED = 732, /* kernel types: maps of maps nest */
 	EBPF_KERNEL_TYPES_READ_INVALID_VALUES_SPEC = 733, /* kernel types: the values of a map are not declared as such */
 	EBPF_KERNEL_TYPES_READ_TOO_LARGE = 734, /* kernel types: the types are too large */
-	EBPF_KERNEL_TYPES_NO_SECTION_SIZE = 740, /* kernel types: the file has no section of the name with a size; about the section */
+	EBPF_KERNEL_TYPES_NO_SECTION_SIZE = 740, /* kernel types: no section of the name has a size; about the section */
 	EBPF_KERNEL_TYPES_NOT_A_VARIABLE = 741, /* kernel types: a section's entry names no variable; about what it names */
 	EBPF_KERNEL_TYPES_NO_SYMBOL = 742, /* kernel types: a global variable has no symbol; about the variable */
-	EBPF_KERNEL_TYPES_UNSUPPORTED_EXTERN = 743, /* kernel types: the type of an extern of .kconfig has no size there; about the extern */
+	EBPF_KERNEL_TYPES_UNSUPPORTED_EXTERN = 743, /* kernel types: the type of a kconfig extern has no size; about the extern */
 	EBPF_KERNEL_TYPES_TOO_LARGE = 744, /* ids, offsets or lengths pass 32 bits */
 
 	/* 800 to 899: initial values of maps of maps and of arrays of programs. About the map, from 822 on */
