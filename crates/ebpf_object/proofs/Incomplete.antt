@@ -1,5 +1,5 @@
 -- Descriptors that are given by name, one after the other.
-use Rattle.std.proofs.Common.{◌≡◌, ◌<◌, ◌+◌, ◌++◌, ℕ, Bool, true, false, List, [], ◌∷◌, length, map, drop, Bor, Option, Some, None, sym, ap, ◌∙◌, inl, inr}
+use Rattle.std.proofs.Common.{◌≡◌, ◌<◌, ◌+◌, ◌++◌, ℕ, Bool, true, false, List, [], ◌∷◌, length, map, drop, Bor, Option, Some, None, refl, sym, ap, ◌∙◌, inl, inr}
 use Rattle.std.specs.Prelude.{ℤ, slice_index_or, not, if◌then◌else◌}
 use Rattle.std.proofs.lemmas.List.{append_assoc}
 use Rattle.std.specs.FinMap.{FinMap, contains_key, insert}
@@ -10,7 +10,7 @@ use Rattle.ebpf_object.specs.Prepared.{NamesNothing, RefusesPreparing, is_prepar
 use Rattle.ebpf_object.specs.Stages.{CompleteFdsFault, Descriptor, Wrapped, descriptor_of, fds_fault, given_fault, unknown_maps}
 use Rattle.ebpf_object.specs.declared.object.Object.{Object}
 use Rattle.ebpf_object.specs.declared.prepare_error.PrepareError.{PrepareError}
-use Rattle.ebpf_object.specs.declared.prepare_error.PrepareError.TheVariants.{Maps}
+use Rattle.ebpf_object.specs.declared.prepare_error.PrepareError.TheVariants.{Maps, UnwrittenExtern}
 
 -- one more descriptor
 pub one_by_name : (before : FinMap text_cmp ℤ) (ds : List (Bor (List ℕ) × ℤ)) (i : ℕ) (d : Bor (List ℕ) × ℤ)
@@ -36,6 +36,11 @@ module _ (o : Object) (ds : List (Bor (List ℕ) × ℤ)) (i : ℕ) (d : Bor (Li
   -- a name that a map has
   pub one_known : contains_key o.maps d.0.now ≡ true → rest_unknown ≡ unknown_maps o (map descriptor_of (drop i ds))
   one_known there = sym (more true there)
+
+-- ---- an extern that is refused
+
+pub not_written_extern : (Fault : List ℕ → Type 0) (name : List ℕ) → Fault name → RefusesPreparing (Wrapped UnwrittenExtern Fault) (UnwrittenExtern name)
+not_written_extern Fault name fault = (name, refl, fault)
 
 -- ---- complete descriptors that are refused
 

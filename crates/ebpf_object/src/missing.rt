@@ -5,7 +5,7 @@ ghost use Rattle.std.specs.Prelude.{◌≡◌, map, slice_get, option_map, true,
 ghost use Rattle.ebpf_base.specs.Maps.{put_all};
 ghost use Rattle.ebpf_object.specs.Prepared.{RefusesPreparing};
 ghost use Rattle.ebpf_object.specs.Stages.{CompleteFdsFault, descriptor_of, descriptors_of, fds_fault, fds_written, first_missing, given_fault, maps_without_descriptors, unknown_maps, unwritten_externs, unwritten_fault, Wrapped};
-ghost use Rattle.ebpf_object.specs.declared.prepare_error.PrepareError.TheVariants.{UnwrittenExtern};
+ghost use Rattle.ebpf_object.specs.declared.prepare_error.PrepareError.TheVariants.{MissingDescriptor, UnknownMap, UnwrittenExtern};
 
 use crate::object::Object;
 use crate::own_maps::relocate_own_maps;
@@ -106,6 +106,41 @@ fn first_slot_name(slots: &Items<NamedSlot>) -> Result<Option<Text>, AllocError>
     }
 }
 
+/// The error of the first name without a map.
+fn first_unknown(
+    object: &Object,
+    descriptors: &[(&str, i32)],
+) -> Result<Option<PrepareError>, AllocError>
+    ensures { IfOk result (λ unknown.
+        unknown
+        ≡ option_map UnknownMap
+        (slice_get (unknown_maps object.now (map descriptor_of descriptors.now)) 0)) }
+{
+    let unknown = object.unknown_maps(descriptors)?;
+    match first_name(&unknown)? {
+        Some(name) => Ok(Some(PrepareError::UnknownMap { name })),
+        None => Ok(None),
+    }
+}
+
+/// The error of the first slot whose own map has no descriptor.
+fn first_without_descriptor(
+    object: &Object,
+    descriptors: &[(&str, i32)],
+) -> Result<Option<PrepareError>, AllocError>
+    ensures { IfOk result (λ missing.
+        missing
+        ≡ option_map (λ s. MissingDescriptor s.name)
+        (slice_get (maps_without_descriptors object.now (map descriptor_of descriptors.now))
+        0)) }
+{
+    let slots = object.maps_without_descriptors(descriptors)?;
+    match first_slot_name(&slots)? {
+        Some(map) => Ok(Some(PrepareError::MissingDescriptor { map })),
+        None => Ok(None),
+    }
+}
+
 /// The error of the first name without a map; else that of the first slot whose own map has no descriptor.
 fn first_missing(
     object: &Object,
@@ -114,12 +149,9 @@ fn first_missing(
     ensures { IfOk result (λ missing.
         missing ≡ first_missing object.now (map descriptor_of descriptors.now)) }
 {
-    if let Some(name) = first_name(&object.unknown_maps(descriptors)?)? {
-        return Ok(Some(PrepareError::UnknownMap { name }));
-    }
-    match first_slot_name(&object.maps_without_descriptors(descriptors)?)? {
-        Some(map) => Ok(Some(PrepareError::MissingDescriptor { map })),
-        None => Ok(None),
+    match first_unknown(object, descriptors)? {
+        Some(error) => Ok(Some(error)),
+        None => first_without_descriptor(object, descriptors),
     }
 }
 
@@ -194,6 +226,7 @@ pub fn relocate_complete_maps(
 ///
 /// - `UnwrittenExtern`: with the name of the first extern of `Object::unwritten_externs`, where both are chosen.
 /// - `OutOfMemory`: only where memory was refused.
+#[tactic(auto, using(crate::proofs::Incomplete::not_written_extern))]
 pub fn check_externs(object: &Object, calls: bool, complete: bool) -> Result<(), PrepareError>
     ensures sound { IfOk result (λ _. unwritten_fault calls complete object.now ≡ None) }
     ensures fault { IfErr result
@@ -201,7 +234,10 @@ pub fn check_externs(object: &Object, calls: bool, complete: bool) -> Result<(),
         (Wrapped UnwrittenExtern (λ name.
         unwritten_fault calls complete object.now ≡ Some name))) }
 {
-    if !calls || !complete {
+    if !calls {
+        return Ok(());
+    }
+    if !complete {
         return Ok(());
     }
     let unwritten = object.unwritten_externs()?;
