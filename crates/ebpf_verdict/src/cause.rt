@@ -37,7 +37,7 @@ pub enum Cause {
 }
 
 /// Whether a CO-RE relocation poisoned a slot.
-pub fn is_poisoned(slot: bpf_insn) -> bool
+fn is_poisoned(slot: bpf_insn) -> bool
     ensures { result ≡ is_poisoned slot }
 {
     slot.code == CALL && slot.regs == 0 && slot.off == 0 && slot.imm == POISON_CALL
