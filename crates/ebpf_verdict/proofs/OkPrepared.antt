@@ -36,6 +36,7 @@ use Rattle.ebpf_parts.specs.Slots.{is_poisoned}
 use Rattle.ebpf_reloc.proofs.OneResult.{any_at, one_way}
 use Rattle.ebpf_reloc.specs.Linking.{ProgramValue, key_of, IsLinked}
 use Rattle.ebpf_reloc.specs.SlotTargets.{LinkableValue}
+use Rattle.ebpf_verdict.proofs.SoFar.{within}
 use Rattle.ebpf_verdict.specs.Causes.{map_cause, slot_cause}
 use Rattle.ebpf_verdict.specs.Reasons.{cause_if_reached, cause_of, is_reached, reason_at, reasons_of}
 use Rattle.ebpf_verdict.specs.Verdicts.{AreVerdicts, IsCode, IsJudged, IsVerdict, OkIsPrepared, Runs, RunsPrepared, code_is_ok, has_empty_part, has_empty_section, is_ok, is_refused, is_refused_result, map_types}
@@ -84,11 +85,6 @@ any_none : {A : Type 0} (p : A → Bool) (xs : List A) → list_any p xs ≡ fal
 any_none p [] h i x at = cc
 any_none p (y ∷ xs) h zero x at = ap p (sym (same_some y x at)) ∙ (or_false (p y) (list_any p xs) h).0
 any_none p (y ∷ xs) h (suc i) x at = any_none p xs (or_false (p y) (list_any p xs) h).1 i x at
-
-within : {A : Type 0} (xs : List A) (i : ℕ) (x : A) → slice_get xs i ≡ Some x → i < length xs
-within [] i x at = cc
-within (y ∷ xs) zero x at = omega arith
-within (y ∷ xs) (suc i) x at = let h = within xs i x at in omega (arith, h)
 
 range_at : (a n i : ℕ) → i < n → slice_get (range_with_len a n) i ≡ Some (a + i)
 range_at a zero i h = absurd (omega (arith, h))

@@ -20,7 +20,8 @@ length_more : {A : Type 0} (xs : List A) (y : A) → length (xs ++ y ∷ []) ≡
 length_more [] y = refl
 length_more (x ∷ xs) y = ap suc (length_more xs y)
 
-within : {A : Type 0} (xs : List A) (i : ℕ) (x : A) → slice_get xs i ≡ Some x → i < length xs
+-- a place with an item is within the list
+pub within : {A : Type 0} (xs : List A) (i : ℕ) (x : A) → slice_get xs i ≡ Some x → i < length xs
 within [] i x at = cc
 within (y ∷ xs) zero x at = omega arith
 within (y ∷ xs) (suc i) x at = let h = within xs i x at in omega (arith, h)

@@ -1,6 +1,6 @@
 -- The reasons for which a finished program breaks on a kernel: those of its slots, in the order of
 -- the slots.
-use Rattle.std.specs.Prelude.{ℕ, Bool, true, false, ◌≡◌, List, length, Option, None}
+use Rattle.std.specs.Prelude.{ℕ, Bool, false, List, length, Option, None}
 use Rattle.std.specs.Prelude.{option_map, slice_get, if◌then◌else◌, unwrap_or}
 use Rattle.std.specs.List.{filter_map, range_with_len}
 use Rattle.std.specs.Option.{option_and_then}
