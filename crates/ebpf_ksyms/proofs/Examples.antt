@@ -4,19 +4,19 @@ use Rattle.ebpf_ksyms.specs.Addresses.{Line, address_of, addresses, line_fault, 
 use Rattle.ebpf_ksyms.specs.declared.error.KsymsError.TheVariants.{AmbiguousResolution}
 
 -- `12 T a`, `12 t a`, `13 t a` and `13 t b`
-first : List ℕ
+pub first : List ℕ
 first = 49 ∷ 50 ∷ 32 ∷ 84 ∷ 32 ∷ 97 ∷ []
 
-same : List ℕ
+pub same : List ℕ
 same = 49 ∷ 50 ∷ 32 ∷ 116 ∷ 32 ∷ 97 ∷ []
 
-other : List ℕ
+pub other : List ℕ
 other = 49 ∷ 51 ∷ 32 ∷ 116 ∷ 32 ∷ 97 ∷ []
 
-next : List ℕ
+pub next : List ℕ
 next = 49 ∷ 51 ∷ 32 ∷ 116 ∷ 32 ∷ 98 ∷ []
 
-any_name : List ℕ → Bool
+pub any_name : List ℕ → Bool
 any_name name = true
 
 pub same_address : line_fault any_name (Ok first ∷ []) (Ok same) ≡ None
