@@ -53,10 +53,10 @@ struct LinkedPrograms {
 }
 
 /// Whether a CO-RE relocation is refused.
-fn is_refused(record: &RecordOutcome) -> bool
-    ensures { result ≡ is_refused record.now }
+fn is_refused(row: &RecordOutcome) -> bool
+    ensures { result ≡ is_refused row.now }
 {
-    match &record.result {
+    match &row.result {
         RecordResult::Refused(_) => true,
         RecordResult::Value(_) => false,
         RecordResult::Absent(_) => false,
@@ -67,7 +67,7 @@ fn is_refused(record: &RecordOutcome) -> bool
 fn any_refused(records: &[RecordOutcome]) -> bool
     ensures { result ≡ list_any is_refused records.now }
 {
-    records.iter().any(|record| is_refused(record))
+    records.iter().any(|row| is_refused(row))
 }
 
 /// Whether a section of CO-RE relocations has none.
