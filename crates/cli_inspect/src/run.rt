@@ -32,10 +32,10 @@ impl Told {
             object,
             programs,
             link_maps,
-            types,
+            records,
         } = prepared;
         drop(object);
-        drop(types);
+        drop(records);
         Told {
             parsed,
             programs,

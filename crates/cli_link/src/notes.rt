@@ -1,6 +1,5 @@
 //! Notes on the values that CO-RE relocations wrote into slots.
 
-use ebpf_btf::Btf;
 use ebpf_btf_ext::Relocation;
 use ebpf_core_relo::{Absence, RecordOutcome, RecordResult, RecordSlot};
 use ebpf_object::Object;
@@ -96,23 +95,14 @@ fn all_notes(
     Ok(notes)
 }
 
-/// The notes on an object's CO-RE relocations over a kernel's types.
-fn notes_over(alloc: Global, parsed: &Object, types: &Btf) -> Result<Vec<Note>, AllocError> {
-    let outcomes = parsed.record_outcomes(types)?;
-    all_notes(alloc, parsed, outcomes.records.as_slice())
-}
-
 impl RecordNotes {
-    /// The notes on a parsed object's CO-RE relocations; none where the kernel's types aren't given.
+    /// The notes on a parsed object's CO-RE relocations with these outcomes.
     pub fn of(
         alloc: Global,
         parsed: &Object,
-        types: Option<&Btf>,
+        outcomes: &[RecordOutcome],
     ) -> Result<RecordNotes, AllocError> {
-        let mut notes = match types {
-            Some(types) => notes_over(alloc, parsed, types)?,
-            None => Vec::new(alloc),
-        };
+        let mut notes = all_notes(alloc, parsed, outcomes)?;
         notes.sort_by_key(|note| note.slot)?;
         Ok(RecordNotes { notes })
     }

@@ -81,7 +81,7 @@ fn write_output<'a>(
 /// Writes the programs of an object.
 fn write_prepared(rt: &HostRuntime, prepared: &Prepared, lines: bool) -> Result<(), Stop> {
     let (alloc, parsed) = (rt.alloc(), &prepared.parsed);
-    let notes = RecordNotes::of(alloc, parsed, prepared.types.as_ref())?;
+    let notes = RecordNotes::of(alloc, parsed, prepared.records.as_slice())?;
     let origins = Origins::new(alloc, &prepared.object, parsed, &notes)?;
     write_output(rt, prepared, &origins, lines)
 }

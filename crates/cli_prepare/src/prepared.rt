@@ -9,16 +9,17 @@ ghost use Rattle.ebpf_parts.specs.declared.parse_mode.ParseMode.{ParseMode};
 
 use crate::kernel::Kernel;
 use crate::opened::{Opened, open_file};
-use crate::passes::{Passed, pass_all};
+use crate::passes::{chosen_maps, pass_all};
 use crate::refusals::refuse_preparing;
 use cli_common::programs::ObjectProgram;
 use cli_common::refuse::Stop;
 use ebpf_base::{Items, Text};
-use ebpf_btf::Btf;
+use ebpf_core_relo::RecordOutcome;
 use ebpf_object::Object;
 use ebpf_object::prepare::{PrepareError, Steps, SymbolText, numbered_descriptors, prepare_copy};
 use ebpf_object::relocation::LinkMap;
-use std::alloc::Global;
+use ebpf_outcomes::PreparedWithOutcomes;
+use std::alloc::{AllocError, Global};
 
 /// The arguments of a command that prepares an object.
 #[derive(Drop)]
@@ -52,8 +53,8 @@ pub struct Prepared {
     pub programs: Vec<ObjectProgram>,
     /// The link map of each of them, in the same order: copies of functions, and the references between these.
     pub link_maps: Items<LinkMap>,
-    /// The kernel's types, where they are given.
-    pub types: Option<Btf>,
+    /// The outcomes of its CO-RE relocations, section by section and in order; none where the kernel's types aren't given.
+    pub records: Items<RecordOutcome>,
 }
 
 /// A copy of an object after all passes: types where the kernel's are known, descriptors of its maps, 1 and on in byte order
@@ -98,9 +99,13 @@ pub fn finished_object(
 }
 
 /// An object after all passes; the refusal of a pass is reported.
-fn pass_opened(rt: &HostRuntime, words: &PrepareWords, opened: &Opened) -> Result<Passed, Stop> {
+fn pass_opened(
+    rt: &HostRuntime,
+    words: &PrepareWords,
+    opened: &Opened,
+) -> Result<PreparedWithOutcomes, Stop> {
     let parsed = &opened.parsed;
-    match pass_all(rt.alloc(), parsed, &opened.programs, &opened.kernel) {
+    match pass_all(rt.alloc(), parsed, &opened.kernel) {
         Ok(passed) => Ok(passed),
         Err(error) => {
             let stop = refuse_preparing(rt, words, parsed, &error);
@@ -110,31 +115,33 @@ fn pass_opened(rt: &HostRuntime, words: &PrepareWords, opened: &Opened) -> Resul
     }
 }
 
-/// An object before and after the passes.
-fn with_passed(opened: Opened, passed: Passed) -> Prepared {
+/// An object before and after the passes, with the link maps of the chosen programs.
+fn with_passed(
+    alloc: Global,
+    opened: Opened,
+    passed: PreparedWithOutcomes,
+) -> Result<Prepared, AllocError> {
     let Opened {
         file,
         parsed,
         programs,
         kernel,
     } = opened;
-    let Kernel {
-        types,
-        symbols,
-        config,
-        version: _,
-    } = kernel;
     drop(file);
-    drop(symbols);
-    drop(config);
-    let Passed { object, link_maps } = passed;
-    Prepared {
+    drop(kernel);
+    let PreparedWithOutcomes {
+        object,
+        records,
+        link_maps,
+    } = passed;
+    let link_maps = chosen_maps(alloc, &object, link_maps, &programs)?;
+    Ok(Prepared {
         parsed,
         object,
         programs,
         link_maps,
-        types,
-    }
+        records,
+    })
 }
 
 /// Opens the object's file as `open_file` does, and makes all passes over the object: types where they are given, maps,
@@ -142,7 +149,7 @@ fn with_passed(opened: Opened, passed: Passed) -> Prepared {
 pub fn prepare_file(rt: &HostRuntime, words: &PrepareWords) -> Result<Prepared, Stop> {
     let opened = open_file(rt, words)?;
     match pass_opened(rt, words, &opened) {
-        Ok(passed) => Ok(with_passed(opened, passed)),
+        Ok(passed) => Ok(with_passed(rt.alloc(), opened, passed)?),
         Err(stop) => {
             drop(opened);
             Err(stop)

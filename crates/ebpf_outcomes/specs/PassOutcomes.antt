@@ -1,0 +1,86 @@
+-- An object after the chosen passes, with the outcomes of its CO-RE relocations and the link maps
+-- of its programs: the slots of the finished object are those that they say.
+use Rattle.std.specs.Prelude.{◌≡◌, ◌==◌, ⊤, ℕ, Bool, true, false, List, [], Option, Some, None}
+use Rattle.std.specs.Prelude.{Ok, length, map}
+use Rattle.std.specs.List.{AllZip, list_any}
+use Rattle.std.specs.Option.{option_map_or}
+use Rattle.ebpf_btf.specs.TypeInfo.{TypeInfo}
+use Rattle.ebpf_btf_ext.specs.ExtReading.{ExtInfo}
+use Rattle.ebpf_btf_ext.specs.declared.relocation.Relocation.{Relocation}
+use Rattle.ebpf_core_relo.specs.RecordOutcomes.{outcome_without_texts}
+use Rattle.ebpf_core_relo.specs.declared.outcomes.RecordOutcome.{RecordOutcome}
+use Rattle.ebpf_core_relo.specs.declared.outcomes.RecordResult.{RecordResult}
+use Rattle.ebpf_core_relo.specs.declared.outcomes.RecordResult.TheVariants.{Value, Absent, Refused}
+use Rattle.ebpf_ksyms.specs.Sources.{Source}
+use Rattle.ebpf_object.specs.LinkedPrograms.{linkable_of, programs_in_order}
+use Rattle.ebpf_object.specs.Names.{has_function_in}
+use Rattle.ebpf_object.specs.Prepared.{Stages}
+use Rattle.ebpf_object.specs.Stages.{Chosen}
+use Rattle.ebpf_object.specs.WrittenSlots.{outcomes_by, relocated_slots, slots_of_records}
+use Rattle.ebpf_object.specs.declared.object.Object.{Object}
+use Rattle.ebpf_outcomes.specs.declared.prepare_with_outcomes.PreparedWithOutcomes.{
+  PreparedWithOutcomes,
+}
+use Rattle.ebpf_reloc.specs.Linking.{ProgramValue, IsLinkMapAt, key_of}
+use Rattle.ebpf_reloc.specs.SlotTargets.{LinkableValue}
+use Rattle.ebpf_reloc.specs.declared.link_map.LinkMap.{LinkMap}
+
+-- ---- CO-RE relocations
+
+-- The outcomes of an object's CO-RE relocations over the types that are chosen; the texts in faults
+-- aside that are for people to read. Without types there are none.
+abbrev pub AreOutcomes : Option TypeInfo → Object → List RecordOutcome → Type 0
+AreOutcomes None o records = records ≡ []
+AreOutcomes (Some target) o records =
+    map outcome_without_texts records ≡ outcomes_by o target o.btf o.btf_ext
+
+-- the slots that CO-RE relocations write are those that their outcomes leave, each over those
+-- before it
+abbrev pub OutcomesLeaveSlots : Option TypeInfo → Object → Type 0
+OutcomesLeaveSlots None o = ⊤
+OutcomesLeaveSlots (Some target) o =
+    relocated_slots o target ≡ Ok (slots_of_records o target o.btf o.btf_ext)
+
+-- ---- link maps
+
+-- the link map of each program, in the order of the programs
+abbrev pub AreLinkMaps : LinkableValue → List ProgramValue → List LinkMap → Type 0
+AreLinkMaps parts programs maps =
+    AllZip (λ program m. IsLinkMapAt parts (key_of program) m) programs maps
+
+-- the link map of each program of an object, in byte order of the programs' names; none where
+-- programs aren't linked
+abbrev pub AreLinkMapsIf : Bool → Object → List LinkMap → Type 0
+AreLinkMapsIf false unlinked maps = maps ≡ []
+AreLinkMapsIf true unlinked maps =
+    AreLinkMaps (linkable_of unlinked (has_function_in unlinked.functions))
+    (programs_in_order unlinked.programs) maps
+
+-- ---- the whole
+
+-- An object after the chosen passes, with their outcomes. The relocations are those of the object
+-- before the passes; the link maps are of the functions as linking begins.
+pub record HasOutcomes (steps : Chosen) (lines : Source) (o : Object) (p : PreparedWithOutcomes)
+    : Type 0 where
+  pub stages : Stages steps lines o p.object
+  pub records : AreOutcomes steps.target o p.records
+  pub slots : OutcomesLeaveSlots steps.target o
+  pub link_maps : AreLinkMapsIf steps.calls stages.unlinked p.link_maps
+
+-- ---- what only private contracts and proofs name
+
+-- whether a relocation is refused
+abbrev pub is_refused_result : RecordResult → Bool
+is_refused_result (Value outcome) = false
+is_refused_result (Absent absence) = false
+is_refused_result (Refused fault) = true
+
+abbrev pub is_refused : RecordOutcome → Bool
+is_refused row = is_refused_result row.result
+
+-- whether a section of relocations has none
+abbrev pub has_empty_part : List (ℕ × List Relocation) → Bool
+has_empty_part parts = list_any (λ part. length part.1 == 0) parts
+
+abbrev pub has_empty_section : Option ExtInfo → Bool
+has_empty_section ext = option_map_or (λ (e : ExtInfo). has_empty_part e.relocations) ext false
