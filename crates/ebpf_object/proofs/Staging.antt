@@ -58,7 +58,7 @@ module _ {E : Type 0} (variant : E → PrepareError) (Own : E → Type 0) where
 -- ---- descriptors that aren't complete
 
 -- their errors
-IsOfDescriptors : PrepareError → Type 0
+abbrev IsOfDescriptors : PrepareError → Type 0
 IsOfDescriptors (MissingDescriptor name) = Unit {0}
 IsOfDescriptors (UnknownMap name) = Unit {0}
 IsOfDescriptors _ = ⊥
