@@ -31,7 +31,7 @@ use Rattle.ebpf_object.specs.WrittenSlots.{AreRecordOutcomes, outcomes_by, reloc
 use Rattle.ebpf_object.specs.declared.object.Object.{Object}
 use Rattle.ebpf_object.specs.declared.prepare_error.PrepareError.{PrepareError}
 use Rattle.ebpf_object.specs.declared.prepare_error.PrepareError.TheVariants.{Parse, Types, Maps, Ksyms, Externs, Calls, OutOfMemory, MissingDescriptor, UnknownMap, UnwrittenExtern}
-use Rattle.ebpf_outcomes.specs.declared.prepare_with_outcomes.PreparedWithOutcomes.{PreparedWithOutcomes}
+use Rattle.ebpf_outcomes.specs.declared.outcomes.PreparedWithOutcomes.{PreparedWithOutcomes}
 use Rattle.ebpf_reloc.proofs.SoFar.{SoFar, all_linked, first_fault, none_yet, step_more}
 use Rattle.ebpf_reloc.specs.Linking.{AreLinked, IsFirstRefusal, IsLinked, IsLinkMapAt, IsProgramRefusal, ProgramValue, key_of}
 use Rattle.ebpf_reloc.specs.SlotTargets.{LinkableValue}
