@@ -140,7 +140,7 @@ module _ (parts : LinkableValue) (programs : List ProgramValue) where
     all_are_linked = all_linked parts programs i functions so_far.linked past
 
     pub all_are_mapped : AreLinkMaps parts programs maps
-    all_are_mapped = subst (λ (ps : List ProgramValue). AreLinkMaps parts ps maps) (take_all programs i past) so_far.link_maps
+    all_are_mapped = subst (λ (ps : List ProgramValue). AreLinkMaps parts ps maps) (take_all i programs past) so_far.link_maps
 
 -- ---- the stages, where types come first and calls last with their outcomes
 
