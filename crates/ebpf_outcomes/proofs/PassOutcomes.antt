@@ -31,7 +31,7 @@ use Rattle.ebpf_object.specs.WrittenSlots.{AreRecordOutcomes, outcomes_by, reloc
 use Rattle.ebpf_object.specs.declared.object.Object.{Object}
 use Rattle.ebpf_object.specs.declared.prepare_error.PrepareError.{PrepareError}
 use Rattle.ebpf_object.specs.declared.prepare_error.PrepareError.TheVariants.{Parse, Types, Maps, Ksyms, Externs, Calls, OutOfMemory, MissingDescriptor, UnknownMap, UnwrittenExtern}
-use Rattle.ebpf_outcomes.specs.declared.prepare_with_outcomes.PreparedWithOutcomes.{PreparedWithOutcomes}
+use Rattle.ebpf_outcomes.specs.declared.outcomes.PreparedWithOutcomes.{PreparedWithOutcomes}
 use Rattle.ebpf_reloc.proofs.SoFar.{SoFar, all_linked, first_fault, none_yet, step_more}
 use Rattle.ebpf_reloc.specs.Linking.{AreLinked, IsFirstRefusal, IsLinked, IsLinkMapAt, IsProgramRefusal, ProgramValue, key_of}
 use Rattle.ebpf_reloc.specs.SlotTargets.{LinkableValue}
@@ -140,7 +140,7 @@ module _ (parts : LinkableValue) (programs : List ProgramValue) where
     all_are_linked = all_linked parts programs i functions so_far.linked past
 
     pub all_are_mapped : AreLinkMaps parts programs maps
-    all_are_mapped = subst (λ ps. AreLinkMaps parts ps maps) (take_all programs i past) so_far.link_maps
+    all_are_mapped = subst (λ (ps : List ProgramValue). AreLinkMaps parts ps maps) (take_all i programs past) so_far.link_maps
 
 -- ---- the stages, where types come first and calls last with their outcomes
 

@@ -18,7 +18,7 @@ use Rattle.ebpf_object.specs.Prepared.{Stages}
 use Rattle.ebpf_object.specs.Stages.{Chosen}
 use Rattle.ebpf_object.specs.WrittenSlots.{outcomes_by, relocated_slots, slots_of_records}
 use Rattle.ebpf_object.specs.declared.object.Object.{Object}
-use Rattle.ebpf_outcomes.specs.declared.prepare_with_outcomes.PreparedWithOutcomes.{
+use Rattle.ebpf_outcomes.specs.declared.outcomes.PreparedWithOutcomes.{
   PreparedWithOutcomes,
 }
 use Rattle.ebpf_reloc.specs.Linking.{ProgramValue, IsLinkMapAt, key_of}

@@ -7,7 +7,7 @@ use Rattle.ebpf_object.specs.Stages.{Wrapped}
 use Rattle.ebpf_object.specs.declared.prepare_error.PrepareError.TheVariants.{Calls}
 use Rattle.ebpf_reloc.specs.Linking.{AreLinked, IsFirstRefusal}
 use Rattle.ebpf_reloc.specs.SlotTargets.{read}
-use Rattle.ebpf_outcomes.proofs.prepare_with_outcomes.programs_of.Goals as goal
+use Rattle.ebpf_outcomes.proofs.outcomes.programs_of.Goals as goal
 
 pub returns-clause-linked : goal.returns-clause-linked
 returns-clause-linked c =

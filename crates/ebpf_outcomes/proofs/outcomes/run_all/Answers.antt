@@ -3,7 +3,7 @@ use Rattle.ebpf_object.proofs.Staging.{descriptors_refused, kept_thrice, passed_
 use Rattle.ebpf_object.specs.Prepared.{IsStageFault, RefusesPreparing, Stages}
 use Rattle.ebpf_object.specs.Stages.{chosen}
 use Rattle.ebpf_outcomes.proofs.PassOutcomes.{externs_refused, has_outcomes, linking_refused, refused_between}
-use Rattle.ebpf_outcomes.proofs.prepare_with_outcomes.run_all.Goals as goal
+use Rattle.ebpf_outcomes.proofs.outcomes.run_all.Goals as goal
 
 pub returns-in_err-check_descriptors-clause-fault : goal.returns-in_err-check_descriptors-clause-fault
 returns-in_err-check_descriptors-clause-fault g c =

@@ -2,7 +2,7 @@ use Rattle.std.proofs.Common.{◌≤◌, arith, length}
 use Rattle.ebpf_outcomes.proofs.PassOutcomes.{all_are_linked, all_are_mapped, none_so_far, one_more, refused_here}
 use Rattle.ebpf_object.proofs.Staging.{passed_on}
 use Rattle.ebpf_reloc.specs.SlotTargets.{read}
-use Rattle.ebpf_outcomes.proofs.prepare_with_outcomes.linked_programs.Goals as goal
+use Rattle.ebpf_outcomes.proofs.outcomes.linked_programs.Goals as goal
 
 pub loop-program-init : goal.loop-program-init
 loop-program-init c = none_so_far (read c.args.functions.now.parts) c.args.programs.now c.new-linked.result.functions c.new-linked.result.link_maps c.new-linked.ensures.functions c.new-linked.ensures.link_maps

@@ -1,7 +1,7 @@
 use Rattle.ebpf_object.specs.Stages.{chosen}
 use Rattle.ebpf_object.proofs.Headline.{headline}
 use Rattle.ebpf_object.proofs.Staging.{of_error, of_prepared, file_refused, prepared_file}
-use Rattle.ebpf_outcomes.proofs.prepare_with_outcomes.prepared_object.Goals as goal
+use Rattle.ebpf_outcomes.proofs.outcomes.prepared_object.Goals as goal
 
 pub returns-clause-headline : goal.returns-clause-headline
 returns-clause-headline g c mode file parsed =
