@@ -1,10 +1,11 @@
-//! The CO-RE relocations of a linked program over a kernel, as findings.
+//! The verdict of a kernel on the slots of a linked program.
 
 use crate::verdict::findings::{FindingKey, Severity, SourceLocation};
 use crate::verdict::judged_program::{JudgedProgram, SlotRef};
 use crate::verdict::judging::Judge;
 use crate::verdict::loaded::Record;
 use cli_common::kinds::Kind;
+use cli_common::map_uses::MapUse;
 use cli_common::record_names::{absence_words, has_sign, record_name};
 use ebpf_base::{ByKey, Items};
 use ebpf_btf::Btf;
@@ -77,31 +78,34 @@ impl Judge<'_> {
         self.note(key, Some(place))
     }
 
-    /// Notes a CO-RE relocation whose value is absent: its program breaks where the slot is one of its reasons.
-    fn note_absent(
+    /// Notes a CO-RE relocation whose value is absent; whether its program breaks.
+    fn judge_absent(
         &mut self,
         slot: SlotRef<'_>,
         record: &Record,
         absence: Absence,
-    ) -> Result<(), AllocError> {
-        let severity = if slot.is_poisoned() {
+    ) -> Result<bool, AllocError> {
+        let breaks = slot.is_reached();
+        let severity = if breaks {
             Severity::Breaks
         } else {
             Severity::Guarded
         };
         let reason = String::from_str(self.alloc, absence_words(absence))?;
-        self.note_record(slot, record, severity, reason)
+        self.note_record(slot, record, severity, reason)?;
+        Ok(breaks)
     }
 
     /// Notes a CO-RE relocation that is refused.
-    fn note_refusal(
+    fn judge_refused(
         &mut self,
         slot: SlotRef<'_>,
         record: &Record,
         error: &RelocationError,
-    ) -> Result<(), AllocError> {
+    ) -> Result<bool, AllocError> {
         let reason = format!(in self.alloc; "refused: {error}")?;
-        self.note_record(slot, record, Severity::Breaks, reason)
+        self.note_record(slot, record, Severity::Breaks, reason)?;
+        Ok(true)
     }
 
     /// Notes a value of a kind where the object's own types give a different one.
@@ -149,19 +153,17 @@ impl Judge<'_> {
         self.note_value(record, Kind::ByteSize, Some(own), Some(found))
     }
 
-    /// Notes the CO-RE relocation of a number in a copy, given the copy's first slot.
-    fn note_outcome(&mut self, first: SlotRef<'_>, number: usize) -> Result<(), AllocError> {
+    /// Judges the CO-RE relocation of a number in a copy, given the copy's first slot; whether the program breaks by it.
+    fn judge_record(&mut self, first: SlotRef<'_>, number: usize) -> Result<bool, AllocError> {
         let answers = self.answers;
         let records = &answers.loaded.needs.records;
-        let (Some(outcome), Some(record)) = (
-            answers.verdict.records.get(number),
-            records.get(number),
-        ) else {
-            return Ok(());
+        let (Some(outcome), Some(record)) = (answers.outcomes.get(number), records.get(number))
+        else {
+            return Ok(false);
         };
         let slot = match outcome.slot {
             Some(place) => place.slot,
-            None => return Ok(()),
+            None => return Ok(false),
         };
         let leads = loads_number(&answers.loaded.object, first.copy, slot);
         let slot = SlotRef {
@@ -170,18 +172,38 @@ impl Judge<'_> {
             ..first
         };
         match &outcome.result {
-            RecordResult::Value(outcome) => self.note_written(slot, record, outcome),
-            RecordResult::Absent(absence) => self.note_absent(slot, record, *absence),
-            RecordResult::Refused(error) => self.note_refusal(slot, record, error),
+            RecordResult::Value(outcome) => {
+                self.note_written(slot, record, outcome)?;
+                Ok(false)
+            }
+            RecordResult::Absent(absence) => self.judge_absent(slot, record, *absence),
+            RecordResult::Refused(error) => self.judge_refused(slot, record, error),
         }
     }
 
-    /// Notes the CO-RE relocations of a copy of a function in a linked program.
-    pub fn note_records(
+    /// Judges a map that a slot uses; whether the kernel has no type of its number.
+    fn judge_map(&mut self, slot: SlotRef<'_>, used: &MapUse) -> Result<bool, AllocError> {
+        let (alloc, answers) = (self.alloc, self.answers);
+        let number = used.map_type;
+        if answers.numbers.knows_map_type(number) != Some(false) {
+            return Ok(false);
+        }
+        let place = slot.location(alloc, answers.loaded.object.btf.as_ref())?;
+        let name = used.name.as_str();
+        let name = format!(in alloc; "map {name}")?;
+        let reason = format!(in alloc; "no map type {number}")?;
+        let key = FindingKey::breaking(alloc, name, Kind::MapType, reason);
+        self.note(key, Some(place))?;
+        Ok(true)
+    }
+
+    /// Judges a copy of a function in a linked program by its CO-RE relocations, its maps and its calls; whether the program
+    /// breaks by it.
+    pub fn judge_copy(
         &mut self,
         program: &JudgedProgram<'_>,
         copy: &CodeCopy,
-    ) -> Result<(), AllocError> {
+    ) -> Result<bool, AllocError> {
         let answers = self.answers;
         let first = SlotRef {
             program,
@@ -189,9 +211,17 @@ impl Judge<'_> {
             slot: 0,
             leads: false,
         };
+        let mut breaks = false;
         for number in items_at(answers.by_function, copy.key) {
-            self.note_outcome(first, *number)?;
+            breaks = self.judge_record(first, *number)? || breaks;
         }
-        Ok(())
+        for used in items_at(&answers.loaded.needs.map_uses, copy.key) {
+            let slot = used.slot;
+            breaks = self.judge_map(SlotRef { slot, ..first }, used)? || breaks;
+        }
+        for slot in 0..copy.slots {
+            breaks = self.judge_call(SlotRef { slot, ..first })? || breaks;
+        }
+        Ok(breaks)
     }
 }

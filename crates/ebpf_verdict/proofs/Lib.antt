@@ -1,4 +1,0 @@
-pub mod OkPrepared
-pub mod SoFar
-pub mod Written
-pub mod Judged

@@ -1,5 +1,0 @@
-pub mod Causes
-pub mod Reasons
-pub mod Writing
-pub mod Targets
-pub mod Verdicts
