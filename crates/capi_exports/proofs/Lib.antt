@@ -1,4 +1,3 @@
 pub mod Handles
 pub mod Texts
 pub mod MappedPrograms
-pub mod PassSequences

@@ -2,9 +2,7 @@
 #![tactic(auto)]
 
 mod handle;
-mod held;
 mod kconfig;
-mod laws;
 mod linking;
 mod list_calls;
 mod map_settings;
