@@ -19,29 +19,21 @@ PRINTED = TOP / "tests/drivers/test_errors/stdout"
 
 HEAD = """# Errors
 
-Each public error by variant, with the sentence that it prints for one value. `tests/drivers/test_errors` prints the
-sentences, and `tests/errors_page.py` makes this page from them. In a sentence:
+Each public error by variant, with the sentence that it prints for one value. `tests/errors_page.py` makes this page.
 
-- Section numbers are those of `readelf -S`, symbol numbers those of `readelf -s`, type ids those of `bpftool btf dump`.
-- Relocations, instructions and members count from 0. Offsets and addresses are hexadecimal.
-- Names are in quotes, with escapes for characters that can't be printed.
+Section numbers are those of `readelf -S`, symbol numbers those of `readelf -s`, type ids those of `bpftool btf dump`.
+Relocations, instructions and members count from 0. Offsets and addresses are hexadecimal.
 
 An error has numbers where the object has names. Two calls print the names, and allocate nothing:
 
 - `object.explain(&error)`, of a `PrepareError`. Put an error of one pass into its stage's variant first, as
   `PrepareError::Maps(error)`. An error of `patch_map_data` goes into `Parse`.
-- `ExplainedParse::new(bytes, &error)`, of a file that can't be parsed. It reads the names of sections from the bytes,
-  and adds the place if the error has none.
+- `ExplainedParse::new(bytes, &error)`, of a file that can't be parsed. It adds the place if the error has none.
 
-The programs and the C interface report a variant. Look it up under the stage's error:
+The programs and the C interface report a variant, with its stage. Look it up under the stage's error. The tables leave
+out two:
 
-- `ebpf-link` and `ebpf-inspect` print the stage and the variant (`ebpf-link: maps: SectionNotFound`).
-- `ebpf` prints the sentence with the stage, the variant and what to do (docs/CLI.md, 'Refusals').
-- C gets the variant's name (docs/C.md).
-
-The tables leave out:
-
-- `OutOfMemory` of each type: an allocation failed. It prints "out of memory", without a place or a function.
+- `OutOfMemory` of each type: an allocation failed. It prints "out of memory".
 - `InvalidTypeBinding` of `maps` and `programs`: `try_from` of `bpf_map_type` and `bpf_prog_type` got a number that is
   no type. It has no sentence.
 """
@@ -50,9 +42,9 @@ The tables leave out:
 TYPES = {
     "prepare::PrepareError": (
         "ebpf_object/src/prepare_error.rt",
-        "The errors of `prepare` and its neighbours: the stage that refused, and its error. What to do is in that error's table.",
+        "The errors of `prepare` and its neighbours: the stage, and its error. What to do is in that error's table.",
     ),
-    "prepare::Explained": (None, "The sentences of `object.explain(&error)` that say more than the error's own. What to do is in that error's table."),
+    "prepare::Explained": (None, "The sentences of `object.explain(&error)` that say more than the error's own."),
     "obj::ExplainedParse": (None, "The sentences of `ExplainedParse::new(bytes, &error)` that say more than the error's own."),
     "elf::ElfReadError": ("ebpf_elf/src/error.rt", "Errors in a file's tables. `ParseError::ElfError` and `SectionError` hold them."),
     "obj::ParseError": ("ebpf_parts/src/error.rt", "The errors of `Object::parse`, `parse_as` and `patch_map_data` (stage `parse`)."),
@@ -69,9 +61,7 @@ TYPES = {
     "relocation::RelocationError": (
         "ebpf_model/src/error.rt",
         "The reasons why slots can't be written or linked.\n\n"
-        "`Steps::complete` refuses an instruction that refers to a map without a descriptor (`MissingDescriptor`). Without it,\n"
-        "and in the maps pass alone, the instruction gets the descriptor of the last given map of the section. That pass\n"
-        "returns `SectionNotFound` only if no map of the section has a descriptor (docs/LIBRARY.md, step 4).",
+        "`SectionNotFound` comes only without `Steps::complete`, or in the maps pass alone (docs/LIBRARY.md, step 4).",
     ),
     "extern_types::KsymsError": ("ebpf_ksyms/src/error.rt", "The errors of `resolve_externs` (stage `ksyms`)."),
     "ebpf_kconfig::KconfigError": ("ebpf_kconfig/src/error.rt", "The errors of `kconfig`, `define_kconfig`, `kconfig_value` and `kconfig_number`."),
@@ -111,15 +101,15 @@ ADVICE = {
     "obj::ParseError::InvalidLicense": LICENSE,
     "obj::ParseError::InvalidKernelVersion": 'declare `__u32 version SEC("version") = ..;`, or leave it out',
     "obj::ParseError::SectionError": DAMAGED,
-    "obj::ParseError::UnsupportedRelocationTarget": "compile again; `readelf -r` shows a relocation with symbol 0",
+    "obj::ParseError::UnsupportedRelocationTarget": "compile again: a relocation has symbol 0",
     "obj::ParseError::InvalidProgramSection": "use a section name as `kprobe/NAME` or `xdp`, or parse leniently",
-    "obj::ParseError::InvalidProgramCode": "compile again: the code is no whole number of instructions",
+    "obj::ParseError::InvalidProgramCode": "compile again: the code ends within an instruction",
     "obj::ParseError::SymbolTableConflict": "leave out one of the function's two names",
-    "obj::ParseError::UnknownSymbol": "don't strip symbols: each byte of a text section belongs to a function with a symbol",
+    "obj::ParseError::UnknownSymbol": "don't strip symbols",
     "obj::ParseError::InvalidSymbol": "look at the symbol's address and size with `readelf -s`",
-    "obj::ParseError::InvalidMapDefinition": "define the map with at least 20 bytes and pinning 0 or 1; keep a section of variables below 4 GiB",
-    "obj::ParseError::InvalidGlobalData": "give a value of the variable's size; else the symbol passes the end of its section",
-    "obj::ParseError::SymbolNotFound": "name a variable of the object; don't strip symbols: each BTF-defined map needs one",
+    "obj::ParseError::InvalidMapDefinition": "give the map 20 bytes or more, and pinning 0 or 1; keep a section of variables below 4 GiB",
+    "obj::ParseError::InvalidGlobalData": "give a value of the variable's size",
+    "obj::ParseError::SymbolNotFound": "name a variable of the object; don't strip symbols",
     "obj::ParseError::MapNotFound": "name a variable in a data section (section 0: the symbol has none)",
     "obj::ParseError::MapSymbolNameNotFound": "no call returns this error",
     "obj::ParseError::NoSymbolsForSection": "don't strip symbols",
@@ -130,14 +120,14 @@ ADVICE = {
     "obj::VariableError::NotAVariable": "give a name that `variables` lists; don't strip symbols",
     "obj::VariableError::WrongSize": "give a value of the size that `variables` gives",
     "obj::BtfError::InvalidHeader": BTF_DAMAGED,
-    "obj::BtfError::InvalidTypeInfo": "compile again: the BTF is damaged, or has a kind above 19, which isn't supported",
+    "obj::BtfError::InvalidTypeInfo": "compile again: the BTF is damaged, or has a kind above 19",
     "obj::BtfError::InvalidInfo": BTF_DAMAGED,
     "obj::BtfError::InvalidStringOffset": BTF_DAMAGED,
-    "obj::BtfError::InvalidRelocationKind": "don't use kind 12 (`bpf_core_type_matches`), which isn't supported",
-    "obj::BtfError::UnexpectedBtfType": "declare a map's members with libbpf's `__uint` and `__type`; type 0 is no type",
+    "obj::BtfError::InvalidRelocationKind": "don't use kind 12 (`bpf_core_type_matches`)",
+    "obj::BtfError::UnexpectedBtfType": "declare a map's members with libbpf's `__uint` and `__type`",
     "obj::BtfError::UnknownBtfType": BTF_DAMAGED,
     "obj::BtfError::UnknownBtfTypeName": "use a name that is among these types",
-    "obj::BtfError::MaximumTypeDepth": "look for types that form a cycle, or are nested too deeply",
+    "obj::BtfError::MaximumTypeDepth": "look for types in a cycle, or nested too deeply",
     "obj::BtfError::InvalidDatasec": "declare externs as functions or variables with `__ksym`",
     "obj::BtfError::InvalidSymbolName": "don't strip symbols",
     "obj::BtfError::InnerMapCannotBePinned": "leave `pinning` out of the inner map",
@@ -152,17 +142,17 @@ ADVICE = {
     "core_relo::RelocationError::ConflictingCandidates": "give a kernel's BTF with only one of these types",
     "core_relo::RelocationError::MaximumNestingLevelReached": "access the field in steps",
     "core_relo::RelocationError::InvalidAccessIndex": EXT_DAMAGED,
-    "core_relo::RelocationError::InvalidRelocationKindForType": "ask a member for its sign and shifts, an enumeration for its enumerators",
-    "core_relo::RelocationError::InvalidInstruction": "read the field with `BPF_CORE_READ`: the value, or the field's size in this kernel, doesn't fit the instruction",
+    "core_relo::RelocationError::InvalidRelocationKindForType": "ask members for sign and shifts, enumerations for enumerators",
+    "core_relo::RelocationError::InvalidInstruction": "read the field with `BPF_CORE_READ`: its value or size doesn't fit the instruction",
     "core_relo::RelocationError::MissingTargetDefinition": "no call returns this error: the instruction is poisoned",
-    "core_relo::RelocationError::BtfError": "check the BTF of the object and the kernel: one of them is damaged",
+    "core_relo::RelocationError::BtfError": "check the BTF of object and kernel: one is damaged",
     "relocation::RelocationError::UnknownSymbol": "compile again: relocations and symbols don't fit each other",
-    "relocation::RelocationError::SectionNotFound": "give a descriptor by name for each map that an instruction refers to, `.data`, `.rodata` and `.bss` too; in a section without a map there is nothing to refer to",
-    "relocation::RelocationError::InvalidRelocationOffset": "look at the relocation with `readelf -r`, at the instruction with `llvm-objdump -d`",
+    "relocation::RelocationError::SectionNotFound": "give a descriptor by name for each map that an instruction refers to, `.data`, `.rodata` and `.bss` too",
+    "relocation::RelocationError::InvalidRelocationOffset": "compare `readelf -r` with `llvm-objdump -d`",
     "relocation::RelocationError::ExternNotFound": "declare it with `__ksym` and compile with `-g`",
-    "relocation::RelocationError::UnresolvableSymbol": "resolve externs first, for a call with the kernel's BTF; or declare the extern `__weak`",
+    "relocation::RelocationError::UnresolvableSymbol": "resolve externs first, for a call with the kernel's BTF; or declare it `__weak`",
     "relocation::RelocationError::MapAddressOverflow": "keep variables within the first 2 GiB of their section",
-    "relocation::RelocationError::UnknownFunction": "link the files that have the functions (`bpftool gen object`); for an extern keep `.BTF`, and resolve and write it first",
+    "relocation::RelocationError::UnknownFunction": "link the files that have the functions (`bpftool gen object`); keep `.BTF`, and write externs first",
     "relocation::RelocationError::UnknownProgram": "change no program's key, and remove no program's function",
     "relocation::RelocationError::UnsupportedTextSymbol": "take the address of a function; `readelf -s` shows the symbol",
     "relocation::RelocationError::FunctionInfoMismatch": "compile all functions with `-g`, or none",
@@ -170,11 +160,11 @@ ADVICE = {
     "relocation::RelocationError::ProgramTooLong": "split the program",
     "extern_types::KsymsError::TypedKsymRequiresKernelBtf": "give the kernel's BTF (`/sys/kernel/btf/vmlinux`), or declare the extern `__weak`",
     "extern_types::KsymsError::FunctionNotFound": "declare it `__weak`, and test it with `bpf_ksym_exists`",
-    "extern_types::KsymsError::VariableNotFound": "read `/proc/kallsyms` as root: others see no addresses; or declare it `__weak`",
+    "extern_types::KsymsError::VariableNotFound": "read `/proc/kallsyms` as root; or declare it `__weak`",
     "extern_types::KsymsError::IncompatibleFunctionSignature": "declare it as this kernel does, or `__weak`",
     "extern_types::KsymsError::IncompatibleVariableType": "declare it as this kernel does, or `__weak`",
     "extern_types::KsymsError::InvalidExternType": "declare it as a function or a variable with `__ksym`",
-    "extern_types::KsymsError::BtfError": "check the BTF of the object and the kernel: one of them is damaged",
+    "extern_types::KsymsError::BtfError": "check the BTF of object and kernel: one is damaged",
     "extern_types::KsymsError::AmbiguousResolution": "use another symbol: this kernel has two of that name",
     "extern_types::KsymsError::KallsymsAccessError": "check that the file can be read and is UTF-8",
     "extern_types::KsymsError::KallsymsParseError": "give the lines of `/proc/kallsyms`: address, letter, name",
@@ -185,16 +175,16 @@ ADVICE = {
     "ebpf_kconfig::KconfigError::NoValue": "give a value, or declare it `__weak`",
     "ebpf_kconfig::KconfigError::WrongSize": "give a value of the extern's size",
     "ebpf_kconfig::KconfigError::TooLarge": "declare shorter arrays of `char`",
-    "ebpf_kconfig::KconfigError::UnsuitedValue": "declare it with the type of the value: one that can be `m` is a tristate",
+    "ebpf_kconfig::KconfigError::UnsuitedValue": "declare it with the value's type: `m` is of a tristate",
     "ebpf_kconfig::KconfigError::ValueOutOfRange": "declare it with a larger integer, or a signed one",
     "ebpf_initial_slots::InitialSlotError::ElfError": "give the bytes that the object was parsed from",
-    "ebpf_initial_slots::InitialSlotError::UnknownSymbol": "give the bytes that the object was parsed from; else the file is damaged",
+    "ebpf_initial_slots::InitialSlotError::UnknownSymbol": "give the bytes that the object was parsed from",
     "ebpf_initial_slots::InitialSlotError::OutsideMaps": "compile with `-g`, and don't strip `.BTF` or symbols",
     "ebpf_initial_slots::InitialSlotError::UnsupportedMapType": "leave `values` out, or declare a map of maps or an array of programs",
     "ebpf_initial_slots::InitialSlotError::UnsupportedKeySize": "declare keys of 4 bytes, or insert its maps once it is loaded",
     "ebpf_initial_slots::InitialSlotError::NotInMaps": "name maps that are declared in `.maps`",
     "ebpf_initial_slots::InitialSlotError::UnknownMap": "name maps of this object that aren't `static`",
-    "ebpf_initial_slots::InitialSlotError::UnknownProgram": "name programs of this object that aren't `static`, no functions of `.text`",
+    "ebpf_initial_slots::InitialSlotError::UnknownProgram": "name programs of this object that aren't `static`",
     "ebpf_initial_slots::InitialSlotError::NotAnEntryPoint": "rename one of the two symbols of that name",
     "ebpf_initial_slots::InitialSlotError::NoValues": "declare `__array(values, ..)` as the last member",
     "ebpf_initial_slots::InitialSlotError::OutsideValues": "give values only to `values`, the last member",
@@ -206,11 +196,10 @@ ADVICE = {
     "ebpf_btf_load::KernelTypesError::NoSymbol": "don't strip symbols",
     "ebpf_btf_load::KernelTypesError::UnsupportedExtern": KCONFIG_TYPES,
     "ebpf_btf_load::KernelTypesError::TooLarge": "split the object",
-    "prepare::PrepareError::MissingDescriptor": "make the map, and give its descriptor by its name; or take incomplete descriptors: `Steps::allow_missing`",
+    "prepare::PrepareError::MissingDescriptor": "make the map, and give its descriptor by name; or use `Steps::allow_missing`",
     "prepare::PrepareError::UnknownMap": "spell the name as the object does; `object.map_names` has the names",
-    "prepare::PrepareError::UnwrittenExtern": "keep `.BTF`, so that the object has externs, and choose the passes that resolve and write them",
+    "prepare::PrepareError::UnwrittenExtern": "keep `.BTF`, and choose the passes that resolve and write externs",
 }
-
 
 def printed():
     """The printed paths and their sentences, in order. A path that is printed several times comes each time."""
@@ -219,7 +208,6 @@ def printed():
         path, _, sentence = line.partition(": ")
         rows.append((path, sentence))
     return rows
-
 
 def declared():
     """The paths of the variants that the sources declare."""
@@ -232,11 +220,9 @@ def declared():
         paths |= {f"{name}::{variant}" for variant in re.findall(r"^    ([A-Z]\w*)", body, re.MULTILINE)}
     return paths
 
-
 def type_of(path):
     """The path of a variant's type."""
     return path.rpartition("::")[0]
-
 
 def advice_cells(name, paths):
     """What the page says to do about each variant of a type: nothing where the introduction says it, and what two lines have
@@ -248,7 +234,6 @@ def advice_cells(name, paths):
         last = advice
     return cells
 
-
 def table(name):
     """The lines of a type's table, without what to do where no variant has it."""
     rows = [(path, sentence) for path, sentence in printed() if type_of(path) == name and not path.endswith("::OutOfMemory")]
@@ -258,7 +243,6 @@ def table(name):
     lines = [f"| `{path.rpartition('::')[2]}` | {sentence} | {cell} |" for (path, sentence), cell in zip(rows, cells)]
     return ["| Variant | Prints | What to do |", "|---|---|---|", *(line.replace("|  |", "| |") for line in lines)]
 
-
 def page():
     """The text of the page."""
     parts = [HEAD]
@@ -266,7 +250,6 @@ def page():
         usual = [USUAL[name][1], ""] if name in USUAL else []
         parts.append("\n".join([f"## {name}", "", introduction, "", *usual, *table(name), ""]))
     return "\n".join(parts)
-
 
 def faults():
     """The number of variants' lines on the page, and the faults of the page and of the printed output."""
@@ -282,7 +265,6 @@ def faults():
         wrong.append("docs/ERRORS.md has other lines, or another order: python3 tests/errors_page.py --write")
     return len([line for line in wanted if line.startswith("| `")]), wrong
 
-
 def main():
     if sys.argv[1:] == ["--write"]:
         PAGE.write_text(page())
@@ -291,7 +273,6 @@ def main():
     lines, wrong = faults()
     print("\n".join([*wrong, f"{max(lines - len(wrong), 0)} passed, {len(wrong)} failed"]))
     return 1 if wrong else 0
-
 
 if __name__ == "__main__":
     sys.exit(main())
