@@ -16,7 +16,8 @@ fn advice(error: &PrepareError) -> &'static str {
         PrepareError::Calls(_) =>
             "resolve the externs that are called, and link the files that have the functions",
         PrepareError::OutOfMemory => "try again with more memory",
-        PrepareError::MissingDescriptor { .. } => "make the map, and give its descriptor by its name",
+        PrepareError::MissingDescriptor { .. } =>
+            "make the map, and give its descriptor by its name",
         PrepareError::UnknownMap { .. } => "take the names that the object has",
         PrepareError::UnwrittenExtern { .. } => "compile with types, and choose externs",
     }
