@@ -1,9 +1,8 @@
 //! The passes over an object that a handle holds, but that of calls.
 
 ghost use Rattle.std.specs.Prelude.{◌≡◌, ◌<◌, OnOk, OnErr, IfErr, ◌⊎◌, not, ◌==◌, None};
-ghost use Rattle.capi_exports.specs.Passes.{CannotRelocateTypes, HasRelocatedTypes, CannotResolve, CannotWriteExterns, HasResolved, HasWrittenExterns};
+ghost use Rattle.capi_exports.specs.Passes.{CannotPutMapFds, CannotRelocateTypes, CannotResolve, CannotWriteExterns, HasPutMapFds, HasRelocatedTypes, HasResolved, HasWrittenExterns};
 ghost use Rattle.capi_exports.specs.Settings.{HasSanitized};
-ghost use Rattle.capi_rows.specs.Descriptors.{CannotWriteMapFds, HasWrittenMapFds};
 ghost use Rattle.capi_rows.specs.Handles.{Changes, IsRefused, WhyHeld};
 
 use crate::handle::ebpf_handle;
@@ -14,7 +13,7 @@ use capi_rows::reads::{descriptors_in, ebpf_descriptor, have_names};
 use capi_rows::refusal::{Refusal, ebpf_refusal, reported_number, tell};
 use capi_rows::refusals::{ksyms_refusal, prepare_refusal, types_refusal};
 use ebpf_object::Object;
-use ebpf_object::prepare::relocate_complete_maps;
+use ebpf_object::prepare::relocate_own_maps;
 use std::alloc::Global;
 
 /// Relocates the functions of an object to the types that the bytes spell.
@@ -68,30 +67,29 @@ fn write_map_fds(
     rows: &[ebpf_descriptor],
     text: &[u8],
 ) -> Result<(), Refusal>
-    ensures ok { OnOk result (HasWrittenMapFds rows.now text.now object.old object.new) }
+    ensures ok { OnOk result (HasPutMapFds rows.now text.now object.old object.new) }
     ensures unchanged { OnErr result (object.new ≡ object.old) }
-    ensures why { IfErr result (CannotWriteMapFds rows.now text.now object.old) }
+    ensures why { IfErr result (CannotPutMapFds rows.now text.now object.old) }
     ensures refuses { IfErr result (λ r. 0 < r.number) }
 {
     if !have_names(rows, text) {
         return Err(Refusal::plain(BAD_NAME));
     }
     let descriptors = descriptors_in(alloc, rows, text)?;
-    match relocate_complete_maps(alloc, object, &descriptors) {
+    match relocate_own_maps(alloc, object, &descriptors) {
         Ok(()) => Ok(()),
         Err(error) => Err(prepare_refusal(error)),
     }
 }
 
 /// Writes the descriptors of maps of what a handle holds into the slots that refer to them. Each row says where its
-/// map's name stands in `text`. Each name has to be that of a map, and each slot's own map has to have a row; of rows of
-/// one map the later one counts.
+/// map's name stands in `text`. A name that the object lacks is passed over; of maps of one symbol or one section the
+/// later one counts.
 ///
 /// # Answers
 ///
-/// 0; 2; 3 where the handle is closed; then 6 where a row's name is not inside the text or is no text; then 321 for the
-/// first name that no map has, about the name; then 320 for the first slot whose own map has no row, about the map; then
-/// 300 to 311 for the first relocation that can't be applied, about its function. What the handle holds is then as it was.
+/// 0; 2; 3 where the handle is closed; then 6 where a row's name is not inside the text or is no text; then 300 to 311
+/// for the first relocation that can't be applied, about its function. What the handle holds is then as it was.
 #[unsafe(no_mangle)]
 pub extern "C" fn ebpf_relocate_maps(
     alloc: Global,
@@ -102,10 +100,10 @@ pub extern "C" fn ebpf_relocate_maps(
     report: &mut ebpf_refusal,
 ) -> u32
     ensures fds_written { result ≡ DONE
-        → Changes (HasWrittenMapFds rows.now text.now) handle.old.object handle.new.object }
+        → Changes (HasPutMapFds rows.now text.now) handle.old.object handle.new.object }
     ensures quiet { result ≡ DONE → (about.new ≡ about.old) × (report.new ≡ report.old) }
     ensures refused { ¬ (result ≡ DONE)
-        → IsRefused (WhyHeld handle.old.object (CannotWriteMapFds rows.now text.now)) result
+        → IsRefused (WhyHeld handle.old.object (CannotPutMapFds rows.now text.now)) result
         handle.old.object handle.new.object about.old about.new report.new }
 {
     let Some(mut object) = handle.take(alloc) else {

@@ -13,6 +13,6 @@ returns-in-Ok-clause-ok c =
     let kernel : option_copied c.as_ref.result ≡ c.in_ok-kernel.kernel = search rules in
     let given : map descriptor_of c.deref.result.now ≡ descriptors_in c.args.text.now c.args.rows.now = search rules in
     let all : chosen c.all_with-steps.result ≡ all_passes inputs c.in_ok-kernel.kernel =
-    c.all_with-steps.ensures ∙ (λ i. record { target = kernel i; descriptors = Some (given i); kernel = Some (kernel i); externs = true; calls = true }) in
+    c.all_with-steps.ensures ∙ (λ i. record { target = kernel i; descriptors = Some (given i); kernel = Some (kernel i); externs = true; calls = true; complete = true }) in
     held inputs c.in_ok-kernel.kernel (chosen c.all_with-steps.result) c.args.object.now c.prepare_in_place.new.object c.in_ok-kernel.ensures.types named all
     c.in-Ok.ensures.stages c.in-Ok.ensures.headline c.in-Ok.ensures.others_stay
