@@ -105,8 +105,8 @@ enum ebpf_number {
 
 	/* 300 to 399: descriptors of maps. About the function */
 	EBPF_MAPS = 300, /* + ebpf_slot_fault */
-	EBPF_MAPS_MISSING_DESCRIPTOR = 320, /* about the map that a slot refers to, and no row names */
-	EBPF_MAPS_UNKNOWN_MAP = 321,	    /* about the row's name, which no map of the object has */
+	EBPF_MAPS_MISSING_DESCRIPTOR = 320, /* about a map that a slot refers to, and no row names: `ebpf_prepare*` alone */
+	EBPF_MAPS_UNKNOWN_MAP = 321, /* about a row's name, which no map of the object has: `ebpf_prepare*` alone */
 
 	/* 400 to 499: finding externs. About the extern, where one is named */
 	EBPF_KSYMS_NO_KERNEL_TYPES = 400,
@@ -734,9 +734,10 @@ uint32_t ebpf_sanitize(struct ebpf_handle *handle, uint32_t has_newer);
 
 /*
  * A map's name, a place in the text that is given beside the rows, and its descriptor.
- *  - Each map that a slot refers to needs a row, a map of variables too. Else the number is
- *    EBPF_MAPS_MISSING_DESCRIPTOR, about the map.
- *  - Each row needs the name of a map of the object. Else the number is EBPF_MAPS_UNKNOWN_MAP, about the name.
+ *  - Each map that a slot refers to needs a row, a map of variables too. Else `ebpf_prepare` and `ebpf_prepare_handle`
+ *    return EBPF_MAPS_MISSING_DESCRIPTOR, about the map. `ebpf_relocate_maps` takes the row of another map in its section.
+ *  - Each row needs the name of a map of the object. Else the two return EBPF_MAPS_UNKNOWN_MAP, about the name.
+ *    `ebpf_relocate_maps` passes the row over.
  *  - Of two rows for one name, or for maps of one symbol, the later counts.
  */
 struct ebpf_descriptor {
@@ -798,8 +799,7 @@ uint32_t ebpf_record_outcomes(struct ebpf_handle *handle, const uint8_t *types, 
 
 /*
  * Writes descriptors of maps into the slots that refer to them. A row whose name is no UTF-8, or not inside the text,
- * is refused before all other faults. Then a row is refused whose name no map has, and a slot whose own map has no row.
- * Numbers: 2, 3, 6, 300 to 399.
+ * is refused before all other faults. Numbers: 2, 3, 6, 300 to 311.
  */
 uint32_t ebpf_relocate_maps(struct ebpf_handle *handle, const struct ebpf_descriptor *rows, size_t rows_len,
 			    const char *text, size_t text_len, char *about, size_t about_room,

@@ -26,10 +26,8 @@ def rows():
     hashed = holding([(INNER_SIZE + VALUES, 1)], declared_maps(kind=HASH_OF_MAPS, key=3)).bytes()
     yield CallsRow("keys of two bytes", (hashed, b"", b""), ["open", "initial"], ["open 0", "initial 824 outer {size 2}"])
     maps, extern = (prepared.two_maps(), b"", b""), (prepared.called_extern(), b"", b"")
-    yield CallsRow("a map without a row", maps, ["open", "maps=n:4", "slots"], ["open 0", "maps 320 m", *MAPS_AS_OPENED])
-    yield CallsRow("no rows", maps, ["open", "maps="], ["open 0", "maps 320 m"])
-    yield CallsRow("a row of no map", maps, ["open", "maps=m:3,mm:4", "slots"], ["open 0", "maps 321 mm", *MAPS_AS_OPENED])
-    yield CallsRow("a map without a row, prepared", maps, ["open", "prepare_handle=n:4"], ["open 0", "prepare_handle 320 m"])
+    yield CallsRow("a map without a row, prepared", maps, ["open", "prepare_handle=n:4", "slots"], ["open 0", "prepare_handle 320 m", *MAPS_AS_OPENED])
+    yield CallsRow("a row of no map, prepared", maps, ["open", "prepare_handle=m:3,mm:4", "slots"], ["open 0", "prepare_handle 321 mm", *MAPS_AS_OPENED])
     yield CallsRow("an extern that is not written", extern, ["prepare"], ["prepare 620 e"])
 
 
