@@ -37,10 +37,7 @@ fn a_limit_is_kept() {
 
 #[test]
 fn one_call_does_all() {
-    let target = Target {
-        maps: &[("none", 7)],
-        ..Target::default()
-    };
+    let target = Target::default();
     let object = Object::prepare(&file("crates/ebpf_link/data/call.o"), &target).expect("prepared");
     assert_eq!(object.slots("p").expect("slots").len(), 3);
     assert_eq!(object.license().expect("a license"), b"GPL");
