@@ -221,7 +221,7 @@ def passes():
         ),
         "no map": (
             lost.relocations(3, [(0, 2, LOAD64)]).bytes(), None, None,
-            'function "p", slot 0: no map stands in section 4 "lirc_mode2/maps", where symbol 2 "state_map" is',
+            'function "p", slot 0: section 4 "lirc_mode2/maps" has symbol 2 "state_map" and no map',
             "maps", "SectionNotFound", 'maps stand in ".maps" or "maps", variables in ".data", ".rodata" or ".bss"',
         ),
         "a place in a map": (
@@ -253,7 +253,7 @@ def passes():
             "the kernel has two things of that name: take another",
         ),
         "no address": (
-            kv, None, b"here D kv\n", "a line of the kernel's symbols can't be understood: invalid address: here", "externs", "KallsymsParseError", symbols,
+            kv, None, b"here D kv\n", "a line of the kernel's symbols can't be parsed: invalid address: here", "externs", "KallsymsParseError", symbols,
         ),
         "no text": (
             kv, None, b"\xff\n", "the kernel's symbols can't be read: stream did not contain valid UTF-8", "externs", "KallsymsAccessError", symbols,

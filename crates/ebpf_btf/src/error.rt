@@ -26,7 +26,7 @@ pub enum BtfError {
     #[error("a CO-RE relocation has kind {kind}, and the known ones are 0 to 11")]
     InvalidRelocationKind { kind: u32 },
     /// The type with an id has another kind than the call needs.
-    #[error("BTF type {type_id} is of another kind than is needed there")]
+    #[error("BTF type {type_id} has a kind that its use does not allow")]
     UnexpectedBtfType { type_id: u32 },
     /// No type has the id.
     #[error("there is no BTF type {type_id}")]

@@ -62,7 +62,7 @@ pub enum InitialSlotError {
         target: Text,
     },
     /// A value of an array of programs has a program's name, and another section or address.
-    #[error("the value {:?} of the array of programs {:?} is not where the program stands", .target.as_str(), .map.as_str())]
+    #[error("the value {:?} of the array of programs {:?} is not at the start of the program", .target.as_str(), .map.as_str())]
     NotAnEntryPoint {
         map: Text,
         target: Text,

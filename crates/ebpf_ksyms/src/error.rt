@@ -14,7 +14,7 @@ use thiserror::Error;
 #[derive(Debug, Drop, Error)]
 pub enum KsymsError {
     /// An extern that has to be there has a type, and no types of a kernel were given.
-    #[error("an extern that has to be there has a type, and no kernel's types are given")]
+    #[error("a strong extern has a type, and the kernel's BTF is not given")]
     TypedKsymRequiresKernelBtf,
     /// A variable that has to be there is not in the kernel.
     #[error("the kernel has no variable {:?}", .name.as_str())]
@@ -50,7 +50,7 @@ pub enum KsymsError {
     #[error("the kernel's symbols can't be read: {0}")]
     KallsymsAccessError(io::Error),
     /// A line states no address.
-    #[error("a line of the kernel's symbols can't be understood: {0}")]
+    #[error("a line of the kernel's symbols can't be parsed: {0}")]
     KallsymsParseError(Text),
     /// A function that has to be there is not in the kernel.
     #[error("the kernel has no function {:?}", .name.as_str())]

@@ -15,3 +15,4 @@ pub mod Soundly
 pub mod Carry
 pub mod LinkMaps
 pub mod Unmarked
+pub mod Examples

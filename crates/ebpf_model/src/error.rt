@@ -23,7 +23,7 @@ pub struct EbpfRelocationError {
 #[derive(Debug, Drop, Error)]
 pub enum RelocationError {
     /// A relocation names a symbol that is not there.
-    #[error("a relocation names symbol {index}, which is not there")]
+    #[error("a relocation names symbol {index}, which the symbol table lacks")]
     UnknownSymbol {
         index: usize,
     },

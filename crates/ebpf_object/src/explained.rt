@@ -192,7 +192,7 @@ impl<'a> Explained<'a> {
                 f,
                 "no descriptor is given for the map {map:?} ({symbol} in {section})"
             ),
-            None => write!(f, "no map stands in {section}, where {symbol} is"),
+            None => write!(f, "{section} has {symbol} and no map"),
         }
     }
 
@@ -222,13 +222,13 @@ impl fmt::Display for Explained<'_> {
             PrepareError::Calls(refusal) => self.write_named("calls", refusal, f),
             PrepareError::Parse(ParseError::MapNotFound { index }) => {
                 let section = self.section(*index);
-                write!(f, "parse: no map stands in {section}, where a variable is")
+                write!(f, "parse: {section} has a variable and no map")
             }
             PrepareError::Ksyms(KsymsError::TypedKsymRequiresKernelBtf) => {
                 match self.typed_extern() {
                     Some(name) => write!(
                         f,
-                        "ksyms: the extern {name:?} has a type, and no kernel's types are given"
+                        "ksyms: the extern {name:?} has a type, and the kernel's BTF is not given"
                     ),
                     None => write!(f, "{}", self.error),
                 }

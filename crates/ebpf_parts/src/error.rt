@@ -104,7 +104,7 @@ pub enum ParseError {
         name: Text,
     },
     /// The section of a variable has no map.
-    #[error("no map stands in section {index}, where a variable is")]
+    #[error("section {index} has a variable and no map")]
     MapNotFound {
         /// The index of the section.
         index: usize,

@@ -277,7 +277,7 @@ fn faults_of_symbols(rt: HostRuntime) -> Result<(), Fail> {
     let sentence = "the value \"second\" of the array of programs \"calls\" is no program";
     gives(alloc, &[(RELOCATIONS + 48 + SYMBOL, 4, 4)], sentence)?;
     let sentence =
-        "the value \"call\" of the array of programs \"calls\" is not where the program stands";
+        "the value \"call\" of the array of programs \"calls\" is not at the start of the program";
     gives(alloc, &in_place_of_call(3, 16), sentence)?;
     gives(alloc, &in_place_of_call(2, 8), sentence)
 }
