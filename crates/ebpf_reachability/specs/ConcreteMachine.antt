@@ -1,5 +1,5 @@
--- A machine that runs a program, as RFC 9669 defines its instructions, and without the definitions
--- of the analysis: eleven registers of 64 bits, and a stack of calls.
+-- A machine that runs a program as RFC 9669 defines its instructions. It has registers of 64 bits
+-- and a stack of calls, and takes no definition from the analysis.
 --
 -- Where the RFC leaves a register's number open, it is any number: after a load, after a call, and
 -- after an instruction that the RFC doesn't define. So each execution on a kernel is one of this
@@ -173,7 +173,7 @@ pub data Step (slots : List bpf_insn) (slot : bpf_insn) (s t : MachineState) : T
       → KeepsAllBut caller_saved frame.registers t.registers
       → Step slots slot s t
 
--- A state that an execution comes to. It begins at the first slot, with any registers.
+-- The states that executions come to: an execution begins at the first slot, with any registers.
 pub data Executes (slots : List bpf_insn) : MachineState → Type 0 where
   Starts : (s : MachineState) → s.place ≡ 0 → s.stack ≡ [] → Executes slots s
   Proceeds : (slot : bpf_insn) (s t : MachineState)
@@ -204,7 +204,7 @@ ExecutionsAgree =
     → s.place < length slots
     → (a : Registers) × (state_at A s.place ≡ Some a) × Agrees a s.registers
 
--- So the answer tells of each of these slots that it is reached.
+-- So the result holds each of these slots.
 abbrev pub ExecutionsAreReached : Type 0
 ExecutionsAreReached =
     (slots : List bpf_insn) (answer : List Bool)

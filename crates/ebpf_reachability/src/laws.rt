@@ -8,11 +8,11 @@ pub fn answer_is_one()
     ensures { AnswerIsOne }
 {}
 
-/// The result holds each slot to which an execution comes, and the registers hold the numbers that are known there.
+/// The result holds each slot that an execution comes to, and the registers hold the numbers that are known there.
 /// Executions are those of a machine of its own, whose rules are RFC 9669's.
 pub fn executions_are_reached()
     ensures agree { ExecutionsAgree }
-    ensures told { ExecutionsAreReached }
+    ensures reached { ExecutionsAreReached }
 {}
 
 /// Whatever numbers its registers hold, a machine that goes by the steps of the analysis comes only to slots that are
