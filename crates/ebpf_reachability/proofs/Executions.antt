@@ -9,7 +9,7 @@ use Rattle.std.proofs.lemmas.Option.{slice_get_within}
 use Rattle.ebpf_parts.specs.declared.insn.bpf_insn.{bpf_insn}
 use Rattle.ebpf_parts.specs.Slots.{dst_of, src_of, is_poisoned, is_pseudo_call}
 use Rattle.ebpf_linker.specs.Functions.{Among, Flow, PseudoCall, WideLoad, Jump, Branch, Next, flow}
-use Rattle.ebpf_reachability.specs.ConcreteMachine.{Agrees, AreSlots, Branches, Calculates, Calls, CallsFunction, Executes, ExecutionsAgree, ExecutionsAreReached, Frame, IsTarget, IsWay, Jumps, JumpsAnywhere, KeepsAllBut, Loads, LoadsConstant, LoadsPacket, MachineState, Poisoned, Proceeds, Returns, RunsCallback, Starts, Step, Stores, StoresAtomically, caller_saved, condition, no_jumps, result, wide_constant}
+use Rattle.ebpf_reachability.specs.ConcreteMachine.{Agrees, AreSlots, Branches, Calculates, Calls, CallsFunction, Executes, ExecutionsAgree, ExecutionsAreReached, Frame, IsTarget, IsWay, Jumps, JumpsAnywhere, KeepsAllBut, Loads, LoadsConstant, LoadsPacket, MachineState, Poisoned, Proceeds, Returns, RunsCallback, Starts, Step, Stores, StoresAtomically, caller_saved, condition, frame_of, no_jumps, result, wide_constant}
 use Rattle.ebpf_reachability.specs.Effects.{after, arithmetic, called, class, decided, forgotten, learned, stored, unknown, wide, wide_load_result}
 use Rattle.ebpf_reachability.specs.MachineNumbers.{wrapped}
 use Rattle.ebpf_reachability.specs.Reached.{Assignment, Holds, IsClosed, IsStateBelow, state_at}
@@ -268,7 +268,7 @@ module _ (slots : List bpf_insn) (A : Assignment) (slot : bpf_insn) (s t : Machi
   calls_function p to =
       reaches_at slots A t.place (target_index s.place slot.imm) unknown t.registers to (unknown_agrees t.registers) (holds_second A (steps_to slots (next_index s.place) (called b)) (steps_to slots (target_index s.place slot.imm) unknown) (by_flow PseudoCall (function_flow p)))
 
-  call_waits : is_pseudo_call slot ≡ true → FrameKept slots A (record { place = s.place + 1; registers = s.registers })
+  call_waits : is_pseudo_call slot ≡ true → FrameKept slots A (frame_of s)
   call_waits p registers k =
       reaches slots A (s.place + 1) (called b) registers (called_agrees b registers (kept_agrees caller_saved b s.registers registers known_here.agrees k)) (holds_first A (steps_to slots (next_index s.place) (called b)) (steps_to slots (target_index s.place slot.imm) unknown) (by_flow PseudoCall (function_flow p)))
 
@@ -287,7 +287,7 @@ step_keeps slots A slot s t b h fs (JumpsAnywhere c same) = record { reached = j
 step_keeps slots A slot s t b h fs (Branches is_32 taken c p q r is to k same) = record { reached = branches slots A slot s t b h is_32 taken c p q r is to k; frames = same_frames slots A s.stack t.stack same fs }
 step_keeps slots A slot s t b h fs (Calls c m local poison k to same) = record { reached = calls slots A slot s t b h c m local poison k to; frames = same_frames slots A s.stack t.stack same fs }
 step_keeps slots A slot s t b h fs (Poisoned p to same) = record { reached = poisoned slots A slot s t b h p to; frames = same_frames slots A s.stack t.stack same fs }
-step_keeps slots A slot s t b h fs (CallsFunction p to same) = record { reached = calls_function slots A slot s t b h p to; frames = same_frames slots A (record { place = s.place + 1; registers = s.registers } ∷ s.stack) t.stack same (call_waits slots A slot s t b h p, fs) }
+step_keeps slots A slot s t b h fs (CallsFunction p to same) = record { reached = calls_function slots A slot s t b h p to; frames = same_frames slots A (frame_of s ∷ s.stack) t.stack same (call_waits slots A slot s t b h p, fs) }
 step_keeps slots A slot s t b h fs (Returns frame c pops to k) =
     let all : FramesKept slots A (frame ∷ t.stack) = subst (λ (u : List Frame). FramesKept slots A u) pops fs in
     record { reached = subst (λ (p : ℕ). Reaches slots A p t.registers) (sym to) (all.0 t.registers k); frames = all.1 }

@@ -7,3 +7,4 @@ pub mod MachineNumbers
 pub mod Agreement
 pub mod Executions
 pub mod Examples
+pub mod Progress

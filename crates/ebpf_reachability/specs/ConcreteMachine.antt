@@ -6,9 +6,9 @@
 -- machine, which has others too.
 --
 -- Example: behind `r1 = -1; r1 >>= 60` r1 holds 15, and `if w1 > 14` jumps.
-use Rattle.std.specs.Prelude.{◌≡◌, ◌≢◌, ℕ, ◌+◌, ◌*◌, ◌/◌, ◌%◌, ◌^◌, ◌<◌, ◌⊎◌, ℤ, pos, ◌+ℤ◌}
-use Rattle.std.specs.Prelude.{Bool, true, false, if◌then◌else◌, ◌==◌, List, [], ◌∷◌, length, Option}
-use Rattle.std.specs.Prelude.{Some, None, IfSome, slice_get}
+use Rattle.std.specs.Prelude.{◌≡◌, ◌≢◌, ℕ, ◌+◌, ◌*◌, ◌/◌, ◌%◌, ◌^◌, ◌<◌, ◌⊎◌, ℤ, pos, negsuc}
+use Rattle.std.specs.Prelude.{◌+ℤ◌, Bool, true, false, if◌then◌else◌, ◌==◌, List, [], ◌∷◌, length}
+use Rattle.std.specs.Prelude.{Option, Some, None, IfSome, slice_get}
 use Rattle.std.specs.Option.{option_map}
 use Rattle.std.specs.Int.{w32, w64, cast_unsigned}
 use Rattle.std.specs.Int.RustNames.{FitsSigned}
@@ -24,12 +24,17 @@ use Rattle.ebpf_reachability.specs.declared.registers.Registers.{Registers}
 pub record Frame : Type 0 where
   pub place : ℕ
   pub registers : ℕ → ℕ
+  pub words : (r : ℕ) → registers r < 2 ^ 64
 
 pub record MachineState : Type 0 where
   pub place : ℕ
   pub registers : ℕ → ℕ
   pub words : (r : ℕ) → registers r < 2 ^ 64
   pub stack : List Frame
+
+-- what a call leaves on the stack
+abbrev pub frame_of : MachineState → Frame
+frame_of s = record { place = s.place + 1; registers = s.registers; words = s.words }
 
 -- all registers but these hold what they held
 abbrev pub KeepsAllBut : List ℕ → (ℕ → ℕ) → (ℕ → ℕ) → Type 0
@@ -163,7 +168,7 @@ pub data Step (slots : List bpf_insn) (slot : bpf_insn) (s t : MachineState) : T
   -- a call of a function of the same program (section 4.3.2), which begins with any registers
   CallsFunction : is_pseudo_call slot ≡ true
       → IsTarget s.place slot.imm t.place
-      → t.stack ≡ record { place = s.place + 1; registers = s.registers } ∷ s.stack
+      → t.stack ≡ frame_of s ∷ s.stack
       → Step slots slot s t
   -- its return; without a caller the program ends
   Returns : (frame : Frame)
@@ -172,6 +177,23 @@ pub data Step (slots : List bpf_insn) (slot : bpf_insn) (s t : MachineState) : T
       → t.place ≡ frame.place
       → KeepsAllBut caller_saved frame.registers t.registers
       → Step slots slot s t
+
+-- so many slots from the one behind is before the first slot
+abbrev pub IsBeforeFirst : ℕ → ℤ → Type 0
+IsBeforeFirst i by = (n : ℕ) × (pos (i + 1) +ℤ by ≡ negsuc n)
+
+-- The machine stops at the end of the program's own function, and at a jump or a call to before the
+-- first slot.
+abbrev pub Stops : bpf_insn → MachineState → Type 0
+Stops slot s =
+    ((slot.code ≡ 0x95) × (s.stack ≡ []))
+    ⊎ (IsBeforeFirst s.place slot.off ⊎ IsBeforeFirst s.place slot.imm)
+
+-- Else it has a step, from each state and by each slot.
+abbrev pub MachinesGoOn : Type 0
+MachinesGoOn =
+    (slots : List bpf_insn) (slot : bpf_insn) (s : MachineState)
+    → ((t : MachineState) × Step slots slot s t) ⊎ Stops slot s
 
 -- The states that executions come to: an execution begins at the first slot, with any registers.
 pub data Executes (slots : List bpf_insn) : MachineState → Type 0 where

@@ -1,6 +1,6 @@
 //! What the answer says of runs.
 
-ghost use Rattle.ebpf_reachability.specs.ConcreteMachine.{ExecutionsAgree, ExecutionsAreReached};
+ghost use Rattle.ebpf_reachability.specs.ConcreteMachine.{ExecutionsAgree, ExecutionsAreReached, MachinesGoOn};
 ghost use Rattle.ebpf_reachability.specs.Visits.{AllVisitsAreReached, AnswerIsOne, MachinesAreReached, AnswersCoverMachines, VisitsAreReached};
 
 /// A program has one answer: the least assignment is one.
@@ -13,6 +13,12 @@ pub fn answer_is_one()
 pub fn executions_are_reached()
     ensures agree { ExecutionsAgree }
     ensures reached { ExecutionsAreReached }
+{}
+
+/// The machine of these executions has a step from each state, but at the end of the program's own function and at a jump
+/// to before the first slot.
+pub fn executions_go_on()
+    ensures { MachinesGoOn }
 {}
 
 /// Whatever numbers its registers hold, a machine that goes by the steps of the analysis comes only to slots that are
