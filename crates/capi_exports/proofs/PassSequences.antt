@@ -141,11 +141,11 @@ module _ (begun : Object) where
 
     maps_made : HasPassed Maps Maps MakesMaps old new → Now new.last
     maps_made p =
-        let given = (has_function_in old.object.functions, own_maps old.object.maps (descriptors_in p.change.1.0 p.change.0)) in
-        subst Now (sym p.last) (old.object, may_maps old.last old.object p.allowed before, Some given, p.change.1.1.is)
+        let given : TextSections × List GivenMap = (has_function_in old.object.functions, own_maps old.object.maps (descriptors_in p.change.1 p.change.0)) in
+        subst Now (sym p.last) (old.object, may_maps old.last old.object p.allowed before, Some given, p.change.2.is)
 
     resolution_made : HasPassed Resolution Resolution MakesResolution old new → Now new.last
-    resolution_made p = subst Now (sym p.last) (old.object, may_resolution old.last old.object p.allowed before, p.change.1.1.others_stay)
+    resolution_made p = subst Now (sym p.last) (old.object, may_resolution old.last old.object p.allowed before, p.change.2.others_stay)
 
     externs_made : HasPassed Externs Externs HasWrittenExterns old new → Now new.last
     externs_made p = subst Now (sym p.last) (old.object, may_externs old.last old.object p.allowed before, true, p.change.is)
