@@ -5,18 +5,24 @@
  * alone. docs/C.md goes from a file to a running program.
  *
  * What a caller upholds, in one place. No call checks these, and no call asks for more:
- *  - No pointer is null, and each is aligned for its type. This holds for a count of 0 too: any address of the caller's
- *    own serves there. A count is no greater than what lies behind its pointer.
+ *  - A count is no greater than what lies behind its pointer, and each pointer is aligned for its type.
  *  - What a call may write (each pointer without const) overlaps nothing else that the call is given. No other thread
- *    touches it during the call. What is const does not change during the call.
- *  - What lies behind each pointer is initialised, also where the call writes it (calloc, or = {0}).
- *  - A handle is all zero (EBPF_CLOSED_HANDLE), which is closed, or holds what a call left in it. It is moved and never
- *    copied: of two copies of an open one, one alone is used from then on. It stays on the thread that opened it. One
- *    call at a time uses it. `ebpf_close` is what frees it.
+ *    touches it during the call. What is const does not change during the call: that goes for a mapped file too.
+ *  - A handle is what `ebpf_open`, `ebpf_open_broad`, `ebpf_open_within`, `ebpf_prepare` or `ebpf_clone` gave. It stays
+ *    on the thread that made it, and one call at a time uses it, also where it is const: a call takes the object out
+ *    of the handle while it runs. `ebpf_close` frees it, once.
  *  - malloc, realloc and free are of one allocator and align as the C standard says. No call is made from a signal
  *    handler, nor in the child that a process with threads forked.
- * Beyond these anything may be passed: any bytes as a file, types, symbols, names or values, a closed handle, any
- * numbers.
+ * Beyond these anything may be passed: any bytes as a file, types, symbols, names or values, any numbers.
+ *  - A null array is empty, whatever its count. A null handle is a closed one (3). A null count, row or refusal is not
+ *    written. Only where a handle is given out (`struct ebpf_handle **`) the pointer is not null.
+ *  - Memory that a call writes needn't be initialised. The calls that give out a handle write it, and never read it: it
+ *    is NULL where the call refuses.
+ *  - No pointer that a call is given is kept behind the call. The object has copies of all that it needs.
+ *
+ * The calls are two layers. The lower one is proved; its names begin with `exact_`, and it takes no null pointer and a
+ * handle in the caller's own memory. The upper one is C (c/): it puts an empty array, a closed handle or a place of its
+ * own where a pointer is null, makes and frees the block that a handle is, and has the texts of `ebpf_strerror`.
  *
  * A call returns a number. 0 (EBPF_DONE): all is done and written, exactly as the call's text says. Any other number:
  * handles and buffers are unchanged, but for what is said here of counts and of `about`.
@@ -38,6 +44,15 @@
 #include <stddef.h>
 #include <stdint.h>
 
+/* What compilers check: that an answer is looked at, and where a pointer is not null. EBPF_NO_CHECKS leaves it out. */
+#if defined(__GNUC__) && !defined(EBPF_NO_CHECKS)
+#define EBPF_CHECKED __attribute__((warn_unused_result))
+#define EBPF_NONNULL(number) __attribute__((nonnull(number)))
+#else
+#define EBPF_CHECKED
+#define EBPF_NONNULL(number)
+#endif
+
 #ifdef __cplusplus
 extern "C" {
 #endif
@@ -53,162 +68,257 @@ uint32_t ebpf_version_number(void);
 /* ---- numbers that calls return; each keeps its meaning, and new ones get numbers that were free */
 
 enum ebpf_number {
-	EBPF_DONE = 0,
-	EBPF_ROOM = 1,	       /* a buffer is too small; the counts say how much is needed */
-	EBPF_MEMORY = 2,       /* out of memory */
-	EBPF_CLOSED = 3,       /* the handle is closed */
-	EBPF_NO_PROGRAM = 4,   /* no program has the name */
-	EBPF_NO_MAP = 5,       /* no map has the name */
-	EBPF_BAD_NAME = 6,     /* a name that is given is no UTF-8, or a row's name is not inside the text beside it */
-	EBPF_BAD_VALUE = 7,    /* a row's value is not inside the bytes beside it */
-	EBPF_NO_EXTERN = 8,    /* no kconfig extern has the name */
+	EBPF_DONE = 0, /* all is done and written */
+	EBPF_ROOM = 1, /* a buffer is too small; the counts say how much is needed */
+	EBPF_MEMORY = 2, /* out of memory */
+	EBPF_CLOSED = 3, /* the handle is closed: it is NULL */
+	EBPF_NO_PROGRAM = 4, /* no program has the name */
+	EBPF_NO_MAP = 5, /* no map has the name */
+	EBPF_BAD_NAME = 6, /* a name that is given is no UTF-8, or a row's name is not inside the text beside it */
+	EBPF_BAD_VALUE = 7, /* a row's value is not inside the bytes beside it */
+	EBPF_NO_EXTERN = 8, /* no kconfig extern has the name */
 	EBPF_WRONG_LENGTH = 9, /* the data has another length than that of the map */
 	EBPF_NO_VARIABLE = 10, /* no symbol has the name, or its bytes are not inside the data of a map */
+	EBPF_PASS_MADE = 11, /* the pass is the last one that was made of the object */
+	EBPF_PASS_ORDER = 12, /* a later pass was made of the object; for what sets something, any pass was made */
 
 	/* 100 to 199: the file can't be parsed, or an object can't be changed by values */
-	EBPF_PARSE_FILE = 100,	  /* + ebpf_file_fault: the file is no ELF64 object */
-	EBPF_PARSE_SECTION = 110, /* + ebpf_file_fault: a section can't be read */
-	EBPF_PARSE_TYPES = 120,	  /* + ebpf_type_fault: the object's own types can't be read */
-	EBPF_PARSE_LICENSE_NOT_TERMINATED = 140,
-	EBPF_PARSE_LICENSE = 141,
-	EBPF_PARSE_KERNEL_VERSION = 142,
+	EBPF_PARSE_TOO_SHORT = 100, /* the file is too short for its header */
+	EBPF_PARSE_BAD_MAGIC = 101, /* the file does not begin as ELF does */
+	EBPF_PARSE_NOT_ELF64 = 102, /* the file is no ELF64 */
+	EBPF_PARSE_BAD_BYTE_ORDER = 103, /* the byte order is neither little nor big */
+	EBPF_PARSE_BAD_SECTION_TABLE = 104, /* the section table is not inside the file */
+	EBPF_PARSE_BAD_SECTION_RANGE = 105, /* a section is not inside the file */
+	EBPF_PARSE_BAD_STRING_TABLE = 106, /* a string table can't be read */
+	EBPF_PARSE_BAD_SYMBOL_TABLE = 107, /* the symbol table can't be read */
+	EBPF_PARSE_BAD_RELOCATION_TABLE = 108, /* a relocation table can't be read */
+	EBPF_PARSE_EXTENDED_NUMBERING = 109, /* sections are numbered in the extended way */
+	EBPF_PARSE_SECTION_TOO_SHORT = 110, /* a section: the file is too short for its header */
+	EBPF_PARSE_SECTION_BAD_MAGIC = 111, /* a section: the file does not begin as ELF does */
+	EBPF_PARSE_SECTION_NOT_ELF64 = 112, /* a section: the file is no ELF64 */
+	EBPF_PARSE_SECTION_BAD_BYTE_ORDER = 113, /* a section: the byte order is neither little nor big */
+	EBPF_PARSE_SECTION_BAD_SECTION_TABLE = 114, /* a section: the section table is not inside the file */
+	EBPF_PARSE_SECTION_BAD_SECTION_RANGE = 115, /* a section: a section is not inside the file */
+	EBPF_PARSE_SECTION_BAD_STRING_TABLE = 116, /* a section: a string table can't be read */
+	EBPF_PARSE_SECTION_BAD_SYMBOL_TABLE = 117, /* a section: the symbol table can't be read */
+	EBPF_PARSE_SECTION_BAD_RELOCATION_TABLE = 118, /* a section: a relocation table can't be read */
+	EBPF_PARSE_SECTION_EXTENDED_NUMBERING = 119, /* a section: sections are numbered in the extended way */
+	EBPF_PARSE_TYPES_INVALID_HEADER = 120, /* the object's types: the header of the types is not valid */
+	EBPF_PARSE_TYPES_INVALID_TYPE_INFO = 121, /* the object's types: a type can't be read */
+	EBPF_PARSE_TYPES_INVALID_INFO = 122, /* the object's types: info entries can't be read */
+	EBPF_PARSE_TYPES_INVALID_STRING_OFFSET = 123, /* the object's types: a name is not inside the strings */
+	EBPF_PARSE_TYPES_INVALID_RELOCATION_KIND = 124, /* the object's types: a CO-RE relocation has an unknown kind */
+	EBPF_PARSE_TYPES_UNEXPECTED_BTF_TYPE = 125, /* the object's types: a type is of another kind than wanted */
+	EBPF_PARSE_TYPES_UNKNOWN_BTF_TYPE = 126, /* the object's types: a type id is unknown */
+	EBPF_PARSE_TYPES_UNKNOWN_BTF_TYPE_NAME = 127, /* the object's types: a type's name is unknown */
+	EBPF_PARSE_TYPES_MAXIMUM_TYPE_DEPTH = 128, /* the object's types: types refer to one another too deep */
+	EBPF_PARSE_TYPES_INVALID_DATASEC = 129, /* the object's types: a DATASEC can't be read */
+	EBPF_PARSE_TYPES_INVALID_SYMBOL_NAME = 130, /* the object's types: a symbol's name can't be read */
+	EBPF_PARSE_TYPES_INNER_MAP_CANNOT_BE_PINNED = 131, /* the object's types: an inner map is pinned */
+	EBPF_PARSE_TYPES_MULTI_LEVEL_MAP_IN_MAP_NOT_SUPPORTED = 132, /* the object's types: maps of maps nest */
+	EBPF_PARSE_TYPES_INVALID_VALUES_SPEC = 133, /* the object's types: the values of a map are not declared as such */
+	EBPF_PARSE_TYPES_TOO_LARGE = 134, /* the object's types: the types are too large */
+	EBPF_PARSE_LICENSE_NOT_TERMINATED = 140, /* the license has no zero byte at its end */
+	EBPF_PARSE_LICENSE = 141, /* the license can't be read */
+	EBPF_PARSE_KERNEL_VERSION = 142, /* the kernel version is not 4 bytes */
 	EBPF_PARSE_RELOCATION_TARGET = 143, /* a relocation without a target */
-	EBPF_PARSE_PROGRAM_SECTION = 144,   /* about the section */
-	EBPF_PARSE_PROGRAM_CODE = 145,
-	EBPF_PARSE_MAP_DEFINITION = 146, /* about the map */
-	EBPF_PARSE_SYMBOL_CONFLICT = 147,
-	EBPF_PARSE_UNKNOWN_SYMBOL = 148,
-	EBPF_PARSE_INVALID_SYMBOL = 149, /* about the symbol, where it has a name */
-	EBPF_PARSE_GLOBAL_DATA = 150,	 /* about the variable: its value has another size, or passes its map's data */
-	EBPF_PARSE_SYMBOL_NOT_FOUND = 151, /* about the variable */
-	EBPF_PARSE_MAP_NOT_FOUND = 152,
+	EBPF_PARSE_PROGRAM_SECTION = 144, /* the name of a section of code gives no program type; about the section */
+	EBPF_PARSE_PROGRAM_CODE = 145, /* the code of a function is no multiple of 8 bytes */
+	EBPF_PARSE_MAP_DEFINITION = 146, /* the definition of a map can't be read; about the map */
+	EBPF_PARSE_SYMBOL_CONFLICT = 147, /* symbols conflict */
+	EBPF_PARSE_UNKNOWN_SYMBOL = 148, /* a symbol is unknown */
+	EBPF_PARSE_INVALID_SYMBOL = 149, /* a symbol has no bytes, or some outside its section; about the symbol */
+	EBPF_PARSE_GLOBAL_DATA = 150, /* a value does not fit its variable or its map; about the variable */
+	EBPF_PARSE_SYMBOL_NOT_FOUND = 151, /* no symbol has the name of the variable; about the variable */
+	EBPF_PARSE_MAP_NOT_FOUND = 152, /* no map has the variable's section */
 	EBPF_PARSE_MAP_SYMBOL_NAME = 153, /* kept, never returned */
-	EBPF_PARSE_NO_SYMBOLS = 154,	  /* about the section */
-	EBPF_PARSE_NO_TYPES = 155,
-	EBPF_PARSE_BIG_ENDIAN_CODE = 156, /* lenient parsing (`ebpf_open_broad`) alone */
-	EBPF_PARSE_TOO_LARGE = 157, /* ebpf_open_within alone */
-	EBPF_PARSE_OTHER_MACHINE = 158, /* lenient parsing (`ebpf_open_broad`) alone: e_machine is not eBPF's */
+	EBPF_PARSE_NO_SYMBOLS = 154, /* no symbol is in a section; about the section */
+	EBPF_PARSE_NO_TYPES = 155, /* the object has no types */
+	EBPF_PARSE_BIG_ENDIAN_CODE = 156, /* the file is big-endian and has code: lenient parsing alone */
+	EBPF_PARSE_TOO_LARGE = 157, /* what is made of the file would pass the limit: ebpf_open_within alone */
+	EBPF_PARSE_OTHER_MACHINE = 158, /* the file is for another machine than eBPF: lenient parsing alone */
 
 	/* 200 to 299: types. About the section, from 220 on */
-	EBPF_TYPES_READ = 200,	/* + ebpf_type_fault: the kernel's types can't be read */
-	EBPF_TYPES_FAULT = 220, /* + ebpf_type_fault: a type that a CO-RE relocation needs can't be read */
-	EBPF_TYPES_SECTION_NOT_FOUND = 240,
-	EBPF_TYPES_FUNCTION_NOT_FOUND = 241,
-	EBPF_TYPES_ACCESS_STRING = 242,
-	EBPF_TYPES_INSTRUCTION_INDEX = 243,
-	EBPF_TYPES_CONFLICTING_CANDIDATES = 244,
-	EBPF_TYPES_NESTING = 245,
-	EBPF_TYPES_ACCESS_INDEX = 246,
-	EBPF_TYPES_KIND_FOR_TYPE = 247,
-	EBPF_TYPES_INSTRUCTION = 248,
+	EBPF_TYPES_READ_INVALID_HEADER = 200, /* the kernel's types: the header of the types is not valid */
+	EBPF_TYPES_READ_INVALID_TYPE_INFO = 201, /* the kernel's types: a type can't be read */
+	EBPF_TYPES_READ_INVALID_INFO = 202, /* the kernel's types: info entries can't be read */
+	EBPF_TYPES_READ_INVALID_STRING_OFFSET = 203, /* the kernel's types: a name is not inside the strings */
+	EBPF_TYPES_READ_INVALID_RELOCATION_KIND = 204, /* the kernel's types: a CO-RE relocation has an unknown kind */
+	EBPF_TYPES_READ_UNEXPECTED_BTF_TYPE = 205, /* the kernel's types: a type is of another kind than wanted */
+	EBPF_TYPES_READ_UNKNOWN_BTF_TYPE = 206, /* the kernel's types: a type id is unknown */
+	EBPF_TYPES_READ_UNKNOWN_BTF_TYPE_NAME = 207, /* the kernel's types: a type's name is unknown */
+	EBPF_TYPES_READ_MAXIMUM_TYPE_DEPTH = 208, /* the kernel's types: types refer to one another too deep */
+	EBPF_TYPES_READ_INVALID_DATASEC = 209, /* the kernel's types: a DATASEC can't be read */
+	EBPF_TYPES_READ_INVALID_SYMBOL_NAME = 210, /* the kernel's types: a symbol's name can't be read */
+	EBPF_TYPES_READ_INNER_MAP_CANNOT_BE_PINNED = 211, /* the kernel's types: an inner map is pinned */
+	EBPF_TYPES_READ_MULTI_LEVEL_MAP_IN_MAP_NOT_SUPPORTED = 212, /* the kernel's types: maps of maps nest */
+	EBPF_TYPES_READ_INVALID_VALUES_SPEC = 213, /* the kernel's types: the values of a map are not declared as such */
+	EBPF_TYPES_READ_TOO_LARGE = 214, /* the kernel's types: the types are too large */
+	EBPF_TYPES_FAULT_INVALID_HEADER = 220, /* CO-RE types: the header of the types is not valid */
+	EBPF_TYPES_FAULT_INVALID_TYPE_INFO = 221, /* CO-RE types: a type can't be read */
+	EBPF_TYPES_FAULT_INVALID_INFO = 222, /* CO-RE types: info entries can't be read */
+	EBPF_TYPES_FAULT_INVALID_STRING_OFFSET = 223, /* CO-RE types: a name is not inside the strings */
+	EBPF_TYPES_FAULT_INVALID_RELOCATION_KIND = 224, /* CO-RE types: a CO-RE relocation has an unknown kind */
+	EBPF_TYPES_FAULT_UNEXPECTED_BTF_TYPE = 225, /* CO-RE types: a type is of another kind than wanted */
+	EBPF_TYPES_FAULT_UNKNOWN_BTF_TYPE = 226, /* CO-RE types: a type id is unknown */
+	EBPF_TYPES_FAULT_UNKNOWN_BTF_TYPE_NAME = 227, /* CO-RE types: a type's name is unknown */
+	EBPF_TYPES_FAULT_MAXIMUM_TYPE_DEPTH = 228, /* CO-RE types: types refer to one another too deep */
+	EBPF_TYPES_FAULT_INVALID_DATASEC = 229, /* CO-RE types: a DATASEC can't be read */
+	EBPF_TYPES_FAULT_INVALID_SYMBOL_NAME = 230, /* CO-RE types: a symbol's name can't be read */
+	EBPF_TYPES_FAULT_INNER_MAP_CANNOT_BE_PINNED = 231, /* CO-RE types: an inner map is pinned */
+	EBPF_TYPES_FAULT_MULTI_LEVEL_MAP_IN_MAP_NOT_SUPPORTED = 232, /* CO-RE types: maps of maps nest */
+	EBPF_TYPES_FAULT_INVALID_VALUES_SPEC = 233, /* CO-RE types: the values of a map are not declared as such */
+	EBPF_TYPES_FAULT_TOO_LARGE = 234, /* CO-RE types: the types are too large */
+	EBPF_TYPES_SECTION_NOT_FOUND = 240, /* no section has the name that CO-RE relocations are for */
+	EBPF_TYPES_FUNCTION_NOT_FOUND = 241, /* a CO-RE relocation is for an instruction of no function */
+	EBPF_TYPES_ACCESS_STRING = 242, /* an access string can't be read */
+	EBPF_TYPES_INSTRUCTION_INDEX = 243, /* a CO-RE relocation is at no instruction */
+	EBPF_TYPES_CONFLICTING_CANDIDATES = 244, /* types of the kernel match and give different values */
+	EBPF_TYPES_NESTING = 245, /* types nest too deep */
+	EBPF_TYPES_ACCESS_INDEX = 246, /* an access string leads out of its type */
+	EBPF_TYPES_KIND_FOR_TYPE = 247, /* the kind of a CO-RE relocation does not fit its type */
+	EBPF_TYPES_INSTRUCTION = 248, /* an instruction can't take a value */
 	EBPF_TYPES_NO_TARGET = 249, /* kept, never returned */
 
-	/* 300 to 399: descriptors of maps. About the function */
-	EBPF_MAPS = 300, /* + ebpf_slot_fault */
-	EBPF_MAPS_MISSING_DESCRIPTOR = 320, /* about a map that a slot refers to, and no row names: `ebpf_prepare*` alone */
-	EBPF_MAPS_UNKNOWN_MAP = 321, /* about a row's name, which no map of the object has: `ebpf_prepare*` alone */
+	/* 300 to 399: descriptors of maps. About the function. 320 and 321: `ebpf_prepare` and `ebpf_prepare_handle` alone */
+	EBPF_MAPS_UNKNOWN_SYMBOL = 300, /* maps: a relocation refers to an unknown symbol */
+	EBPF_MAPS_SECTION_NOT_FOUND = 301, /* maps: no descriptor is given for any map of the symbol's section */
+	EBPF_MAPS_UNKNOWN_FUNCTION = 302, /* maps: no function is where a reference leads */
+	EBPF_MAPS_FUNCTION_INFO_MISMATCH = 303, /* maps: func info does not fit its function */
+	EBPF_MAPS_UNKNOWN_PROGRAM = 304, /* maps: no function is where the program begins */
+	EBPF_MAPS_INVALID_RELOCATION_OFFSET = 305, /* maps: a relocation is at no instruction that can take it */
+	EBPF_MAPS_EXTERN_NOT_FOUND = 306, /* maps: the extern is unknown */
+	EBPF_MAPS_UNRESOLVABLE_SYMBOL = 307, /* maps: the extern was not found in the kernel */
+	EBPF_MAPS_UNSUPPORTED_TEXT_SYMBOL = 308, /* maps: a symbol of code is of a kind that is not supported */
+	EBPF_MAPS_INVALID_LINE_INFO = 309, /* maps: line info does not fit its function */
+	EBPF_MAPS_PROGRAM_TOO_LONG = 310, /* maps: the linked program is too long */
+	EBPF_MAPS_MAP_ADDRESS_OVERFLOW = 311, /* maps: a place in a map is past 2,147,483,647 */
+	EBPF_MAPS_MISSING_DESCRIPTOR = 320, /* maps: no row names the map that a slot refers to; about the map */
+	EBPF_MAPS_UNKNOWN_MAP = 321, /* maps: the object has no map of a row's name; about the name */
 
 	/* 400 to 499: finding externs. About the extern, where one is named */
-	EBPF_KSYMS_NO_KERNEL_TYPES = 400,
-	EBPF_KSYMS_VARIABLE_NOT_FOUND = 401,
-	EBPF_KSYMS_FUNCTION_SIGNATURE = 402,
-	EBPF_KSYMS_VARIABLE_TYPE = 403,
-	EBPF_KSYMS_EXTERN_TYPE = 404,
-	EBPF_KSYMS_AMBIGUOUS = 405,
-	EBPF_KSYMS_LINE_ACCESS = 406, /* a line is no UTF-8 */
-	EBPF_KSYMS_LINE = 407,	      /* about what is wrong with the line */
-	EBPF_KSYMS_FUNCTION_NOT_FOUND = 408,
-	EBPF_KSYMS_TYPES = 420, /* + ebpf_type_fault */
+	EBPF_KSYMS_NO_KERNEL_TYPES = 400, /* an extern has a type, and no kernel's types are given */
+	EBPF_KSYMS_VARIABLE_NOT_FOUND = 401, /* the kernel has no such variable */
+	EBPF_KSYMS_FUNCTION_SIGNATURE = 402, /* the kernel's function has another signature */
+	EBPF_KSYMS_VARIABLE_TYPE = 403, /* the kernel's variable has another type */
+	EBPF_KSYMS_EXTERN_TYPE = 404, /* the type of an extern is neither a function nor a variable */
+	EBPF_KSYMS_AMBIGUOUS = 405, /* the kernel has several of the name */
+	EBPF_KSYMS_LINE_ACCESS = 406, /* a line of the kernel's symbols is no UTF-8 */
+	EBPF_KSYMS_LINE = 407, /* a line of the kernel's symbols can't be read; about what is wrong with it */
+	EBPF_KSYMS_FUNCTION_NOT_FOUND = 408, /* the kernel has no such function */
+	EBPF_KSYMS_TYPES_INVALID_HEADER = 420, /* a type of an extern: the header of the types is not valid */
+	EBPF_KSYMS_TYPES_INVALID_TYPE_INFO = 421, /* a type of an extern: a type can't be read */
+	EBPF_KSYMS_TYPES_INVALID_INFO = 422, /* a type of an extern: info entries can't be read */
+	EBPF_KSYMS_TYPES_INVALID_STRING_OFFSET = 423, /* a type of an extern: a name is not inside the strings */
+	EBPF_KSYMS_TYPES_INVALID_RELOCATION_KIND = 424, /* a type of an extern: a CO-RE relocation has an unknown kind */
+	EBPF_KSYMS_TYPES_UNEXPECTED_BTF_TYPE = 425, /* a type of an extern: a type is of another kind than wanted */
+	EBPF_KSYMS_TYPES_UNKNOWN_BTF_TYPE = 426, /* a type of an extern: a type id is unknown */
+	EBPF_KSYMS_TYPES_UNKNOWN_BTF_TYPE_NAME = 427, /* a type of an extern: a type's name is unknown */
+	EBPF_KSYMS_TYPES_MAXIMUM_TYPE_DEPTH = 428, /* a type of an extern: types refer to one another too deep */
+	EBPF_KSYMS_TYPES_INVALID_DATASEC = 429, /* a type of an extern: a DATASEC can't be read */
+	EBPF_KSYMS_TYPES_INVALID_SYMBOL_NAME = 430, /* a type of an extern: a symbol's name can't be read */
+	EBPF_KSYMS_TYPES_INNER_MAP_CANNOT_BE_PINNED = 431, /* a type of an extern: an inner map is pinned */
+	EBPF_KSYMS_TYPES_MULTI_LEVEL_MAP_IN_MAP_NOT_SUPPORTED = 432, /* a type of an extern: maps of maps nest */
+	EBPF_KSYMS_TYPES_INVALID_VALUES_SPEC = 433, /* a type of an extern: the values of a map are not declared as such */
+	EBPF_KSYMS_TYPES_TOO_LARGE = 434, /* a type of an extern: the types are too large */
 
 	/* 500 to 599: writing externs. About the function */
-	EBPF_EXTERNS = 500, /* + ebpf_slot_fault */
+	EBPF_EXTERNS_UNKNOWN_SYMBOL = 500, /* externs: a relocation refers to an unknown symbol */
+	EBPF_EXTERNS_SECTION_NOT_FOUND = 501, /* externs: no descriptor is given for any map of the symbol's section */
+	EBPF_EXTERNS_UNKNOWN_FUNCTION = 502, /* externs: no function is where a reference leads */
+	EBPF_EXTERNS_FUNCTION_INFO_MISMATCH = 503, /* externs: func info does not fit its function */
+	EBPF_EXTERNS_UNKNOWN_PROGRAM = 504, /* externs: no function is where the program begins */
+	EBPF_EXTERNS_INVALID_RELOCATION_OFFSET = 505, /* externs: a relocation is at no instruction that can take it */
+	EBPF_EXTERNS_EXTERN_NOT_FOUND = 506, /* externs: the extern is unknown */
+	EBPF_EXTERNS_UNRESOLVABLE_SYMBOL = 507, /* externs: the extern was not found in the kernel */
+	EBPF_EXTERNS_UNSUPPORTED_TEXT_SYMBOL = 508, /* externs: a symbol of code is of a kind that is not supported */
+	EBPF_EXTERNS_INVALID_LINE_INFO = 509, /* externs: line info does not fit its function */
+	EBPF_EXTERNS_PROGRAM_TOO_LONG = 510, /* externs: the linked program is too long */
+	EBPF_EXTERNS_MAP_ADDRESS_OVERFLOW = 511, /* externs: a place in a map is past 2,147,483,647 */
 
-	/* 600 to 699: linking programs with the functions that they reach. About the program */
-	EBPF_CALLS = 600, /* + ebpf_slot_fault */
-	EBPF_CALLS_UNWRITTEN_EXTERN = 620, /* about the extern: its call is not written. `ebpf_prepare*` alone */
+	/*
+	 * 600 to 699: linking programs with the functions that they reach. About the program. 620: `ebpf_prepare` and
+	 * `ebpf_prepare_handle` alone
+	 */
+	EBPF_CALLS_UNKNOWN_SYMBOL = 600, /* calls: a relocation refers to an unknown symbol */
+	EBPF_CALLS_SECTION_NOT_FOUND = 601, /* calls: no descriptor is given for any map of the symbol's section */
+	EBPF_CALLS_UNKNOWN_FUNCTION = 602, /* calls: no function is where a reference leads */
+	EBPF_CALLS_FUNCTION_INFO_MISMATCH = 603, /* calls: func info does not fit its function */
+	EBPF_CALLS_UNKNOWN_PROGRAM = 604, /* calls: no function is where the program begins */
+	EBPF_CALLS_INVALID_RELOCATION_OFFSET = 605, /* calls: a relocation is at no instruction that can take it */
+	EBPF_CALLS_EXTERN_NOT_FOUND = 606, /* calls: the extern is unknown */
+	EBPF_CALLS_UNRESOLVABLE_SYMBOL = 607, /* calls: the extern was not found in the kernel */
+	EBPF_CALLS_UNSUPPORTED_TEXT_SYMBOL = 608, /* calls: a symbol of code is of a kind that is not supported */
+	EBPF_CALLS_INVALID_LINE_INFO = 609, /* calls: line info does not fit its function */
+	EBPF_CALLS_PROGRAM_TOO_LONG = 610, /* calls: the linked program is too long */
+	EBPF_CALLS_MAP_ADDRESS_OVERFLOW = 611, /* calls: a place in a map is past 2,147,483,647 */
+	EBPF_CALLS_UNWRITTEN_EXTERN = 620, /* calls: no pass has written the call of an extern; about the extern */
 
 	/* 700 to 799: a file's types for the kernel. About the type of the file that is named, where it has a name */
-	EBPF_KERNEL_TYPES_FILE = 700,		    /* + ebpf_file_fault: no ELF64 file, or .BTF runs past its end */
-	EBPF_KERNEL_TYPES_READ = 720,		    /* + ebpf_type_fault: .BTF can't be read */
-	EBPF_KERNEL_TYPES_NO_SECTION_SIZE = 740,    /* about the section, of which the file has none with a size */
-	EBPF_KERNEL_TYPES_NOT_A_VARIABLE = 741,	    /* about what a section's entry names, and is no variable */
-	EBPF_KERNEL_TYPES_NO_SYMBOL = 742,	    /* about the global variable that has no symbol */
-	EBPF_KERNEL_TYPES_UNSUPPORTED_EXTERN = 743, /* about the extern of .kconfig whose type has no size there */
-	EBPF_KERNEL_TYPES_TOO_LARGE = 744,	    /* ids, offsets or lengths pass 32 bits */
+	EBPF_KERNEL_TYPES_FILE_TOO_SHORT = 700, /* kernel types: the file is too short for its header */
+	EBPF_KERNEL_TYPES_FILE_BAD_MAGIC = 701, /* kernel types: the file does not begin as ELF does */
+	EBPF_KERNEL_TYPES_FILE_NOT_ELF64 = 702, /* kernel types: the file is no ELF64 */
+	EBPF_KERNEL_TYPES_FILE_BAD_BYTE_ORDER = 703, /* kernel types: the byte order is neither little nor big */
+	EBPF_KERNEL_TYPES_FILE_BAD_SECTION_TABLE = 704, /* kernel types: the section table is not inside the file */
+	EBPF_KERNEL_TYPES_FILE_BAD_SECTION_RANGE = 705, /* kernel types: a section is not inside the file */
+	EBPF_KERNEL_TYPES_FILE_BAD_STRING_TABLE = 706, /* kernel types: a string table can't be read */
+	EBPF_KERNEL_TYPES_FILE_BAD_SYMBOL_TABLE = 707, /* kernel types: the symbol table can't be read */
+	EBPF_KERNEL_TYPES_FILE_BAD_RELOCATION_TABLE = 708, /* kernel types: a relocation table can't be read */
+	EBPF_KERNEL_TYPES_FILE_EXTENDED_NUMBERING = 709, /* kernel types: sections are numbered in the extended way */
+	EBPF_KERNEL_TYPES_READ_INVALID_HEADER = 720, /* kernel types: the header of the types is not valid */
+	EBPF_KERNEL_TYPES_READ_INVALID_TYPE_INFO = 721, /* kernel types: a type can't be read */
+	EBPF_KERNEL_TYPES_READ_INVALID_INFO = 722, /* kernel types: info entries can't be read */
+	EBPF_KERNEL_TYPES_READ_INVALID_STRING_OFFSET = 723, /* kernel types: a name is not inside the strings */
+	EBPF_KERNEL_TYPES_READ_INVALID_RELOCATION_KIND = 724, /* kernel types: a CO-RE relocation has an unknown kind */
+	EBPF_KERNEL_TYPES_READ_UNEXPECTED_BTF_TYPE = 725, /* kernel types: a type is of another kind than wanted */
+	EBPF_KERNEL_TYPES_READ_UNKNOWN_BTF_TYPE = 726, /* kernel types: a type id is unknown */
+	EBPF_KERNEL_TYPES_READ_UNKNOWN_BTF_TYPE_NAME = 727, /* kernel types: a type's name is unknown */
+	EBPF_KERNEL_TYPES_READ_MAXIMUM_TYPE_DEPTH = 728, /* kernel types: types refer to one another too deep */
+	EBPF_KERNEL_TYPES_READ_INVALID_DATASEC = 729, /* kernel types: a DATASEC can't be read */
+	EBPF_KERNEL_TYPES_READ_INVALID_SYMBOL_NAME = 730, /* kernel types: a symbol's name can't be read */
+	EBPF_KERNEL_TYPES_READ_INNER_MAP_CANNOT_BE_PINNED = 731, /* kernel types: an inner map is pinned */
+	EBPF_KERNEL_TYPES_READ_MULTI_LEVEL_MAP_IN_MAP_NOT_SUPPORTED = 732, /* kernel types: maps of maps nest */
+	EBPF_KERNEL_TYPES_READ_INVALID_VALUES_SPEC = 733, /* kernel types: the values of a map are not declared as such */
+	EBPF_KERNEL_TYPES_READ_TOO_LARGE = 734, /* kernel types: the types are too large */
+	EBPF_KERNEL_TYPES_NO_SECTION_SIZE = 740, /* kernel types: no section of the name has a size; about the section */
+	EBPF_KERNEL_TYPES_NOT_A_VARIABLE = 741, /* kernel types: a section's entry names no variable; about what it names */
+	EBPF_KERNEL_TYPES_NO_SYMBOL = 742, /* kernel types: a global variable has no symbol; about the variable */
+	EBPF_KERNEL_TYPES_UNSUPPORTED_EXTERN = 743, /* kernel types: the type of a kconfig extern has no size; about the extern */
+	EBPF_KERNEL_TYPES_TOO_LARGE = 744, /* ids, offsets or lengths pass 32 bits */
 
 	/* 800 to 899: initial values of maps of maps and of arrays of programs. About the map, from 822 on */
-	EBPF_INITIAL_SLOTS_FILE = 800, /* + ebpf_file_fault: the bytes are no ELF64 file */
-	EBPF_INITIAL_SLOTS_UNKNOWN_SYMBOL = 820,
+	EBPF_INITIAL_SLOTS_FILE_TOO_SHORT = 800, /* initial values: the file is too short for its header */
+	EBPF_INITIAL_SLOTS_FILE_BAD_MAGIC = 801, /* initial values: the file does not begin as ELF does */
+	EBPF_INITIAL_SLOTS_FILE_NOT_ELF64 = 802, /* initial values: the file is no ELF64 */
+	EBPF_INITIAL_SLOTS_FILE_BAD_BYTE_ORDER = 803, /* initial values: the byte order is neither little nor big */
+	EBPF_INITIAL_SLOTS_FILE_BAD_SECTION_TABLE = 804, /* initial values: the section table is not inside the file */
+	EBPF_INITIAL_SLOTS_FILE_BAD_SECTION_RANGE = 805, /* initial values: a section is not inside the file */
+	EBPF_INITIAL_SLOTS_FILE_BAD_STRING_TABLE = 806, /* initial values: a string table can't be read */
+	EBPF_INITIAL_SLOTS_FILE_BAD_SYMBOL_TABLE = 807, /* initial values: the symbol table can't be read */
+	EBPF_INITIAL_SLOTS_FILE_BAD_RELOCATION_TABLE = 808, /* initial values: a relocation table can't be read */
+	EBPF_INITIAL_SLOTS_FILE_EXTENDED_NUMBERING = 809, /* initial values: sections are numbered in the extended way */
+	EBPF_INITIAL_SLOTS_UNKNOWN_SYMBOL = 820, /* the object lacks a symbol */
 	EBPF_INITIAL_SLOTS_OUTSIDE_MAPS = 821, /* a place is in no map */
 	EBPF_INITIAL_SLOTS_UNSUPPORTED_MAP_TYPE = 822, /* the map holds neither maps nor programs */
-	EBPF_INITIAL_SLOTS_NOT_IN_MAPS = 823,	       /* a value of a map of maps is not in .maps */
+	EBPF_INITIAL_SLOTS_NOT_IN_MAPS = 823, /* a value of a map of maps is not in .maps */
 	EBPF_INITIAL_SLOTS_UNSUPPORTED_KEY_SIZE = 824, /* a hash of maps with keys of other than 4 bytes */
-	EBPF_INITIAL_SLOTS_UNKNOWN_MAP = 825,
-	EBPF_INITIAL_SLOTS_UNKNOWN_PROGRAM = 826,
+	EBPF_INITIAL_SLOTS_UNKNOWN_MAP = 825, /* a value is an unknown map */
+	EBPF_INITIAL_SLOTS_UNKNOWN_PROGRAM = 826, /* a value is an unknown program */
 	EBPF_INITIAL_SLOTS_NOT_AN_ENTRY_POINT = 827, /* a value is not where the program of its name begins */
-	EBPF_INITIAL_SLOTS_NO_VALUES = 828,	     /* the map's type does not end in `values` */
-	EBPF_INITIAL_SLOTS_OUTSIDE_VALUES = 829,     /* a place is before the map's `values` */
-	EBPF_INITIAL_SLOTS_MISALIGNED = 830,	     /* a place is at no whole value */
+	EBPF_INITIAL_SLOTS_NO_VALUES = 828, /* the map's type does not end in `values` */
+	EBPF_INITIAL_SLOTS_OUTSIDE_VALUES = 829, /* a place is before the map's `values` */
+	EBPF_INITIAL_SLOTS_MISALIGNED = 830, /* a place is at no whole value */
 
 	/* 900 to 999: kconfig externs. About the extern, but for 900, 901 and 906 */
-	EBPF_KCONFIG_NOT_A_VARIABLE = 900,     /* an entry of .kconfig names no variable */
-	EBPF_KCONFIG_UNREADABLE_NAME = 901,    /* the name of one can't be read */
-	EBPF_KCONFIG_UNKNOWN_NAME = 902,       /* it begins neither with CONFIG_ nor with LINUX_ */
-	EBPF_KCONFIG_UNSUPPORTED_TYPE = 903,   /* its type has no values of a configuration */
-	EBPF_KCONFIG_NO_VALUE = 904,	       /* it has to have a value and is given none */
-	EBPF_KCONFIG_WRONG_SIZE = 905,	       /* its value has another size */
-	EBPF_KCONFIG_TOO_LARGE = 906,	       /* the values together pass 32 bits */
-	EBPF_KCONFIG_UNSUITED_VALUE = 907,     /* what is said of it is no value of its type */
-	EBPF_KCONFIG_VALUE_OUT_OF_RANGE = 908, /* its number is out of the range of its type, or of 64 bits */
-};
-
-/* why a file, or a part of it, can't be read */
-enum ebpf_file_fault {
-	EBPF_FILE_TOO_SHORT = 0,
-	EBPF_FILE_MAGIC = 1,
-	EBPF_FILE_NOT_64_BIT = 2,
-	EBPF_FILE_BYTE_ORDER = 3,
-	EBPF_FILE_SECTION_TABLE = 4,
-	EBPF_FILE_SECTION_RANGE = 5,
-	EBPF_FILE_STRING_TABLE = 6,
-	EBPF_FILE_SYMBOL_TABLE = 7,
-	EBPF_FILE_RELOCATION_TABLE = 8,
-	EBPF_FILE_EXTENDED_NUMBERING = 9,
-};
-
-/* why types can't be read */
-enum ebpf_type_fault {
-	EBPF_TYPE_HEADER = 0,
-	EBPF_TYPE_INFO = 1,
-	EBPF_TYPE_EXT_INFO = 2,
-	EBPF_TYPE_STRING_OFFSET = 3,
-	EBPF_TYPE_RELOCATION_KIND = 4,
-	EBPF_TYPE_UNEXPECTED = 5,
-	EBPF_TYPE_UNKNOWN = 6,
-	EBPF_TYPE_UNKNOWN_NAME = 7,
-	EBPF_TYPE_DEPTH = 8,
-	EBPF_TYPE_DATASEC = 9,
-	EBPF_TYPE_SYMBOL_NAME = 10,
-	EBPF_TYPE_INNER_PINNED = 11,
-	EBPF_TYPE_MULTI_LEVEL = 12,
-	EBPF_TYPE_VALUES = 13,
-	EBPF_TYPE_TOO_LARGE = 14,
-};
-
-/* why slots can't be relocated */
-enum ebpf_slot_fault {
-	EBPF_SLOT_UNKNOWN_SYMBOL = 0,
-	EBPF_SLOT_SECTION_NOT_FOUND = 1, /* no descriptor is given for any map of the symbol's section */
-	EBPF_SLOT_UNKNOWN_FUNCTION = 2,
-	EBPF_SLOT_FUNCTION_INFO = 3,
-	EBPF_SLOT_UNKNOWN_PROGRAM = 4,
-	EBPF_SLOT_OFFSET = 5,
-	EBPF_SLOT_EXTERN_NOT_FOUND = 6,
-	EBPF_SLOT_UNRESOLVED = 7,
-	EBPF_SLOT_TEXT_SYMBOL = 8,
-	EBPF_SLOT_LINE_INFO = 9,
-	EBPF_SLOT_TOO_LONG = 10,
-	EBPF_SLOT_MAP_ADDRESS = 11,
+	EBPF_KCONFIG_NOT_A_VARIABLE = 900, /* an entry of .kconfig names no variable */
+	EBPF_KCONFIG_UNREADABLE_NAME = 901, /* the name of a kconfig extern can't be read */
+	EBPF_KCONFIG_UNKNOWN_NAME = 902, /* the name of a kconfig extern begins neither with CONFIG_ nor with LINUX_ */
+	EBPF_KCONFIG_UNSUPPORTED_TYPE = 903, /* the type of a kconfig extern has no values of a configuration */
+	EBPF_KCONFIG_NO_VALUE = 904, /* a kconfig extern has to have a value and is given none */
+	EBPF_KCONFIG_WRONG_SIZE = 905, /* the value of a kconfig extern has another size */
+	EBPF_KCONFIG_TOO_LARGE = 906, /* the values of the kconfig externs together pass 32 bits */
+	EBPF_KCONFIG_UNSUITED_VALUE = 907, /* what the configuration says of a kconfig extern is no value of its type */
+	EBPF_KCONFIG_VALUE_OUT_OF_RANGE = 908, /* the number of a kconfig extern is out of the range of its type, or of 64 bits */
 };
 
 /* ---- what a refusal reports beside the name that it is about */
@@ -256,27 +366,28 @@ struct ebpf_refusal {
 /*
  * Writes the name of a number: the stage and the variant of its error, as "parse: BadMagic". *len is its length.
  *  - A number below 100 has no stage: the name of 2 is "OutOfMemory".
- *  - Each number of the tables above has a name, whether a call returns it or not.
- *  - So has each sum of a stage's first number and a fault of its table.
- *  - The name of any other number is empty.
+ *  - Each number above has a name, whether a call returns it or not. The name of any other number is empty.
  * 64 bytes hold each name. Numbers: 1.
  */
 uint32_t ebpf_number_name(uint32_t number, char *text, size_t room, size_t *len);
 
+/*
+ * Returns what a number says: the text beside it in the table above. It has no names of the object. It is static, ends
+ * in a zero byte, and is never NULL: of other numbers it says that they are unknown.
+ */
+const char *ebpf_strerror(uint32_t number);
+
 /* ---- handles */
 
-struct ebpf_handle {
-	void *at; /* the library's */
-};
-
-#define EBPF_CLOSED_HANDLE { 0 }
+/* An object that was opened, and the last pass that was made of it. */
+struct ebpf_handle;
 
 /*
- * Opens the object of a file by strict parsing. With the number 0 an object that the handle held before is closed.
+ * Opens the object of a file by strict parsing, and gives out a handle: *handle is NULL with other numbers than 0.
  * Numbers: 2, 100 to 199.
  */
-uint32_t ebpf_open(const uint8_t *file, size_t file_len, struct ebpf_handle *handle, char *about, size_t about_room,
-		   struct ebpf_refusal *refusal);
+EBPF_CHECKED uint32_t ebpf_open(const uint8_t *file, size_t file_len, struct ebpf_handle **handle, char *about,
+			size_t about_room, struct ebpf_refusal *refusal) EBPF_NONNULL(3);
 
 /*
  * Opens the object of a file by lenient parsing. It differs from `ebpf_open`:
@@ -290,26 +401,27 @@ uint32_t ebpf_open(const uint8_t *file, size_t file_len, struct ebpf_handle *han
  *  - A file for another machine is refused (158): e_machine is neither EM_BPF nor EM_NONE.
  * For any other file that `ebpf_open` accepts, both give the same object. Numbers: 2, 100 to 199.
  */
-uint32_t ebpf_open_broad(const uint8_t *file, size_t file_len, struct ebpf_handle *handle, char *about,
-			 size_t about_room, struct ebpf_refusal *refusal);
+EBPF_CHECKED uint32_t ebpf_open_broad(const uint8_t *file, size_t file_len, struct ebpf_handle **handle,
+			char *about, size_t about_room, struct ebpf_refusal *refusal) EBPF_NONNULL(3);
 
 /*
  * Opens the object of a file from strangers: a file of some kilobytes can make an object of gigabytes. Parsing is
- * strict if `lenient` is 0, else lenient. The call counts the bytes that the object would own before it makes the object.
+ * strict if `lenient` is 0, else lenient. The call counts the bytes that the object would own before it makes it.
  * Above `most_bytes` it returns 157. docs/BEHAVIOUR.md, 'Limits', says what counts. Numbers: 2, 100 to 199.
  */
-uint32_t ebpf_open_within(const uint8_t *file, size_t file_len, uint32_t lenient, uint64_t most_bytes,
-			  struct ebpf_handle *handle, char *about, size_t about_room, struct ebpf_refusal *refusal);
+EBPF_CHECKED uint32_t ebpf_open_within(const uint8_t *file, size_t file_len, uint32_t lenient, uint64_t most_bytes,
+			struct ebpf_handle **handle, char *about, size_t about_room,
+			struct ebpf_refusal *refusal) EBPF_NONNULL(5);
 
-/* Makes `copy` hold a copy of what `handle` holds; what `copy` held before is closed. Numbers: 2, 3. */
-uint32_t ebpf_clone(struct ebpf_handle *handle, struct ebpf_handle *copy);
+/* Gives out a handle with a copy of what `handle` holds: *copy is NULL with other numbers than 0. Numbers: 2, 3. */
+EBPF_CHECKED uint32_t ebpf_clone(const struct ebpf_handle *handle, struct ebpf_handle **copy) EBPF_NONNULL(2);
 
-/* Frees what the handle holds, and leaves it closed. A closed one stays so. */
+/* Frees the handle and what it holds. NULL is freed as `free` does: nothing happens. */
 void ebpf_close(struct ebpf_handle *handle);
 
 /* ---- what an object has */
 
-struct ebpf_info {
+struct ebpf_object_info {
 	uint32_t is_big_endian;	     /* 1 or 0: the byte order of the file */
 	uint32_t has_kernel_version; /* 1 or 0 */
 	uint32_t kernel_version;     /* 0 where the file states none */
@@ -319,13 +431,13 @@ struct ebpf_info {
 };
 
 /* Numbers: 3. */
-uint32_t ebpf_info(struct ebpf_handle *handle, struct ebpf_info *info);
+EBPF_CHECKED uint32_t ebpf_info(const struct ebpf_handle *handle, struct ebpf_object_info *info);
 
 /* The license, without its zero byte. *len is its length. Numbers: 1, 3. */
-uint32_t ebpf_license(struct ebpf_handle *handle, char *text, size_t room, size_t *len);
+EBPF_CHECKED uint32_t ebpf_license(const struct ebpf_handle *handle, char *text, size_t room, size_t *len);
 
 /* Sets *states to 1 if the file has a section `license`, else to 0: the license is then the default GPL. Numbers: 3. */
-uint32_t ebpf_states_license(struct ebpf_handle *handle, uint32_t *states);
+EBPF_CHECKED uint32_t ebpf_states_license(const struct ebpf_handle *handle, uint32_t *states);
 
 /*
  * How many rows a list has, and how many bytes its text has. A row is one C struct of a list. Its name is a place and a
@@ -407,14 +519,15 @@ struct ebpf_program {
  *    sections with one name.
  * Numbers: 1, 2, 3.
  */
-uint32_t ebpf_programs(struct ebpf_handle *handle, struct ebpf_program *rows, size_t rows_room, char *text,
-		       size_t text_room, struct ebpf_counts *counts);
+EBPF_CHECKED uint32_t ebpf_programs(const struct ebpf_handle *handle, struct ebpf_program *rows, size_t rows_room,
+			char *text, size_t text_room, struct ebpf_counts *counts);
 
 /*
  * Writes the row of the program of a name, as `ebpf_programs` lists it. The text that the row points into is `name`
  * itself (`name_at` is 0). No list is made. Numbers: 3, 4.
  */
-uint32_t ebpf_find_program(struct ebpf_handle *handle, const char *name, size_t name_len, struct ebpf_program *row);
+EBPF_CHECKED uint32_t ebpf_find_program(const struct ebpf_handle *handle, const char *name, size_t name_len,
+			struct ebpf_program *row);
 
 /* what the section that declares a map is for */
 enum ebpf_section_kind {
@@ -458,18 +571,19 @@ struct ebpf_map {
  *  - An inner map has its ids by the same types and rules.
  * Numbers: 1, 2, 3.
  */
-uint32_t ebpf_maps(struct ebpf_handle *handle, struct ebpf_map *rows, size_t rows_room, char *text, size_t text_room,
-		   struct ebpf_counts *counts);
+EBPF_CHECKED uint32_t ebpf_maps(const struct ebpf_handle *handle, struct ebpf_map *rows, size_t rows_room,
+			char *text, size_t text_room, struct ebpf_counts *counts);
 
 /*
  * Writes the row of the map of a name, as `ebpf_maps` lists it. The text that the row points into is `name` itself
  * (`name_at` is 0). No list is made. Numbers: 3, 5.
  */
-uint32_t ebpf_find_map(struct ebpf_handle *handle, const char *name, size_t name_len, struct ebpf_map *row);
+EBPF_CHECKED uint32_t ebpf_find_map(const struct ebpf_handle *handle, const char *name, size_t name_len,
+			struct ebpf_map *row);
 
 /* The initial data of a map. *len is its length. Numbers: 1, 3, 5. */
-uint32_t ebpf_map_data(struct ebpf_handle *handle, const char *name, size_t name_len, uint8_t *data, size_t room,
-		       size_t *len);
+EBPF_CHECKED uint32_t ebpf_map_data(const struct ebpf_handle *handle, const char *name, size_t name_len,
+			uint8_t *data, size_t room, size_t *len);
 
 struct ebpf_extern {
 	size_t name_at, name_len; /* its name's place in the text */
@@ -483,15 +597,15 @@ struct ebpf_extern {
 };
 
 /* Lists the externs: a row each, their names one after the other in `text`. Numbers: 1, 2, 3. */
-uint32_t ebpf_externs(struct ebpf_handle *handle, struct ebpf_extern *rows, size_t rows_room, char *text,
-		      size_t text_room, struct ebpf_counts *counts);
+EBPF_CHECKED uint32_t ebpf_externs(const struct ebpf_handle *handle, struct ebpf_extern *rows, size_t rows_room,
+			char *text, size_t text_room, struct ebpf_counts *counts);
 
 /*
  * The name of the section of a program, as `ebpf_sections` lists it. *len is its length: 0 if the section is not
- * listed. Numbers: 1, 2, 3, 4.
+ * listed. Numbers: 1, 3, 4.
  */
-uint32_t ebpf_program_section(struct ebpf_handle *handle, const char *name, size_t name_len, char *text, size_t room,
-			      size_t *len);
+EBPF_CHECKED uint32_t ebpf_program_section(const struct ebpf_handle *handle, const char *name, size_t name_len,
+			char *text, size_t room, size_t *len);
 
 struct ebpf_section {
 	size_t name_at, name_len; /* its name's place in the text */
@@ -503,8 +617,8 @@ struct ebpf_section {
  * section says what the program is attached to. Of two sections with one name the later one is listed.
  * Numbers: 1, 2, 3.
  */
-uint32_t ebpf_sections(struct ebpf_handle *handle, struct ebpf_section *rows, size_t rows_room, char *text,
-		       size_t text_room, struct ebpf_counts *counts);
+EBPF_CHECKED uint32_t ebpf_sections(const struct ebpf_handle *handle, struct ebpf_section *rows, size_t rows_room,
+			char *text, size_t text_room, struct ebpf_counts *counts);
 
 /* ---- what a loader hands to the kernel, laid out as its own structs */
 
@@ -516,8 +630,8 @@ uint32_t ebpf_sections(struct ebpf_handle *handle, struct ebpf_section *rows, si
  *  - Ids and offsets of strings stay. So those of func info, line info and maps fit.
  * *len is the length of the types: 0 if the file has no .BTF. Numbers: 1, 2, 700 to 799.
  */
-uint32_t ebpf_kernel_types(const uint8_t *file, size_t file_len, uint8_t *types, size_t room, size_t *len, char *about,
-			   size_t about_room, struct ebpf_refusal *refusal);
+EBPF_CHECKED uint32_t ebpf_kernel_types(const uint8_t *file, size_t file_len, uint8_t *types, size_t room,
+			size_t *len, char *about, size_t about_room, struct ebpf_refusal *refusal);
 
 /* what is known of the type that a program is attached to */
 enum ebpf_target_answer {
@@ -539,8 +653,8 @@ enum ebpf_target_answer {
  *  - Of types of one name the first is found.
  * Numbers: 2, 6, 200 to 219.
  */
-uint32_t ebpf_attach_target(const char *section_name, size_t section_name_len, const uint8_t *types, size_t types_len,
-			    uint32_t *answer, uint32_t *type_id);
+EBPF_CHECKED uint32_t ebpf_attach_target(const char *section_name, size_t section_name_len, const uint8_t *types,
+			size_t types_len, uint32_t *answer, uint32_t *type_id);
 
 /* An initial value of a map of maps or of an array of programs. */
 struct ebpf_initial_slot {
@@ -558,9 +672,9 @@ struct ebpf_initial_slot {
  *  - A loader writes the maps once all are made, and the programs once all are loaded.
  * Numbers: 1, 2, 3, 800 to 899.
  */
-uint32_t ebpf_initial_slots(const uint8_t *file, size_t file_len, struct ebpf_handle *handle,
-			    struct ebpf_initial_slot *rows, size_t rows_room, char *text, size_t text_room,
-			    struct ebpf_counts *counts, char *about, size_t about_room, struct ebpf_refusal *refusal);
+EBPF_CHECKED uint32_t ebpf_initial_slots(const uint8_t *file, size_t file_len, const struct ebpf_handle *handle,
+			struct ebpf_initial_slot *rows, size_t rows_room, char *text, size_t text_room,
+			struct ebpf_counts *counts, char *about, size_t about_room, struct ebpf_refusal *refusal);
 
 /* struct bpf_insn */
 struct ebpf_insn {
@@ -585,30 +699,33 @@ struct ebpf_line_info {
 };
 
 /* The slots of a program as they stand. *count is how many. Numbers: 1, 3, 4. */
-uint32_t ebpf_slots(struct ebpf_handle *handle, const char *name, size_t name_len, struct ebpf_insn *slots,
-		    size_t room, size_t *count);
+EBPF_CHECKED uint32_t ebpf_slots(const struct ebpf_handle *handle, const char *name, size_t name_len,
+			struct ebpf_insn *slots, size_t room, size_t *count);
 
 /* A program's func info, by slot. *count is how many. Numbers: 1, 3, 4. */
-uint32_t ebpf_func_infos(struct ebpf_handle *handle, const char *name, size_t name_len, struct ebpf_func_info *rows,
-			 size_t room, size_t *count);
+EBPF_CHECKED uint32_t ebpf_func_infos(const struct ebpf_handle *handle, const char *name, size_t name_len,
+			struct ebpf_func_info *rows, size_t room, size_t *count);
 
 /* A program's line info, by slot. *count is how many. Numbers: 1, 3, 4. */
-uint32_t ebpf_line_infos(struct ebpf_handle *handle, const char *name, size_t name_len, struct ebpf_line_info *rows,
-			 size_t room, size_t *count);
+EBPF_CHECKED uint32_t ebpf_line_infos(const struct ebpf_handle *handle, const char *name, size_t name_len,
+			struct ebpf_line_info *rows, size_t room, size_t *count);
 
-/* ---- what is done to an object, before and beside its relocation */
+/*
+ * ---- what is set of an object, before its first pass. After a pass each of these calls is refused (12), and changes
+ * nothing
+ */
 
 /*
  * Writes the value of a variable into the data of the map that holds it. Of symbols with the name the one with the
  * greatest index counts. If there is none and `must_exist` is 0, the object is unchanged and the number is 0. A name
- * that is no UTF-8 is refused before all other faults of the value. Numbers: 2, 3, 6, 150 to 152.
+ * that is no UTF-8 is refused before all other faults of the value. Numbers: 2, 3, 6, 12, 150 to 152.
  */
-uint32_t ebpf_set_value(struct ebpf_handle *handle, const char *name, size_t name_len, const uint8_t *value,
-			size_t value_len, uint32_t must_exist, char *about, size_t about_room,
+EBPF_CHECKED uint32_t ebpf_set_value(struct ebpf_handle *handle, const char *name, size_t name_len,
+			const uint8_t *value, size_t value_len, uint32_t must_exist, char *about, size_t about_room,
 			struct ebpf_refusal *refusal);
 
 /* A variable's name and its value: places in the text and in the bytes that are given beside the rows. */
-struct ebpf_value {
+struct ebpf_value_row {
 	size_t name_at, name_len;
 	size_t value_at, value_len;
 	uint32_t must_exist; /* 0: the row is passed over where no symbol has the name */
@@ -622,11 +739,11 @@ struct ebpf_value {
  *    the bytes, then the first fault in byte order of the names.
  *  - The table of the variables' names is made once for all rows. Each `ebpf_set_value` makes it anew, so 1,000 of
  *    those cost 1,000 tables.
- * Numbers: 2, 3, 6, 7, 150 to 152.
+ * Numbers: 2, 3, 6, 7, 12, 150 to 152.
  */
-uint32_t ebpf_set_values(struct ebpf_handle *handle, const struct ebpf_value *rows, size_t rows_len, const char *text,
-			 size_t text_len, const uint8_t *bytes, size_t bytes_len, char *about, size_t about_room,
-			 struct ebpf_refusal *refusal);
+EBPF_CHECKED uint32_t ebpf_set_values(struct ebpf_handle *handle, const struct ebpf_value_row *rows,
+			size_t rows_len, const char *text, size_t text_len, const uint8_t *bytes, size_t bytes_len,
+			char *about, size_t about_room, struct ebpf_refusal *refusal);
 
 /* what a kconfig extern holds */
 enum ebpf_kconfig_kind {
@@ -649,9 +766,9 @@ struct ebpf_kconfig_extern {
  * Lists the kconfig externs (`extern .. __kconfig`): a row each, their names one after the other in `text`. They are in
  * the order in which the object's types name them, and not by name. Numbers: 1, 2, 3, 900 to 903.
  */
-uint32_t ebpf_kconfig(struct ebpf_handle *handle, struct ebpf_kconfig_extern *rows, size_t rows_room, char *text,
-		      size_t text_room, struct ebpf_counts *counts, char *about, size_t about_room,
-		      struct ebpf_refusal *refusal);
+EBPF_CHECKED uint32_t ebpf_kconfig(const struct ebpf_handle *handle, struct ebpf_kconfig_extern *rows,
+			size_t rows_room, char *text, size_t text_room, struct ebpf_counts *counts, char *about,
+			size_t about_room, struct ebpf_refusal *refusal);
 
 /*
  * Writes the value of a kconfig extern by a kernel's configuration. `config` is its text: /proc/config.gz or
@@ -663,9 +780,9 @@ uint32_t ebpf_kconfig(struct ebpf_handle *handle, struct ebpf_kconfig_extern *ro
  *  - The first extern of the name counts.
  * Numbers: 1, 2, 3, 8, 900 to 903, 907, 908.
  */
-uint32_t ebpf_kconfig_value(struct ebpf_handle *handle, const char *name, size_t name_len, const char *config,
-			    size_t config_len, uint8_t *value, size_t room, size_t *len, uint32_t *is_found,
-			    char *about, size_t about_room, struct ebpf_refusal *refusal);
+EBPF_CHECKED uint32_t ebpf_kconfig_value(const struct ebpf_handle *handle, const char *name, size_t name_len,
+			const char *config, size_t config_len, uint8_t *value, size_t room, size_t *len,
+			uint32_t *is_found, char *about, size_t about_room, struct ebpf_refusal *refusal);
 
 /*
  * Writes a number as the value of a kconfig extern: what the loader knows of the kernel. *len is the value's length.
@@ -675,9 +792,9 @@ uint32_t ebpf_kconfig_value(struct ebpf_handle *handle, const char *name, size_t
  *  - The first extern of the name counts.
  * Numbers: 1, 2, 3, 8, 900 to 903, 907, 908.
  */
-uint32_t ebpf_kconfig_number(struct ebpf_handle *handle, const char *name, size_t name_len, uint64_t number,
-			     uint8_t *value, size_t room, size_t *len, char *about, size_t about_room,
-			     struct ebpf_refusal *refusal);
+EBPF_CHECKED uint32_t ebpf_kconfig_number(const struct ebpf_handle *handle, const char *name, size_t name_len,
+			uint64_t number, uint8_t *value, size_t room, size_t *len, char *about, size_t about_room,
+			struct ebpf_refusal *refusal);
 
 /*
  * Adds the map `.kconfig`, whose data are the values of the kconfig externs, and makes their symbols variables of it.
@@ -689,11 +806,11 @@ uint32_t ebpf_kconfig_number(struct ebpf_handle *handle, const char *name, size_
  *  - An object without such externs is unchanged.
  *  - Faults of rows come first, those of names before those of values. Then come those of the list, then the first of
  *    the values.
- * Numbers: 2, 3, 6, 7, 900 to 906.
+ * Numbers: 2, 3, 6, 7, 12, 900 to 906.
  */
-uint32_t ebpf_define_kconfig(struct ebpf_handle *handle, const struct ebpf_value *rows, size_t rows_len,
-			     const char *text, size_t text_len, const uint8_t *bytes, size_t bytes_len, char *about,
-			     size_t about_room, struct ebpf_refusal *refusal);
+EBPF_CHECKED uint32_t ebpf_define_kconfig(struct ebpf_handle *handle, const struct ebpf_value_row *rows,
+			size_t rows_len, const char *text, size_t text_len, const uint8_t *bytes, size_t bytes_len,
+			char *about, size_t about_room, struct ebpf_refusal *refusal);
 
 struct ebpf_variable {
 	size_t name_at, name_len; /* its name's place in the text */
@@ -707,30 +824,42 @@ struct ebpf_variable {
  * the symbols that have bytes, all of them inside the data of a map. Of symbols of one name the one with the greatest
  * index counts. Numbers: 1, 2, 3.
  */
-uint32_t ebpf_variables(struct ebpf_handle *handle, struct ebpf_variable *rows, size_t rows_room, char *text,
-			size_t text_room, struct ebpf_counts *counts);
+EBPF_CHECKED uint32_t ebpf_variables(const struct ebpf_handle *handle, struct ebpf_variable *rows, size_t rows_room,
+			char *text, size_t text_room, struct ebpf_counts *counts);
 
 /* The bytes of a variable in the data of its map, as they are now. *len is how many. Numbers: 1, 2, 3, 10. */
-uint32_t ebpf_value(struct ebpf_handle *handle, const char *name, size_t name_len, uint8_t *value, size_t room,
-		    size_t *len);
+EBPF_CHECKED uint32_t ebpf_value(const struct ebpf_handle *handle, const char *name, size_t name_len,
+			uint8_t *value, size_t room, size_t *len);
 
-/* Sets all of the initial data of a map, which has as many bytes as before. Numbers: 3, 5, 9. */
-uint32_t ebpf_set_map_data(struct ebpf_handle *handle, const char *name, size_t name_len, const uint8_t *data,
-			   size_t data_len);
+/* Sets all of the initial data of a map, which has as many bytes as before. Numbers: 3, 5, 9, 12. */
+EBPF_CHECKED uint32_t ebpf_set_map_data(struct ebpf_handle *handle, const char *name, size_t name_len,
+			const uint8_t *data, size_t data_len);
 
-/* Sets how many entries a map holds at most. Numbers: 3, 5. */
-uint32_t ebpf_set_max_entries(struct ebpf_handle *handle, const char *name, size_t name_len, uint32_t entries);
+/* Sets how many entries a map holds at most. Numbers: 3, 5, 12. */
+EBPF_CHECKED uint32_t ebpf_set_max_entries(struct ebpf_handle *handle, const char *name, size_t name_len,
+			uint32_t entries);
 
-/* Sets the size of a map's values, in bytes. Numbers: 3, 5. */
-uint32_t ebpf_set_value_size(struct ebpf_handle *handle, const char *name, size_t name_len, uint32_t size);
+/* Sets the size of a map's values, in bytes. Numbers: 3, 5, 12. */
+EBPF_CHECKED uint32_t ebpf_set_value_size(struct ebpf_handle *handle, const char *name, size_t name_len,
+			uint32_t size);
 
 /*
  * If `has_newer` is 0, replaces newer helper functions in every function. 4 (probe_read) replaces 112 and 113
- * (probe_read_user, probe_read_kernel). 45 (probe_read_str) replaces 114 and 115. Numbers: 3.
+ * (probe_read_user, probe_read_kernel). 45 (probe_read_str) replaces 114 and 115. Numbers: 3, 12.
  */
-uint32_t ebpf_sanitize(struct ebpf_handle *handle, uint32_t has_newer);
+EBPF_CHECKED uint32_t ebpf_sanitize(struct ebpf_handle *handle, uint32_t has_newer);
 
-/* ---- relocation, a pass at a time, in this order */
+/*
+ * ---- relocation, a pass at a time, in this order: ebpf_relocate_types, ebpf_relocate_maps, ebpf_resolve_externs,
+ * ebpf_relocate_externs, ebpf_relocate_calls; or all of them by ebpf_prepare_handle
+ *
+ * A handle knows the last pass that was made of its object. Each pass may be left out, and each is made at most once:
+ *  - The pass that was made last is refused (11). So is one that comes before it (12). Nothing is changed.
+ *  - A pass that is refused was not made, and may be made again. `ebpf_prepare_handle` begins with the first pass.
+ *  - A copy (ebpf_clone) knows what the handle knew.
+ * So, whatever calls are made with a handle and whatever they return, its slots are those of the passes that returned
+ * 0, each made once and in this order, of the object as it was when the first of them began.
+ */
 
 /*
  * A map's name, a place in the text that is given beside the rows, and its descriptor.
@@ -747,10 +876,10 @@ struct ebpf_descriptor {
 
 /*
  * Relocates the functions to a kernel's types (CO-RE). `types` is raw BTF in the byte order that its magic number
- * states. Numbers: 2, 3, 200 to 299.
+ * states. Numbers: 2, 3, 11, 12, 200 to 299.
  */
-uint32_t ebpf_relocate_types(struct ebpf_handle *handle, const uint8_t *types, size_t types_len, char *about,
-			     size_t about_room, struct ebpf_refusal *refusal);
+EBPF_CHECKED uint32_t ebpf_relocate_types(struct ebpf_handle *handle, const uint8_t *types, size_t types_len,
+			char *about, size_t about_room, struct ebpf_refusal *refusal);
 
 /* the outcome of a CO-RE relocation over a kernel's types; the names of this part call it a record */
 enum ebpf_record_result {
@@ -792,33 +921,34 @@ struct ebpf_record_outcome {
  *  - An object without types or CO-RE relocations has no rows.
  * Numbers: 1, 2, 3, 200 to 219.
  */
-uint32_t ebpf_record_outcomes(struct ebpf_handle *handle, const uint8_t *types, size_t types_len,
-			      struct ebpf_record_outcome *rows, size_t rows_room, char *text, size_t text_room,
-			      struct ebpf_counts *counts, char *about, size_t about_room,
-			      struct ebpf_refusal *refusal);
+EBPF_CHECKED uint32_t ebpf_record_outcomes(const struct ebpf_handle *handle, const uint8_t *types, size_t types_len,
+			struct ebpf_record_outcome *rows, size_t rows_room, char *text, size_t text_room,
+			struct ebpf_counts *counts, char *about, size_t about_room, struct ebpf_refusal *refusal);
 
 /*
  * Writes descriptors of maps into the slots that refer to them. A row whose name is no UTF-8, or not inside the text,
- * is refused before all other faults. Numbers: 2, 3, 6, 300 to 311.
+ * is refused before all other faults of the rows. Numbers: 2, 3, 6, 11, 12, 300 to 311.
  */
-uint32_t ebpf_relocate_maps(struct ebpf_handle *handle, const struct ebpf_descriptor *rows, size_t rows_len,
-			    const char *text, size_t text_len, char *about, size_t about_room,
-			    struct ebpf_refusal *refusal);
+EBPF_CHECKED uint32_t ebpf_relocate_maps(struct ebpf_handle *handle, const struct ebpf_descriptor *rows,
+			size_t rows_len, const char *text, size_t text_len, char *about, size_t about_room,
+			struct ebpf_refusal *refusal);
 
 /*
  * Finds the externs in a kernel's types and in its symbols, which are given as the text of /proc/kallsyms. Types of
- * length 0 are none. A line that is no UTF-8 is refused if lines are needed. Numbers: 2, 3, 200 to 219, 400 to 499.
+ * length 0 are none. A line that is no UTF-8 is refused if lines are needed.
+ * Numbers: 2, 3, 11, 12, 200 to 219, 400 to 499.
  */
-uint32_t ebpf_resolve_externs(struct ebpf_handle *handle, const uint8_t *types, size_t types_len,
-			      const uint8_t *symbols, size_t symbols_len, char *about, size_t about_room,
-			      struct ebpf_refusal *refusal);
+EBPF_CHECKED uint32_t ebpf_resolve_externs(struct ebpf_handle *handle, const uint8_t *types, size_t types_len,
+			const uint8_t *symbols, size_t symbols_len, char *about, size_t about_room,
+			struct ebpf_refusal *refusal);
 
-/* Writes what is known of the externs into the slots that refer to them. Numbers: 2, 3, 500 to 599. */
-uint32_t ebpf_relocate_externs(struct ebpf_handle *handle, char *about, size_t about_room,
-			       struct ebpf_refusal *refusal);
+/* Writes what is known of the externs into the slots that refer to them. Numbers: 2, 3, 11, 12, 500 to 599. */
+EBPF_CHECKED uint32_t ebpf_relocate_externs(struct ebpf_handle *handle, char *about, size_t about_room,
+			struct ebpf_refusal *refusal);
 
-/* Links each program with the functions that it reaches. Numbers: 2, 3, 600 to 699. */
-uint32_t ebpf_relocate_calls(struct ebpf_handle *handle, char *about, size_t about_room, struct ebpf_refusal *refusal);
+/* Links each program with the functions that it reaches. Numbers: 2, 3, 11, 600 to 699. */
+EBPF_CHECKED uint32_t ebpf_relocate_calls(struct ebpf_handle *handle, char *about, size_t about_room,
+			struct ebpf_refusal *refusal);
 
 /* A copy of a function in a linked program. Slots are counted, each 8 bytes. */
 struct ebpf_code_copy {
@@ -838,9 +968,9 @@ struct ebpf_code_copy {
  *    are not looked at.
  * Numbers: 1, 2, 3, 4, 600 to 699.
  */
-uint32_t ebpf_link_map(struct ebpf_handle *handle, const char *name, size_t name_len, struct ebpf_code_copy *rows,
-		       size_t rows_room, char *text, size_t text_room, struct ebpf_counts *counts, char *about,
-		       size_t about_room, struct ebpf_refusal *refusal);
+EBPF_CHECKED uint32_t ebpf_link_map(const struct ebpf_handle *handle, const char *name, size_t name_len,
+			struct ebpf_code_copy *rows, size_t rows_room, char *text, size_t text_room,
+			struct ebpf_counts *counts, char *about, size_t about_room, struct ebpf_refusal *refusal);
 
 /* A slot of a linked program that refers to one of its copies. */
 struct ebpf_code_reference {
@@ -854,31 +984,32 @@ struct ebpf_code_reference {
  * *count is how many. Call it before `ebpf_relocate_calls`. It refuses as `ebpf_link_map` does.
  * Numbers: 1, 2, 3, 4, 600 to 699.
  */
-uint32_t ebpf_link_references(struct ebpf_handle *handle, const char *name, size_t name_len,
-			      struct ebpf_code_reference *rows, size_t room, size_t *count, char *about,
-			      size_t about_room, struct ebpf_refusal *refusal);
+EBPF_CHECKED uint32_t ebpf_link_references(const struct ebpf_handle *handle, const char *name, size_t name_len,
+			struct ebpf_code_reference *rows, size_t room, size_t *count, char *about,
+			size_t about_room, struct ebpf_refusal *refusal);
 
 /*
  * Opens the object of a file by strict parsing, and runs all of these passes over it. If `types_len` is 0, functions
- * are not relocated and externs are looked up in the symbols alone. With the number 0 an object that the handle held
- * before is closed. The rows' names are looked at first, then the types are read, then the file. Each slot's own map
- * has to have a row, as in `ebpf_relocate_maps`; this is looked at before the first pass.
+ * are not relocated and externs are looked up in the symbols alone. It gives out a handle: *handle is NULL with other
+ * numbers than 0. The rows' names are looked at first, then the types are read, then the file. Each slot's own map has
+ * to have a row, else the number is 320, before the first pass.
  * Numbers: 2, 6, 100 to 199, 200 to 299, .., 600 to 699.
  */
-uint32_t ebpf_prepare(const uint8_t *file, size_t file_len, const uint8_t *types, size_t types_len,
-		      const struct ebpf_descriptor *rows, size_t rows_len, const char *text, size_t text_len,
-		      const uint8_t *symbols, size_t symbols_len, struct ebpf_handle *handle, char *about,
-		      size_t about_room, struct ebpf_refusal *refusal);
+EBPF_CHECKED uint32_t ebpf_prepare(const uint8_t *file, size_t file_len, const uint8_t *types, size_t types_len,
+			const struct ebpf_descriptor *rows, size_t rows_len, const char *text, size_t text_len,
+			const uint8_t *symbols, size_t symbols_len, struct ebpf_handle **handle, char *about,
+			size_t about_room, struct ebpf_refusal *refusal) EBPF_NONNULL(11);
 
 /*
- * Runs the same passes over the object that the handle holds. Its values and sizes may be set before. So make the maps
- * as `ebpf_maps` lists them, and prepare the same object with their descriptors. The rows' names are looked at first,
- * then the types are read. After a refusal the object is unchanged. Numbers: 2, 3, 6, 200 to 299, .., 600 to 699.
+ * Runs the same passes over the object that the handle holds, of which no pass was made. Its values and sizes may be
+ * set before. So make the maps as `ebpf_maps` lists them, and prepare the same object with their descriptors. The rows'
+ * names are looked at first, then the types are read. After a refusal the object is unchanged, and no pass was made.
+ * Numbers: 2, 3, 6, 11, 12, 200 to 299, .., 600 to 699.
  */
-uint32_t ebpf_prepare_handle(struct ebpf_handle *handle, const uint8_t *types, size_t types_len,
-			     const struct ebpf_descriptor *rows, size_t rows_len, const char *text, size_t text_len,
-			     const uint8_t *symbols, size_t symbols_len, char *about, size_t about_room,
-			     struct ebpf_refusal *refusal);
+EBPF_CHECKED uint32_t ebpf_prepare_handle(struct ebpf_handle *handle, const uint8_t *types, size_t types_len,
+			const struct ebpf_descriptor *rows, size_t rows_len, const char *text, size_t text_len,
+			const uint8_t *symbols, size_t symbols_len, char *about, size_t about_room,
+			struct ebpf_refusal *refusal);
 
 #ifdef __cplusplus
 }

@@ -1,6 +1,6 @@
 #!/usr/bin/env bash
-# Builds examples/out/libebpf.a, which is the static library with the functions by which it takes memory, and on it the
-# test programs of c_interface/ and the examples, with gcc and clang; runs them, under the address and
+# Builds examples/out/libebpf.a: the proved static library, the functions by which it takes memory, and the layer in C (c/).
+# On it the test programs of c_interface/ and the examples, with gcc and clang; runs them, under the address and
 # undefined-behaviour sanitizers too, and with each allocation failing; builds and tests the wrapper where Rust is
 # there, and runs the code of docs/C.md and the C of README.md; loads examples/counter.bpf.c into the running kernel
 # where that is allowed.
@@ -15,10 +15,17 @@ if [ ! -e $archive ] || [ -n "$(find crates/*/src -name '*.rt' -newer $archive -
 fi
 mkdir -p examples/out
 kit=$(dirname "$(rt doc)")
+compiler=${CC:-cc}
+for layer in calls handles strerror; do
+    "$compiler" -std=c11 -O2 -fPIC -Wall -Wextra -Iinclude -c c/$layer.c -o examples/out/$layer.o
+done
 "${AR:-ar}" -M <<END
 CREATE examples/out/libebpf.a
 ADDLIB $archive
 ADDLIB $kit/c/liblibc_c.a
+ADDMOD examples/out/calls.o
+ADDMOD examples/out/handles.o
+ADDMOD examples/out/strerror.o
 SAVE
 END
 if [ "${1:-}" = --build ]; then
@@ -26,7 +33,6 @@ if [ "${1:-}" = --build ]; then
 fi
 folder=$(mktemp -d)
 trap 'rm -rf "$folder"' EXIT
-compiler=${CC:-cc}
 "$compiler" -O2 -Wall -shared -fPIC -o "$folder/refused_growths.so" tests/refused_growths.c
 library=$PWD/examples/out/libebpf.a
 cd tests

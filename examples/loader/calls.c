@@ -43,19 +43,16 @@ static const char *details(void)
 	return text;
 }
 
-/* Ends the loader where the library refuses, by the refusal's name, what it is about and what else is told of it. */
+/* Ends the loader where the library refuses: why, what that is about and what else is told of it. */
 void check(const char *what, uint32_t number)
 {
-	char name[64] = { 0 };
-	size_t len = 0;
+	const char *why = ebpf_strerror(number);
 
 	if (number == EBPF_DONE)
 		return;
-	ebpf_number_name(number, name, sizeof(name), &len);
 	if (refusal.number != number)
-		errx(1, "%s: the library refuses: %.*s (%u)", what, (int)len, name, number);
-	errx(1, "%s: the library refuses: %.*s (%u) %.*s%s", what, (int)len, name, number, (int)refusal.name_len, about,
-	     details());
+		errx(1, "%s: the library refuses: %s (%u)", what, why, number);
+	errx(1, "%s: the library refuses: %s (%u) %.*s%s", what, why, number, (int)refusal.name_len, about, details());
 }
 
 /* All zero, which the kernel asks of what a command doesn't use; an initialiser of a union clears one member alone. */

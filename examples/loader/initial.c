@@ -11,7 +11,7 @@ void list_initial(struct loading *of)
 		free(all->names);
 		all->rows = zeros(all->counts.rows, sizeof(*all->rows));
 		all->names = zeros(all->counts.text, 1);
-		number = ebpf_initial_slots(of->file.at, of->file.len, &of->object, all->rows, all->counts.rows,
+		number = ebpf_initial_slots(of->file.at, of->file.len, of->object, all->rows, all->counts.rows,
 					    all->names, all->counts.text, &all->counts, ABOUT);
 	} while (number == EBPF_ROOM);
 	check("initial values of maps", number);

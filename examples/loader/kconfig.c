@@ -123,7 +123,7 @@ static size_t size_of_values(const struct externs *externs)
 /* Defines externs by the values that are known; the library refuses where one is wanted and isn't known. */
 static void define_externs(struct ebpf_handle *object, const struct externs *externs, struct bytes config)
 {
-	struct ebpf_value *rows = zeros(externs->counts.rows, sizeof(*rows));
+	struct ebpf_value_row *rows = zeros(externs->counts.rows, sizeof(*rows));
 	struct bytes values = { zeros(size_of_values(externs), 1), 0 };
 	size_t count = 0;
 
@@ -132,7 +132,7 @@ static void define_externs(struct ebpf_handle *object, const struct externs *ext
 
 		if (!put_value(object, externs->names + one->name_at, config, values.at + values.len, one->size))
 			continue;
-		rows[count++] = (struct ebpf_value){ one->name_at, one->name_len, values.len, one->size, 1 };
+		rows[count++] = (struct ebpf_value_row){ one->name_at, one->name_len, values.len, one->size, 1 };
 		values.len += one->size;
 	}
 	check("externs of .kconfig", ebpf_define_kconfig(object, rows, count, externs->names, externs->counts.text,
@@ -144,12 +144,12 @@ static void define_externs(struct ebpf_handle *object, const struct externs *ext
 /* Defines the externs that the kernel's configuration gives; reads it only where there are some. */
 void define_kconfig(struct loading *of, const char *config_path)
 {
-	struct externs externs = list_externs(&of->object);
+	struct externs externs = list_externs(of->object);
 
 	if (externs.counts.rows) {
 		struct bytes config = read_config(config_path);
 
-		define_externs(&of->object, &externs, config);
+		define_externs(of->object, &externs, config);
 		free(config.at);
 	}
 	free(externs.rows);

@@ -40,7 +40,7 @@ struct initial {
 
 /* An object that is loaded. */
 struct loading {
-	struct ebpf_handle object;
+	struct ebpf_handle *object;
 	struct bytes file;
 	struct bytes kernel_types;
 	struct bytes kernel_symbols;

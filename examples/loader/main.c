@@ -70,12 +70,12 @@ static void prepare(struct loading *of, const char *path)
 	struct bytes types = of->kernel_types, symbols = of->kernel_symbols;
 	const struct maps *maps = &of->maps;
 
-	check(path, ebpf_relocate_types(&of->object, types.at, types.len, ABOUT));
-	check(path, ebpf_relocate_maps(&of->object, maps->made, maps->counts.rows, maps->names, maps->counts.text,
+	check(path, ebpf_relocate_types(of->object, types.at, types.len, ABOUT));
+	check(path, ebpf_relocate_maps(of->object, maps->made, maps->counts.rows, maps->names, maps->counts.text,
 				       ABOUT));
-	check(path, ebpf_resolve_externs(&of->object, types.at, types.len, symbols.at, symbols.len, ABOUT));
-	check(path, ebpf_relocate_externs(&of->object, ABOUT));
-	check(path, ebpf_relocate_calls(&of->object, ABOUT));
+	check(path, ebpf_resolve_externs(of->object, types.at, types.len, symbols.at, symbols.len, ABOUT));
+	check(path, ebpf_relocate_externs(of->object, ABOUT));
+	check(path, ebpf_relocate_calls(of->object, ABOUT));
 }
 
 /* From the opened object to programs that the kernel has, with all that they refer to. */
@@ -95,7 +95,7 @@ static void load(struct loading *of, const struct options *options)
 
 static void free_all(struct loading *of)
 {
-	ebpf_close(&of->object);
+	ebpf_close(of->object);
 	free(of->file.at);
 	free(of->kernel_types.at);
 	free(of->kernel_symbols.at);
@@ -127,7 +127,7 @@ static void load_and_run(struct loading *of, const struct options *options)
 
 int main(int count, char **word)
 {
-	struct loading of = { .object = EBPF_CLOSED_HANDLE };
+	struct loading of = { .object = NULL };
 	struct options options = parse(count, word);
 
 	open_object(&of, options.words[0]);

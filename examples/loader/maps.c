@@ -12,7 +12,7 @@ void list_maps(struct loading *of)
 		free(all->names);
 		all->rows = zeros(all->counts.rows, sizeof(*all->rows));
 		all->names = zeros(all->counts.text, 1);
-		number = ebpf_maps(&of->object, all->rows, all->counts.rows, all->names, all->counts.text,
+		number = ebpf_maps(of->object, all->rows, all->counts.rows, all->names, all->counts.text,
 				   &all->counts);
 	} while (number == EBPF_ROOM);
 	check("maps", number);
@@ -96,7 +96,7 @@ static void fill_map(struct loading *of, const struct ebpf_map *map, int made)
 	attr.map_fd = made;
 	attr.key = (uintptr_t)&key;
 	attr.value = (uintptr_t)data.at;
-	check("data of a map", ebpf_map_data(&of->object, name, map->name_len, data.at, data.len, &data.len));
+	check("data of a map", ebpf_map_data(of->object, name, map->name_len, data.at, data.len, &data.len));
 	if (bpf(BPF_MAP_UPDATE_ELEM, &attr))
 		err(1, "the kernel refuses the data of %s", name);
 	clear(&attr);

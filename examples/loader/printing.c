@@ -83,7 +83,7 @@ static void print_part(const struct loading *of, const char *map, size_t offset,
 
 static void print_variable(struct loading *of, const char *name)
 {
-	struct variables all = list_variables(&of->object);
+	struct variables all = list_variables(of->object);
 	size_t at = 0;
 
 	while (at < all.counts.rows && strcmp(name, all.names + all.rows[at].name_at))

@@ -11,7 +11,7 @@ void list_programs(struct loading *of)
 		free(all->names);
 		all->rows = zeros(all->counts.rows, sizeof(*all->rows));
 		all->names = zeros(all->counts.text, 1);
-		number = ebpf_programs(&of->object, all->rows, all->counts.rows, all->names, all->counts.text,
+		number = ebpf_programs(of->object, all->rows, all->counts.rows, all->names, all->counts.text,
 				       &all->counts);
 	} while (number == EBPF_ROOM);
 	check("programs", number);
@@ -107,11 +107,11 @@ static void describe_code(union bpf_attr *attr, int own_types, const struct code
 static void describe(union bpf_attr *attr, struct loading *of, const struct ebpf_program *program)
 {
 	const char *name = of->programs.names + program->name_at;
-	struct ebpf_info info = { 0 };
+	struct ebpf_object_info info = { 0 };
 
 	if (!program->program_type)
 		errx(1, "the section of the program %s says no type of programs", name);
-	check("version", ebpf_info(&of->object, &info));
+	check("version", ebpf_info(of->object, &info));
 	attr->prog_type = program->program_type;
 	attr->expected_attach_type = program->attach_type == EBPF_NO_ATTACH_TYPE ? 0 : program->attach_type;
 	attr->prog_flags = program->flags & EBPF_SLEEPABLE ? BPF_F_SLEEPABLE : 0;
@@ -147,10 +147,10 @@ static int load_program(struct loading *of, const struct ebpf_program *program)
 	union bpf_attr attr;
 	int loaded;
 
-	read_slots(&of->object, name, &code);
-	read_functions(&of->object, name, &code);
-	read_lines(&of->object, name, &code);
-	read_license(&of->object, license, sizeof(license));
+	read_slots(of->object, name, &code);
+	read_functions(of->object, name, &code);
+	read_lines(of->object, name, &code);
+	read_license(of->object, license, sizeof(license));
 	clear(&attr);
 	describe(&attr, of, program);
 	describe_code(&attr, of->own_types, &code);

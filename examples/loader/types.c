@@ -67,7 +67,7 @@ static uint32_t look_up_target(const struct loading *of, const char *section, ui
 /* The id of the type that a program is attached to, 0 where it is loaded without one. */
 uint32_t target_of(struct loading *of, const char *program)
 {
-	char *section = section_of(&of->object, program);
+	char *section = section_of(of->object, program);
 	uint32_t answer = 0, type_id = look_up_target(of, section, &answer);
 
 	if (answer == EBPF_TARGET_UNNAMED)
@@ -90,7 +90,7 @@ void print_targets(struct loading *of)
 
 		if (!(all->rows[at].flags & EBPF_TARGET))
 			continue;
-		section = section_of(&of->object, name);
+		section = section_of(of->object, name);
 		printf("target %s %s %u\n", name, section, look_up_target(of, section, &answer));
 		free(section);
 	}

@@ -5,7 +5,7 @@ import sys
 from pathlib import Path
 
 import make_rows
-from c_interface import builds, compiled, detail_rows, examples, found_rows, growth_rows, loader_rows, more_rows, page_code, record_rows, rows_of_objects
+from c_interface import builds, compiled, detail_rows, examples, exports, found_rows, growth_rows, loader_rows, more_rows, page_code, record_rows, rows_of_objects
 from c_interface.runs import Files, run
 from growths.inputs import COUNTER, KERNEL, LINES, REFERENCES, SMALL
 from growths.run import Runner
@@ -107,6 +107,8 @@ def main(folder, library, words):
     count, made = Count(), {}
     for what, fault in builds.header_faults():
         count.add("the header", what, fault)
+    count.add("the layer", "c/calls.c, c/strerror.c", builds.layer_fault())
+    count.add("the exports", "include/ebpf.h", "; ".join(exports.faults()) or None)
     for build in builds.programs(folder, library):
         count.add("builds", build.name, build.fault)
         made[build.path.name] = build

@@ -22,9 +22,9 @@ void count_check(int holds, const char *of, const char *what, int line)
 	failed += !holds;
 }
 
-struct ebpf_handle opened(const struct guarded *file)
+struct ebpf_handle *opened(const struct guarded *file)
 {
-	struct ebpf_handle handle = EBPF_CLOSED_HANDLE;
+	struct ebpf_handle *handle = NULL;
 	struct ebpf_refusal refusal = { 0 };
 	char about = 0;
 
@@ -129,14 +129,14 @@ static void check_room(const struct list *list, struct ebpf_handle *of, struct e
 
 static void check_list(const struct list *list, struct ebpf_handle *of)
 {
-	struct ebpf_handle closed = EBPF_CLOSED_HANDLE;
+	struct ebpf_handle *closed = NULL;
 	struct ebpf_counts need = { 0, 0 }, counts = { 77, 78 };
 	struct guarded rows = guarded(list->row), text = guarded(1);
 	uint32_t number = list->call(of, rows.at, 0, (char *)text.at, 0, &need);
 
 	CHECK(list->name, number == (need.rows ? EBPF_ROOM : EBPF_DONE));
 	CHECK(list->name, is_untouched(&rows, 0) && is_untouched(&text, 0));
-	CHECK(list->name, list->call(&closed, rows.at, 1, (char *)text.at, 1, &counts) == EBPF_CLOSED);
+	CHECK(list->name, list->call(closed, rows.at, 1, (char *)text.at, 1, &counts) == EBPF_CLOSED);
 	CHECK(list->name, counts.rows == 77 && counts.text == 78 && is_untouched(&rows, 0) && is_untouched(&text, 0));
 	check_room(list, of, need, 0, need);
 	check_room(list, of, need, 3, need);
@@ -233,7 +233,7 @@ static void check_refused(const struct values *of, struct ebpf_handle *object, c
 
 static void check_values(const struct values *of, struct ebpf_handle *object, const char *name)
 {
-	struct ebpf_handle closed = EBPF_CLOSED_HANDLE;
+	struct ebpf_handle *closed = NULL;
 	struct guarded held = guarded_copy(name, strlen(name)), to = guarded(0);
 	size_t need = 77;
 	uint32_t number = of->call(object, (char *)held.at, held.size, to.at, 0, &need);
@@ -243,7 +243,7 @@ static void check_values(const struct values *of, struct ebpf_handle *object, co
 	check_values_room(of, object, &held, need + 5, need);
 	if (need)
 		check_values_room(of, object, &held, need - 1, need);
-	check_refused(of, &closed, name, strlen(name), EBPF_CLOSED);
+	check_refused(of, closed, name, strlen(name), EBPF_CLOSED);
 	if (of->unknown != EBPF_DONE) {
 		check_refused(of, object, "", 0, of->unknown);
 		check_refused(of, object, "nosuch", 6, of->unknown);
@@ -258,19 +258,17 @@ static void check_values(const struct values *of, struct ebpf_handle *object, co
 
 static void check_lists(const struct guarded *file, const char *program, const char *map)
 {
-	struct ebpf_handle object = opened(file);
+	struct ebpf_handle *object = opened(file);
 
 	for (size_t which = 0; which < sizeof(lists) / sizeof(lists[0]); which++)
-		check_list(&lists[which], &object);
-	check_values(&of_object, &object, "");
+		check_list(&lists[which], object);
+	check_values(&of_object, object, "");
 	if (map)
-		check_values(&of_map, &object, map);
+		check_values(&of_map, object, map);
 	for (size_t which = 0; which < sizeof(of_program) / sizeof(of_program[0]); which++)
-		check_values(&of_program[which], &object, program);
-	ebpf_close(&object);
-	CHECK("ebpf_close", object.at == NULL);
-	ebpf_close(&object);
-	CHECK("ebpf_close", object.at == NULL);
+		check_values(&of_program[which], object, program);
+	ebpf_close(object);
+	ebpf_close(NULL);
 }
 
 static uint32_t first_key(struct ebpf_handle *object)
@@ -284,24 +282,25 @@ static uint32_t first_key(struct ebpf_handle *object)
 
 static void check_handles(const struct guarded *file)
 {
-	struct ebpf_handle object = opened(file), copy = EBPF_CLOSED_HANDLE, closed = EBPF_CLOSED_HANDLE;
+	struct ebpf_handle *object = opened(file), *copy = (void *)file, *closed = (void *)file;
 	struct guarded text = guarded(0);
 	struct ebpf_refusal refusal = unwritten();
 
-	CHECK("ebpf_clone", ebpf_clone(&closed, &copy) == EBPF_CLOSED && copy.at == NULL && closed.at == NULL);
-	CHECK("ebpf_clone", ebpf_clone(&object, &copy) == EBPF_DONE && copy.at != NULL && copy.at != object.at);
+	/* what is given out is only written */
+	CHECK("ebpf_clone", ebpf_clone(NULL, &copy) == EBPF_CLOSED && copy == NULL);
+	copy = (void *)file;
+	CHECK("ebpf_clone", ebpf_clone(object, &copy) == EBPF_DONE && copy != NULL && copy != object);
 	CHECK("ebpf_relocate_calls",
-	      ebpf_relocate_calls(&copy, (char *)text.at, 0, &refusal) == EBPF_DONE && is_unwritten(&refusal));
-	CHECK("ebpf_clone", first_key(&copy) == 1 && first_key(&object) == (uint32_t)-1);
-	CHECK("ebpf_clone", ebpf_clone(&object, &copy) == EBPF_DONE && first_key(&copy) == (uint32_t)-1);
-	ebpf_close(&copy);
-	CHECK("ebpf_relocate_calls", ebpf_relocate_calls(&copy, (char *)text.at, 0, &refusal) == EBPF_CLOSED);
-	CHECK("ebpf_open", ebpf_open(file->at, 63, &object, (char *)text.at, 0, &refusal) == EBPF_PARSE_FILE);
-	CHECK("ebpf_open", first_key(&object) == (uint32_t)-1);
-	CHECK("ebpf_open",
-	      ebpf_open(file->at, 0, &closed, (char *)text.at, 0, &refusal) == EBPF_PARSE_FILE && !closed.at);
-	CHECK("ebpf_open", ebpf_open(file->at, file->size, &object, (char *)text.at, 0, &refusal) == EBPF_DONE);
-	ebpf_close(&object);
+	      ebpf_relocate_calls(copy, (char *)text.at, 0, &refusal) == EBPF_DONE && is_unwritten(&refusal));
+	CHECK("ebpf_clone", first_key(copy) == 1 && first_key(object) == (uint32_t)-1);
+	ebpf_close(copy);
+	CHECK("ebpf_clone", ebpf_clone(object, &copy) == EBPF_DONE && first_key(copy) == (uint32_t)-1);
+	ebpf_close(copy);
+	CHECK("ebpf_relocate_calls", ebpf_relocate_calls(NULL, (char *)text.at, 0, &refusal) == EBPF_CLOSED);
+	CHECK("ebpf_open", ebpf_open(file->at, 63, &closed, (char *)text.at, 0, &refusal) == EBPF_PARSE_TOO_SHORT && !closed);
+	closed = (void *)file;
+	CHECK("ebpf_open", ebpf_open(file->at, 0, &closed, (char *)text.at, 0, &refusal) == EBPF_PARSE_TOO_SHORT && !closed);
+	ebpf_close(object);
 	release(&text);
 }
 
@@ -309,7 +308,7 @@ static void check_handles(const struct guarded *file)
 
 static void check_data(struct ebpf_handle *object)
 {
-	struct ebpf_handle closed = EBPF_CLOSED_HANDLE;
+	struct ebpf_handle *closed = NULL;
 	struct guarded data = guarded_copy("\1\2\3\4", 4);
 	uint8_t wanted[4] = { 0 };
 	size_t len = 0;
@@ -318,7 +317,7 @@ static void check_data(struct ebpf_handle *object)
 	CHECK("ebpf_set_map_data", ebpf_set_map_data(object, ".rodata", 7, data.at, 3) == EBPF_WRONG_LENGTH);
 	CHECK("ebpf_set_map_data", ebpf_set_map_data(object, ".rodat", 6, data.at, 4) == EBPF_NO_MAP);
 	CHECK("ebpf_set_map_data", ebpf_set_map_data(object, "\xff", 1, data.at, 4) == EBPF_NO_MAP);
-	CHECK("ebpf_set_map_data", ebpf_set_map_data(&closed, ".rodata", 7, data.at, 4) == EBPF_CLOSED && !closed.at);
+	CHECK("ebpf_set_map_data", ebpf_set_map_data(closed, ".rodata", 7, data.at, 4) == EBPF_CLOSED && !closed);
 	CHECK("ebpf_value", ebpf_value(object, "wanted", 6, wanted, 4, &len) == EBPF_DONE && len == 4);
 	CHECK("ebpf_value", !memcmp(wanted, data.at, 4));
 	release(&data);
@@ -326,7 +325,7 @@ static void check_data(struct ebpf_handle *object)
 
 static void check_changes(const struct guarded *file)
 {
-	struct ebpf_handle object = opened(file), closed = EBPF_CLOSED_HANDLE;
+	struct ebpf_handle *object = opened(file), *closed = NULL;
 	struct guarded none = guarded(0);
 	struct ebpf_descriptor row = { 1, SIZE_MAX, 3 };
 	uint8_t value[8] = { 1, 2, 3, 4, 5, 6, 7, 8 };
@@ -334,40 +333,40 @@ static void check_changes(const struct guarded *file)
 	char *text = (char *)none.at;
 
 	for (size_t room = 0; room < 12; room++)
-		check_about(&object, "no_such", room);
-	CHECK("ebpf_set_value", ebpf_set_value(&object, "no_such", 7, value, 1, 0, text, 0, &refusal) == EBPF_DONE);
-	CHECK("ebpf_set_value", ebpf_set_value(&object, "seen", 4, value, 8, 1, text, 0, &refusal) == EBPF_DONE &&
+		check_about(object, "no_such", room);
+	CHECK("ebpf_set_value", ebpf_set_value(object, "no_such", 7, value, 1, 0, text, 0, &refusal) == EBPF_DONE);
+	CHECK("ebpf_set_value", ebpf_set_value(object, "seen", 4, value, 8, 1, text, 0, &refusal) == EBPF_DONE &&
 					is_unwritten(&refusal));
 	CHECK("ebpf_set_value",
-	      ebpf_set_value(&object, "seen", 4, value, 7, 1, text, 0, &refusal) == EBPF_PARSE_GLOBAL_DATA);
+	      ebpf_set_value(object, "seen", 4, value, 7, 1, text, 0, &refusal) == EBPF_PARSE_GLOBAL_DATA);
 	CHECK("ebpf_set_value",
 	      is_told(&refusal, EBPF_PARSE_GLOBAL_DATA, 0) && refusal.size == 8 && refusal.other_size == 7);
 	CHECK("ebpf_set_value", refusal.has == (EBPF_HAS_SIZE | EBPF_HAS_OTHER_SIZE));
-	CHECK("ebpf_set_value", ebpf_set_value(&object, "\xff", 1, value, 1, 1, text, 0, &refusal) == EBPF_BAD_NAME);
-	CHECK("ebpf_set_value", ebpf_set_value(&closed, "seen", 4, value, 8, 1, text, 0, &refusal) == EBPF_CLOSED);
-	check_data(&object);
-	check_values(&of_variable, &object, "wanted");
-	CHECK("ebpf_set_max_entries", ebpf_set_max_entries(&object, "counts", 6, 5) == EBPF_DONE);
-	CHECK("ebpf_set_max_entries", ebpf_set_max_entries(&object, "count", 5, 5) == EBPF_NO_MAP);
-	CHECK("ebpf_set_max_entries", ebpf_set_max_entries(&closed, "counts", 6, 5) == EBPF_CLOSED);
-	CHECK("ebpf_set_value_size", ebpf_set_value_size(&object, "counts", 6, 5) == EBPF_DONE);
-	CHECK("ebpf_set_value_size", ebpf_set_value_size(&object, text, 0, 5) == EBPF_NO_MAP);
-	CHECK("ebpf_set_value_size", ebpf_set_value_size(&closed, "counts", 6, 5) == EBPF_CLOSED);
-	CHECK("ebpf_sanitize", ebpf_sanitize(&object, 0) == EBPF_DONE && ebpf_sanitize(&closed, 0) == EBPF_CLOSED);
-	CHECK("ebpf_relocate_maps", ebpf_relocate_maps(&object, &row, 1, "a", 1, text, 0, &refusal) == EBPF_BAD_NAME);
-	CHECK("ebpf_relocate_maps", ebpf_relocate_maps(&closed, &row, 0, text, 0, text, 0, &refusal) == EBPF_CLOSED);
-	CHECK("ebpf_relocate_types", ebpf_relocate_types(&object, none.at, 0, text, 0, &refusal) == EBPF_TYPES_READ);
-	CHECK("ebpf_relocate_types", ebpf_relocate_types(&closed, none.at, 0, text, 0, &refusal) == EBPF_CLOSED);
+	CHECK("ebpf_set_value", ebpf_set_value(object, "\xff", 1, value, 1, 1, text, 0, &refusal) == EBPF_BAD_NAME);
+	CHECK("ebpf_set_value", ebpf_set_value(closed, "seen", 4, value, 8, 1, text, 0, &refusal) == EBPF_CLOSED);
+	check_data(object);
+	check_values(&of_variable, object, "wanted");
+	CHECK("ebpf_set_max_entries", ebpf_set_max_entries(object, "counts", 6, 5) == EBPF_DONE);
+	CHECK("ebpf_set_max_entries", ebpf_set_max_entries(object, "count", 5, 5) == EBPF_NO_MAP);
+	CHECK("ebpf_set_max_entries", ebpf_set_max_entries(closed, "counts", 6, 5) == EBPF_CLOSED);
+	CHECK("ebpf_set_value_size", ebpf_set_value_size(object, "counts", 6, 5) == EBPF_DONE);
+	CHECK("ebpf_set_value_size", ebpf_set_value_size(object, text, 0, 5) == EBPF_NO_MAP);
+	CHECK("ebpf_set_value_size", ebpf_set_value_size(closed, "counts", 6, 5) == EBPF_CLOSED);
+	CHECK("ebpf_sanitize", ebpf_sanitize(object, 0) == EBPF_DONE && ebpf_sanitize(closed, 0) == EBPF_CLOSED);
+	CHECK("ebpf_relocate_maps", ebpf_relocate_maps(object, &row, 1, "a", 1, text, 0, &refusal) == EBPF_BAD_NAME);
+	CHECK("ebpf_relocate_maps", ebpf_relocate_maps(closed, &row, 0, text, 0, text, 0, &refusal) == EBPF_CLOSED);
+	CHECK("ebpf_relocate_types", ebpf_relocate_types(object, none.at, 0, text, 0, &refusal) == EBPF_TYPES_READ_INVALID_HEADER);
+	CHECK("ebpf_relocate_types", ebpf_relocate_types(closed, none.at, 0, text, 0, &refusal) == EBPF_CLOSED);
 	CHECK("ebpf_resolve_externs",
-	      ebpf_resolve_externs(&closed, none.at, 0, none.at, 0, text, 0, &refusal) == EBPF_CLOSED);
-	CHECK("ebpf_relocate_externs", ebpf_relocate_externs(&closed, text, 0, &refusal) == EBPF_CLOSED);
+	      ebpf_resolve_externs(closed, none.at, 0, none.at, 0, text, 0, &refusal) == EBPF_CLOSED);
+	CHECK("ebpf_relocate_externs", ebpf_relocate_externs(closed, text, 0, &refusal) == EBPF_CLOSED);
 	CHECK("ebpf_prepare_handle",
-	      ebpf_prepare_handle(&closed, none.at, 0, &row, 1, "a", 1, none.at, 0, text, 0, &refusal) == EBPF_CLOSED);
-	CHECK("ebpf_prepare_handle", ebpf_prepare_handle(&object, none.at, 0, &row, 1, "a", 1, none.at, 0, text, 0,
+	      ebpf_prepare_handle(closed, none.at, 0, &row, 1, "a", 1, none.at, 0, text, 0, &refusal) == EBPF_CLOSED);
+	CHECK("ebpf_prepare_handle", ebpf_prepare_handle(object, none.at, 0, &row, 1, "a", 1, none.at, 0, text, 0,
 							 &refusal) == EBPF_BAD_NAME);
-	CHECK("ebpf_prepare_handle", ebpf_prepare_handle(&object, value, 8, &row, 0, "a", 1, none.at, 0, text, 0,
-							 &refusal) == EBPF_TYPES_READ);
-	ebpf_close(&object);
+	CHECK("ebpf_prepare_handle", ebpf_prepare_handle(object, value, 8, &row, 0, "a", 1, none.at, 0, text, 0,
+							 &refusal) == EBPF_TYPES_READ_INVALID_HEADER);
+	ebpf_close(object);
 	release(&none);
 }
 
@@ -400,18 +399,26 @@ static void check_number_names(void)
 			check_name(numbers[at], need - 1, need);
 		release(&none);
 	}
+	/* what has a name has a text, and nothing else has one */
+	for (uint32_t number = 0; number < 1100; number++) {
+		const char *says = ebpf_strerror(number);
+		size_t len = 0;
+
+		CHECK("ebpf_strerror", ebpf_number_name(number, NULL, 0, &len) == (len ? EBPF_ROOM : EBPF_DONE) && says);
+		CHECK("ebpf_strerror", !strcmp(says, ebpf_strerror(UINT32_MAX)) == !len);
+	}
 }
 
 /* ---- small facts */
 
 static void check_license(const struct guarded *file, uint32_t wanted)
 {
-	struct ebpf_handle object = opened(file), closed = EBPF_CLOSED_HANDLE;
+	struct ebpf_handle *object = opened(file), *closed = NULL;
 	uint32_t states = 77;
 
-	CHECK("ebpf_states_license", ebpf_states_license(&closed, &states) == EBPF_CLOSED && states == 77);
-	CHECK("ebpf_states_license", ebpf_states_license(&object, &states) == EBPF_DONE && states == wanted);
-	ebpf_close(&object);
+	CHECK("ebpf_states_license", ebpf_states_license(closed, &states) == EBPF_CLOSED && states == 77);
+	CHECK("ebpf_states_license", ebpf_states_license(object, &states) == EBPF_DONE && states == wanted);
+	ebpf_close(object);
 }
 
 /* ---- the passes, over input that can't be written, and four threads with a handle each */
@@ -420,25 +427,28 @@ static const struct guarded *given; /* a file, a kernel's types, its symbols */
 
 static void *prepare(void *to)
 {
-	struct ebpf_handle object = opened(&given[0]);
+	struct ebpf_handle *object = opened(&given[0]);
 	struct guarded none = guarded(0);
 	struct ebpf_refusal refusal = { 0 };
 	size_t len = 0, found = 0, count;
 	struct ebpf_descriptor *rows;
 	char *text;
 
-	count = number_maps(&object, &rows, &text, &len);
+	count = number_maps(object, &rows, &text, &len);
+	ebpf_close(object);
 	for (int times = 0; times < 20; times++)
 		if (ebpf_prepare(given[0].at, given[0].size, given[1].at, given[1].size, rows, count, text, len,
 				 given[2].at, given[2].size, &object, (char *)none.at, 0, &refusal) != EBPF_DONE)
 			return "ebpf_prepare refuses";
+		else
+			ebpf_close(object);
 	if (ebpf_open(given[0].at, given[0].size, &object, (char *)none.at, 0, &refusal) != EBPF_DONE ||
-	    ebpf_prepare_handle(&object, given[1].at, given[1].size, rows, count, text, len, given[2].at, given[2].size,
+	    ebpf_prepare_handle(object, given[1].at, given[1].size, rows, count, text, len, given[2].at, given[2].size,
 				(char *)none.at, 0, &refusal) != EBPF_DONE)
 		return "ebpf_prepare_handle refuses";
-	if (ebpf_slots(&object, "on_enter", 8, to, 1024, &found) != EBPF_DONE || !found)
+	if (ebpf_slots(object, "on_enter", 8, to, 1024, &found) != EBPF_DONE || !found)
 		return "no slots";
-	ebpf_close(&object);
+	ebpf_close(object);
 	release(&none);
 	free(rows);
 	free(text);
@@ -477,6 +487,7 @@ int main(int words, char **word)
 	check_lists(&files[1], "on_packet", ".rodata");
 	check_lists(&files[2], "on_enter", ".data");
 	check_handles(&files[0]);
+	check_nulls(&files[1]);
 	check_changes(&files[1]);
 	check_values_by_rows(&files[1]);
 	check_found_calls(&files[0], &files[1], &files[3]);

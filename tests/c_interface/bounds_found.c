@@ -38,15 +38,15 @@ static void check_not_found(const struct find *find, struct ebpf_handle *of, con
 
 static void check_find(const struct find *find, struct ebpf_handle *of, const char *name)
 {
-	struct ebpf_handle closed = EBPF_CLOSED_HANDLE;
+	struct ebpf_handle *closed = NULL;
 	struct guarded held = guarded_copy(name, strlen(name)), row = guarded(find->row);
 	size_t place[2];
 
 	CHECK(find->name, find->call(of, (char *)held.at, held.size, row.at) == EBPF_DONE);
 	memcpy(place, row.at, sizeof(place));
 	CHECK(find->name, place[0] == 0 && place[1] == held.size && is_untouched(&row, find->row));
-	check_not_found(find, &closed, name, strlen(name), EBPF_CLOSED);
-	CHECK(find->name, !closed.at);
+	check_not_found(find, closed, name, strlen(name), EBPF_CLOSED);
+	CHECK(find->name, !closed);
 	check_not_found(find, of, "", 0, find->unknown);
 	check_not_found(find, of, "nosuch", 6, find->unknown);
 	check_not_found(find, of, name, strlen(name) - 1, find->unknown);
@@ -57,13 +57,13 @@ static void check_find(const struct find *find, struct ebpf_handle *of, const ch
 
 static void check_found(const struct guarded *file, const char *program, const char *map)
 {
-	struct ebpf_handle object = opened(file);
+	struct ebpf_handle *object = opened(file);
 
-	check_find(&maps, &object, map);
-	check_find(&programs, &object, program);
-	check_not_found(&maps, &object, program, strlen(program), EBPF_NO_MAP);
-	check_not_found(&programs, &object, map, strlen(map), EBPF_NO_PROGRAM);
-	ebpf_close(&object);
+	check_find(&maps, object, map);
+	check_find(&programs, object, program);
+	check_not_found(&maps, object, program, strlen(program), EBPF_NO_MAP);
+	check_not_found(&programs, object, map, strlen(map), EBPF_NO_PROGRAM);
+	ebpf_close(object);
 }
 
 /* ---- link maps */
@@ -122,19 +122,19 @@ static void check_link_refused(struct ebpf_handle *of, const char *name, size_t 
 
 static void check_link_maps(const struct guarded *file)
 {
-	struct ebpf_handle object = opened(file), closed = EBPF_CLOSED_HANDLE;
+	struct ebpf_handle *object = opened(file), *closed = NULL;
 
-	check_told_list(&copies, &object);
-	check_references(&object, 0);
-	check_references(&object, 1);
-	check_references(&object, 4);
-	check_link_refused(&closed, "p", 1, EBPF_CLOSED);
-	CHECK("ebpf_link_map", !closed.at);
-	check_link_refused(&object, "", 0, EBPF_NO_PROGRAM);
-	check_link_refused(&object, "f", 1, EBPF_NO_PROGRAM);
-	check_link_refused(&object, "pp", 2, EBPF_NO_PROGRAM);
-	check_link_refused(&object, "\xff", 1, EBPF_NO_PROGRAM);
-	ebpf_close(&object);
+	check_told_list(&copies, object);
+	check_references(object, 0);
+	check_references(object, 1);
+	check_references(object, 4);
+	check_link_refused(closed, "p", 1, EBPF_CLOSED);
+	CHECK("ebpf_link_map", !closed);
+	check_link_refused(object, "", 0, EBPF_NO_PROGRAM);
+	check_link_refused(object, "f", 1, EBPF_NO_PROGRAM);
+	check_link_refused(object, "pp", 2, EBPF_NO_PROGRAM);
+	check_link_refused(object, "\xff", 1, EBPF_NO_PROGRAM);
+	ebpf_close(object);
 }
 
 /* ---- what records come to */
@@ -152,18 +152,18 @@ static const struct told_list records = { "ebpf_record_outcomes", outcomes, size
 
 static void check_outcomes(const struct guarded *file, const struct guarded *types)
 {
-	struct ebpf_handle object = opened(file);
+	struct ebpf_handle *object = opened(file);
 	struct guarded none = guarded(0), about = guarded(8);
 	struct ebpf_counts counts = { 77, 78 };
 	struct ebpf_refusal refusal = unwritten();
 
 	given = types;
-	check_told_list(&records, &object);
-	CHECK("ebpf_record_outcomes", ebpf_record_outcomes(&object, none.at, 0, (void *)none.at, 0, (char *)none.at, 0, &counts,
-							   (char *)about.at, 8, &refusal) == EBPF_TYPES_READ);
-	CHECK("ebpf_record_outcomes", is_told(&refusal, EBPF_TYPES_READ, 0));
+	check_told_list(&records, object);
+	CHECK("ebpf_record_outcomes", ebpf_record_outcomes(object, none.at, 0, (void *)none.at, 0, (char *)none.at, 0, &counts,
+							   (char *)about.at, 8, &refusal) == EBPF_TYPES_READ_INVALID_HEADER);
+	CHECK("ebpf_record_outcomes", is_told(&refusal, EBPF_TYPES_READ_INVALID_HEADER, 0));
 	CHECK("ebpf_record_outcomes", counts.rows == 77 && counts.text == 78 && is_untouched(&about, 0));
-	ebpf_close(&object);
+	ebpf_close(object);
 	release(&none);
 	release(&about);
 }

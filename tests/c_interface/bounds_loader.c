@@ -51,7 +51,7 @@ static void check_bytes_room(const char *name, bytes_call *call, struct ebpf_han
 
 static void check_bytes(const char *name, bytes_call *call, struct ebpf_handle *of, int takes_handle)
 {
-	struct ebpf_handle closed = EBPF_CLOSED_HANDLE;
+	struct ebpf_handle *closed = NULL;
 	struct guarded to = guarded(16), about = guarded(8);
 	struct ebpf_refusal refusal = unwritten();
 	size_t need = 77, len = 77;
@@ -63,7 +63,7 @@ static void check_bytes(const char *name, bytes_call *call, struct ebpf_handle *
 	check_bytes_room(name, call, of, need + 5, need);
 	refusal = unwritten();
 	if (takes_handle)
-		CHECK(name, call(&closed, to.at, 16, &len, (char *)about.at, 8, &refusal) == EBPF_CLOSED && len == 77 &&
+		CHECK(name, call(closed, to.at, 16, &len, (char *)about.at, 8, &refusal) == EBPF_CLOSED && len == 77 &&
 				    is_told(&refusal, EBPF_CLOSED, 0) && is_untouched(&to, 0) &&
 				    is_untouched(&about, 0));
 	release(&to);
@@ -129,7 +129,7 @@ static void check_list_room(const struct told_list *list, struct ebpf_handle *of
 
 void check_told_list(const struct told_list *list, struct ebpf_handle *of)
 {
-	struct ebpf_handle closed = EBPF_CLOSED_HANDLE;
+	struct ebpf_handle *closed = NULL;
 	struct guarded rows = guarded(list->row), text = guarded(1), about = guarded(0);
 	struct ebpf_counts need = { 0, 0 }, counts = { 77, 78 };
 	struct ebpf_refusal refusal = unwritten();
@@ -139,7 +139,7 @@ void check_told_list(const struct told_list *list, struct ebpf_handle *of)
 	      list->call(of, rows.at, 0, (char *)text.at, 0, &need, told, 0, &refusal) == EBPF_ROOM && need.rows);
 	CHECK(list->name, is_untouched(&rows, 0) && is_untouched(&text, 0) && is_told(&refusal, EBPF_ROOM, 0));
 	CHECK(list->name,
-	      list->call(&closed, rows.at, 1, (char *)text.at, 1, &counts, told, 0, &refusal) == EBPF_CLOSED);
+	      list->call(closed, rows.at, 1, (char *)text.at, 1, &counts, told, 0, &refusal) == EBPF_CLOSED);
 	CHECK(list->name, counts.rows == 77 && counts.text == 78 && is_untouched(&rows, 0) && is_untouched(&text, 0));
 	CHECK(list->name, is_told(&refusal, EBPF_CLOSED, 0));
 	check_list_room(list, of, need, need);
@@ -170,7 +170,7 @@ static void check_targets(struct ebpf_handle *of)
 	CHECK("ebpf_attach_target", answer == EBPF_TARGET_NOT_FOUND && type_id == 0);
 	answer = 77;
 	type_id = 78;
-	CHECK("ebpf_attach_target", ebpf_attach_target((char *)held.at, 8, none.at, 0, &answer, &type_id) == EBPF_TYPES_READ);
+	CHECK("ebpf_attach_target", ebpf_attach_target((char *)held.at, 8, none.at, 0, &answer, &type_id) == EBPF_TYPES_READ_INVALID_HEADER);
 	CHECK("ebpf_attach_target", ebpf_attach_target("\xff", 1, none.at, 0, &answer, &type_id) == EBPF_BAD_NAME);
 	CHECK("ebpf_attach_target", answer == 77 && type_id == 78);
 	free(read);
@@ -182,7 +182,7 @@ static void check_targets(struct ebpf_handle *of)
 /* ---- definitions */
 
 /* What is answered for rows, names and values that end where their memory does. */
-static uint32_t define(struct ebpf_handle *object, const struct ebpf_value *rows, size_t count, const char *text,
+static uint32_t define(struct ebpf_handle *object, const struct ebpf_value_row *rows, size_t count, const char *text,
 		       const uint8_t *bytes, size_t bytes_len)
 {
 	struct guarded held = guarded_copy(rows, count * sizeof(*rows)), names = guarded_copy(text, strlen(text));
@@ -210,47 +210,47 @@ static uint32_t count_of(struct ebpf_handle *object)
 
 static void check_definitions(const struct guarded *file)
 {
-	struct ebpf_handle object = opened(file), closed = EBPF_CLOSED_HANDLE;
-	struct ebpf_value rows[] = { { 0, 12, 0, 4, 0 }, { 12, 5, 0, 0, 1 }, { 0, 12, 4, 4, 0 } }, bad[2];
+	struct ebpf_handle *object = opened(file), *closed = NULL;
+	struct ebpf_value_row rows[] = { { 0, 12, 0, 4, 0 }, { 12, 5, 0, 0, 1 }, { 0, 12, 4, 4, 0 } }, bad[2];
 	const char *text = "CONFIG_COUNTOTHER";
 	const uint8_t bytes[8] = { 1, [4] = 42 };
 
-	CHECK("ebpf_define_kconfig", define(&object, rows, 0, "", bytes, 0) == EBPF_KCONFIG_NO_VALUE && !count_of(&object));
-	CHECK("ebpf_define_kconfig", define(&closed, rows, 0, "", bytes, 0) == EBPF_CLOSED && !closed.at);
-	CHECK("ebpf_define_kconfig", define(&object, rows, 2, text, bytes, 8) == EBPF_DONE && count_of(&object) == 1);
-	CHECK("ebpf_define_kconfig", define(&object, rows, 3, text, bytes, 8) == EBPF_DONE && count_of(&object) == 42);
+	CHECK("ebpf_define_kconfig", define(object, rows, 0, "", bytes, 0) == EBPF_KCONFIG_NO_VALUE && !count_of(object));
+	CHECK("ebpf_define_kconfig", define(closed, rows, 0, "", bytes, 0) == EBPF_CLOSED && !closed);
+	CHECK("ebpf_define_kconfig", define(object, rows, 2, text, bytes, 8) == EBPF_DONE && count_of(object) == 1);
+	CHECK("ebpf_define_kconfig", define(object, rows, 3, text, bytes, 8) == EBPF_DONE && count_of(object) == 42);
 	bad[0] = rows[0];
-	bad[1] = (struct ebpf_value){ 6, 12, 0, 4, 0 };
-	CHECK("ebpf_define_kconfig", define(&object, bad, 2, text, bytes, 8) == EBPF_BAD_NAME);
+	bad[1] = (struct ebpf_value_row){ 6, 12, 0, 4, 0 };
+	CHECK("ebpf_define_kconfig", define(object, bad, 2, text, bytes, 8) == EBPF_BAD_NAME);
 	bad[0].value_at = 5; /* names first */
-	CHECK("ebpf_define_kconfig", define(&object, bad, 2, text, bytes, 8) == EBPF_BAD_NAME);
-	CHECK("ebpf_define_kconfig", define(&object, bad, 1, text, bytes, 8) == EBPF_BAD_VALUE);
+	CHECK("ebpf_define_kconfig", define(object, bad, 2, text, bytes, 8) == EBPF_BAD_NAME);
+	CHECK("ebpf_define_kconfig", define(object, bad, 1, text, bytes, 8) == EBPF_BAD_VALUE);
 	bad[0].value_at = SIZE_MAX;
-	CHECK("ebpf_define_kconfig", define(&object, bad, 1, text, bytes, 8) == EBPF_BAD_VALUE);
-	bad[0] = (struct ebpf_value){ 0, 12, 0, 3, 0 };
-	CHECK("ebpf_define_kconfig", define(&object, bad, 1, text, bytes, 8) == EBPF_KCONFIG_WRONG_SIZE);
-	CHECK("ebpf_define_kconfig", count_of(&object) == 42);
-	ebpf_close(&object);
+	CHECK("ebpf_define_kconfig", define(object, bad, 1, text, bytes, 8) == EBPF_BAD_VALUE);
+	bad[0] = (struct ebpf_value_row){ 0, 12, 0, 3, 0 };
+	CHECK("ebpf_define_kconfig", define(object, bad, 1, text, bytes, 8) == EBPF_KCONFIG_WRONG_SIZE);
+	CHECK("ebpf_define_kconfig", count_of(object) == 42);
+	ebpf_close(object);
 }
 
 void check_loader_calls(const struct guarded *file)
 {
-	struct ebpf_handle object = opened(file);
+	struct ebpf_handle *object = opened(file);
 	struct guarded none = guarded(0);
 	struct ebpf_refusal refusal = unwritten();
 	size_t len = 77;
 
 	given = file;
-	check_bytes("ebpf_kernel_types", types, &object, 0);
-	check_bytes("ebpf_kconfig_value", configured, &object, 1);
-	check_bytes("ebpf_kconfig_number", numbered, &object, 1);
+	check_bytes("ebpf_kernel_types", types, object, 0);
+	check_bytes("ebpf_kconfig_value", configured, object, 1);
+	check_bytes("ebpf_kconfig_number", numbered, object, 1);
 	CHECK("ebpf_kernel_types", ebpf_kernel_types(file->at, 63, none.at, 0, &len, (char *)none.at, 0, &refusal) ==
-					   EBPF_KERNEL_TYPES_FILE);
-	CHECK("ebpf_kernel_types", len == 77 && is_told(&refusal, EBPF_KERNEL_TYPES_FILE, 0));
+					   EBPF_KERNEL_TYPES_FILE_TOO_SHORT);
+	CHECK("ebpf_kernel_types", len == 77 && is_told(&refusal, EBPF_KERNEL_TYPES_FILE_TOO_SHORT, 0));
 	for (size_t at = 0; at < sizeof(lists) / sizeof(lists[0]); at++)
-		check_told_list(&lists[at], &object);
-	check_targets(&object);
+		check_told_list(&lists[at], object);
+	check_targets(object);
 	check_definitions(file);
-	ebpf_close(&object);
+	ebpf_close(object);
 	release(&none);
 }

@@ -3,7 +3,7 @@
 #include "told.h"
 
 /* What is answered for rows, names and values that end where their memory does. */
-static uint32_t set_rows(struct ebpf_handle *object, const struct ebpf_value *rows, size_t count, const char *text,
+static uint32_t set_rows(struct ebpf_handle *object, const struct ebpf_value_row *rows, size_t count, const char *text,
 			 const char *bytes, size_t bytes_len)
 {
 	struct guarded held = guarded_copy(rows, count * sizeof(*rows)), names = guarded_copy(text, strlen(text));
@@ -30,37 +30,37 @@ static uint32_t wanted_of(struct ebpf_handle *object)
 
 void check_values_by_rows(const struct guarded *file)
 {
-	struct ebpf_handle object = opened(file), closed = EBPF_CLOSED_HANDLE;
-	struct ebpf_value rows[] = { { 0, 6, 0, 4, 1 }, { 6, 4, 4, 8, 1 }, { 0, 6, 12, 4, 7 } }, bad[2];
+	struct ebpf_handle *object = opened(file), *closed = NULL;
+	struct ebpf_value_row rows[] = { { 0, 6, 0, 4, 1 }, { 6, 4, 4, 8, 1 }, { 0, 6, 12, 4, 7 } }, bad[2];
 	const char *text = "wantedseen", bytes[16] = { 1, [12] = 42 };
-	static const struct ebpf_value bad_names[] = {
+	static const struct ebpf_value_row bad_names[] = {
 		{ 5, 6, 0, 4, 1 }, { 11, 0, 0, 4, 0 }, { 1, SIZE_MAX, 0, 4, 1 }, { SIZE_MAX, 1, 0, 4, 1 }
 	};
-	static const struct ebpf_value bad_values[] = {
+	static const struct ebpf_value_row bad_values[] = {
 		{ 0, 6, 13, 4, 1 }, { 6, 4, 17, 0, 0 }, { 0, 6, 1, SIZE_MAX, 1 }, { 0, 6, SIZE_MAX, 1, 1 }
 	};
 
-	CHECK("ebpf_set_values", set_rows(&object, rows, 0, "", "", 0) == EBPF_DONE && wanted_of(&object) == 7);
-	CHECK("ebpf_set_values", set_rows(&object, rows, 3, text, bytes, 16) == EBPF_DONE && wanted_of(&object) == 42);
-	CHECK("ebpf_set_values", set_rows(&object, rows, 1, text, bytes, 16) == EBPF_DONE && wanted_of(&object) == 1);
+	CHECK("ebpf_set_values", set_rows(object, rows, 0, "", "", 0) == EBPF_DONE && wanted_of(object) == 7);
+	CHECK("ebpf_set_values", set_rows(object, rows, 3, text, bytes, 16) == EBPF_DONE && wanted_of(object) == 42);
+	CHECK("ebpf_set_values", set_rows(object, rows, 1, text, bytes, 16) == EBPF_DONE && wanted_of(object) == 1);
 	for (size_t at = 0; at < 4; at++) {
 		bad[0] = rows[2];
 		bad[1] = bad_names[at];
-		CHECK("ebpf_set_values", set_rows(&object, bad, 2, text, bytes, 16) == EBPF_BAD_NAME);
+		CHECK("ebpf_set_values", set_rows(object, bad, 2, text, bytes, 16) == EBPF_BAD_NAME);
 		bad[0].value_at = 13; /* names first */
-		CHECK("ebpf_set_values", set_rows(&object, bad, 2, text, bytes, 16) == EBPF_BAD_NAME);
+		CHECK("ebpf_set_values", set_rows(object, bad, 2, text, bytes, 16) == EBPF_BAD_NAME);
 		bad[0] = rows[2];
 		bad[1] = bad_values[at];
-		CHECK("ebpf_set_values", set_rows(&object, bad, 2, text, bytes, 16) == EBPF_BAD_VALUE);
-		CHECK("ebpf_set_values", set_rows(&closed, bad, 2, text, bytes, 16) == EBPF_CLOSED && !closed.at);
-		CHECK("ebpf_set_values", wanted_of(&object) == 1);
+		CHECK("ebpf_set_values", set_rows(object, bad, 2, text, bytes, 16) == EBPF_BAD_VALUE);
+		CHECK("ebpf_set_values", set_rows(closed, bad, 2, text, bytes, 16) == EBPF_CLOSED && !closed);
+		CHECK("ebpf_set_values", wanted_of(object) == 1);
 	}
 	rows[2].name_len = 5; /* "wante" */
-	CHECK("ebpf_set_values", set_rows(&object, rows, 3, text, bytes, 16) == EBPF_PARSE_SYMBOL_NOT_FOUND);
+	CHECK("ebpf_set_values", set_rows(object, rows, 3, text, bytes, 16) == EBPF_PARSE_SYMBOL_NOT_FOUND);
 	rows[2].must_exist = 0;
 	rows[0].value_at = 12;
-	CHECK("ebpf_set_values", set_rows(&object, rows, 3, text, bytes, 16) == EBPF_DONE && wanted_of(&object) == 42);
-	ebpf_close(&object);
+	CHECK("ebpf_set_values", set_rows(object, rows, 3, text, bytes, 16) == EBPF_DONE && wanted_of(object) == 42);
+	ebpf_close(object);
 }
 
 void check_about(struct ebpf_handle *object, const char *variable, size_t room)

@@ -16,7 +16,7 @@ SANITIZED = ["-g", "-fsanitize=address,undefined", "-fno-sanitize-recover=all"]
 # Programs with their sources.
 PROGRAMS = {
     "calls": [HERE / f"{name}.c" for name in ("calls", "listed", "loader_calls", "found_calls", "record_calls", "told")],
-    "bounds": [HERE / f"{name}.c" for name in ("bounds", "bounds_loader", "bounds_values", "bounds_found", "listed", "told")],
+    "bounds": [HERE / f"{name}.c" for name in ("bounds", "bounds_loader", "bounds_values", "bounds_found", "bounds_nulls", "listed", "told")],
     "loader": sorted((EXAMPLES / "loader").glob("*.c")),
 }
 
@@ -49,23 +49,24 @@ def programs(folder, library):
 
 
 def numbers_of_header():
-    """The numbers that the header states, each with its fault where it is the first of some."""
-    text = (TOP / "include/ebpf.h").read_text()
-    enums = dict(re.findall(r"enum (ebpf_\w+) \{(.*?)\n\};", text, re.DOTALL))
-    faults = {name: len(re.findall(r"EBPF_\w+ = \d+", body)) for name, body in enums.items()}
-    found = set()
-    for first, fault in re.findall(r"EBPF_\w+ = (\d+),\s*(?:/\* \+ (ebpf_\w+))?", enums["ebpf_number"]):
-        found |= set(range(int(first), int(first) + faults.get(fault, 1)))
-    return found
+    """The numbers that the header states."""
+    [body] = re.findall(r"enum ebpf_number \{(.*?)\n\};", (TOP / "include/ebpf.h").read_text(), re.DOTALL)
+    return {int(number) for number in re.findall(r"EBPF_\w+ = (\d+),", body)}
+
+
+def layer_fault():
+    """What is wrong with the calls of the layer, which are made of the header."""
+    done = subprocess.run(["python3", "-B", str(TOP / "tools/c_layer.py"), "--check"], capture_output=True, text=True)
+    return done.stderr or None
 
 
 def header_faults():
     """What is wrong with the header alone, as C99, as C11 and as C++."""
     header = TOP / "include/ebpf.h"
-    readings = [("c", "c99"), ("c", "c11"), ("c++", "c++11")]
+    readings = [("c", "c99"), ("c", "c11"), ("c++", "c++11"), ("c++", "c++20")]
     for compiler in compilers():
         for language, standard in readings:
-            words = [compiler, "-x", language, f"-std={standard}", "-Wall", "-Wextra", "-pedantic", "-Werror"]
+            words = [compiler, "-x", language, f"-std={standard}", "-Wall", "-Wextra", "-Wshadow", "-pedantic", "-Werror"]
             done = subprocess.run([*words, "-fsyntax-only", str(header)], capture_output=True, text=True)
             # a compiler without C++ says so of its own program
             if language == "c++" and ("cc1plus" in done.stderr or "cannot find" in done.stderr):

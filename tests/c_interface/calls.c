@@ -25,14 +25,14 @@
 #include <unistd.h>
 
 static struct bytes file, types, symbols;
-static struct ebpf_handle object = EBPF_CLOSED_HANDLE;
+static struct ebpf_handle *object = NULL;
 static char about[128];
 static struct ebpf_refusal refusal;
 #define ABOUT about, sizeof(about), &refusal
 
 static struct made_on made_on(void)
 {
-	return (struct made_on){ &object, file, types, symbols, ABOUT };
+	return (struct made_on){ object, file, types, symbols, ABOUT };
 }
 
 /* The part of a word in front of a separator; the rest begins behind it. */
@@ -71,25 +71,25 @@ static void read_map_fds(char *rest)
 /* What a call of this name is to be given; else the object's own maps are 1, 2, .. in the order of the list. */
 static void give_map_fds(const char *name, char *rest)
 {
-	struct ebpf_handle held = EBPF_CLOSED_HANDLE;
+	struct ebpf_handle *held = NULL;
 	int prepares = !strcmp(name, "prepare");
 
 	free(given.rows);
 	free(given.text);
 	memset(&given, 0, sizeof(given));
-	if (prepares)
-		ebpf_open(file.at, file.len, &held, ABOUT);
+	if (prepares && ebpf_open(file.at, file.len, &held, ABOUT) != EBPF_DONE)
+		held = NULL;
 	if (!prepares && rest)
 		read_map_fds(rest);
-	else if (prepares && held.at)
-		given.count = number_maps(&held, &given.rows, &given.text, &given.text_len);
-	else if (!prepares && object.at)
-		given.count = number_maps(&object, &given.rows, &given.text, &given.text_len);
+	else if (prepares && held)
+		given.count = number_maps(held, &given.rows, &given.text, &given.text_len);
+	else if (!prepares && object)
+		given.count = number_maps(object, &given.rows, &given.text, &given.text_len);
 	if (!given.rows) {
 		given.rows = zeros(0, sizeof(*given.rows));
 		given.text = zeros(0, 1);
 	}
-	ebpf_close(&held);
+	ebpf_close(held);
 }
 
 /* The bytes of hexadecimal digits, as many as there is room for. */
@@ -108,13 +108,13 @@ static uint32_t set_value(char *rest)
 	uint8_t value[64] = { 0 };
 	size_t len = read_digits(rest, value, sizeof(value));
 
-	return ebpf_set_value(&object, name, strlen(name), value, len, !strcmp(must, "must"), ABOUT);
+	return ebpf_set_value(object, name, strlen(name), value, len, !strcmp(must, "must"), ABOUT);
 }
 
 /* The values NAME:must|may:DIGITS,.. as rows. Nothing is allocated here, where growths may be refused. */
 static uint32_t set_values(char *rest)
 {
-	static struct ebpf_value rows[64];
+	static struct ebpf_value_row rows[64];
 	static char text[4096];
 	static uint8_t bytes[4096];
 	size_t count = 0, text_len = 0, bytes_len = 0;
@@ -125,24 +125,32 @@ static uint32_t set_values(char *rest)
 		char *row = cut(&rest, ','), *name = cut(&row, ':'), *must = cut(&row, ':');
 		size_t len = read_digits(row, bytes + bytes_len, sizeof(bytes) - bytes_len);
 
-		rows[count++] = (struct ebpf_value){ text_len, strlen(name), bytes_len, len, !strcmp(must, "must") };
+		rows[count++] = (struct ebpf_value_row){ text_len, strlen(name), bytes_len, len, !strcmp(must, "must") };
 		memcpy(text + text_len, name, strlen(name));
 		text_len += strlen(name);
 		bytes_len += len;
 	}
-	return ebpf_set_values(&object, rows, count, text, text_len, bytes, bytes_len, ABOUT);
+	return ebpf_set_values(object, rows, count, text, text_len, bytes, bytes_len, ABOUT);
+}
+
+/* What the last call gave out that gives out a handle. */
+static struct ebpf_handle *made;
+
+/* Puts that in the place of the object, where it is a handle. */
+static uint32_t put(uint32_t number)
+{
+	if ((number == EBPF_DONE) != (made != NULL))
+		errx(3, "%u is returned, and %s is given out", number, made ? "a handle" : "none");
+	if (made) {
+		ebpf_close(object);
+		object = made;
+	}
+	return number;
 }
 
 static uint32_t copy(void)
 {
-	struct ebpf_handle copied = EBPF_CLOSED_HANDLE;
-	uint32_t number = ebpf_clone(&object, &copied);
-
-	if (number == EBPF_DONE) {
-		ebpf_close(&object);
-		object = copied; /* moved */
-	}
-	return number;
+	return put(ebpf_clone(object, &made));
 }
 
 /* `counted`: growths of memory are, so that only the call itself may be made. */
@@ -163,41 +171,41 @@ static uint32_t change(const char *name, char *rest, int counted)
 	if (!strcmp(name, "types") && !counted)
 		return relocate_as_told(&on);
 	if (!strcmp(name, "open"))
-		return ebpf_open(file.at, file.len, &object, ABOUT);
+		return put(ebpf_open(file.at, file.len, &made, ABOUT));
 	if (!strcmp(name, "open_broad"))
-		return ebpf_open_broad(file.at, file.len, &object, ABOUT);
+		return put(ebpf_open_broad(file.at, file.len, &made, ABOUT));
 	if (!strcmp(name, "open_within")) /* =BYTES, read as stated; =BYTES:broad */
-		return ebpf_open_within(file.at, file.len, strchr(rest, ':') != NULL, strtoull(rest, NULL, 10), &object,
-					ABOUT);
+		return put(ebpf_open_within(file.at, file.len, strchr(rest, ':') != NULL, strtoull(rest, NULL, 10), &made,
+					ABOUT));
 	if (!strcmp(name, "prepare"))
-		return ebpf_prepare(file.at, file.len, types.at, types.len, given.rows, given.count, given.text,
-				    given.text_len, symbols.at, symbols.len, &object, ABOUT);
+		return put(ebpf_prepare(file.at, file.len, types.at, types.len, given.rows, given.count, given.text,
+				    given.text_len, symbols.at, symbols.len, &made, ABOUT));
 	if (!strcmp(name, "prepare_handle"))
-		return ebpf_prepare_handle(&object, types.at, types.len, given.rows, given.count, given.text,
+		return ebpf_prepare_handle(object, types.at, types.len, given.rows, given.count, given.text,
 					   given.text_len, symbols.at, symbols.len, ABOUT);
 	if (!strcmp(name, "clone"))
 		return copy();
 	if (!strcmp(name, "types"))
-		return ebpf_relocate_types(&object, types.at, types.len, ABOUT);
+		return ebpf_relocate_types(object, types.at, types.len, ABOUT);
 	if (!strcmp(name, "maps"))
-		return ebpf_relocate_maps(&object, given.rows, given.count, given.text, given.text_len, ABOUT);
+		return ebpf_relocate_maps(object, given.rows, given.count, given.text, given.text_len, ABOUT);
 	if (!strcmp(name, "resolve"))
-		return ebpf_resolve_externs(&object, types.at, types.len, symbols.at, symbols.len, ABOUT);
+		return ebpf_resolve_externs(object, types.at, types.len, symbols.at, symbols.len, ABOUT);
 	if (!strcmp(name, "externs"))
-		return ebpf_relocate_externs(&object, ABOUT);
+		return ebpf_relocate_externs(object, ABOUT);
 	if (!strcmp(name, "calls"))
-		return ebpf_relocate_calls(&object, ABOUT);
+		return ebpf_relocate_calls(object, ABOUT);
 	if (!strcmp(name, "value"))
 		return set_value(rest);
 	if (!strcmp(name, "values"))
 		return set_values(rest);
 	if (!strcmp(name, "sanitize"))
-		return ebpf_sanitize(&object, (uint32_t)strtoul(rest, NULL, 0));
+		return ebpf_sanitize(object, (uint32_t)strtoul(rest, NULL, 0));
 	map = cut(&rest, ':');
 	if (!strcmp(name, "entries"))
-		return ebpf_set_max_entries(&object, map, strlen(map), (uint32_t)strtoul(rest, NULL, 0));
+		return ebpf_set_max_entries(object, map, strlen(map), (uint32_t)strtoul(rest, NULL, 0));
 	if (!strcmp(name, "size"))
-		return ebpf_set_value_size(&object, map, strlen(map), (uint32_t)strtoul(rest, NULL, 0));
+		return ebpf_set_value_size(object, map, strlen(map), (uint32_t)strtoul(rest, NULL, 0));
 	errx(3, "no action %s", name);
 }
 
@@ -228,25 +236,25 @@ static uint32_t ask(char *rest)
 		count = room.count;
 	}
 	if (!strcmp(call, "programs"))
-		number = ebpf_programs(&object, (void *)rows, row, (char *)text, ROOM, &counts);
+		number = ebpf_programs(object, (void *)rows, row, (char *)text, ROOM, &counts);
 	if (!strcmp(call, "maps"))
-		number = ebpf_maps(&object, (void *)rows, row, (char *)text, ROOM, &counts);
+		number = ebpf_maps(object, (void *)rows, row, (char *)text, ROOM, &counts);
 	if (!strcmp(call, "externs"))
-		number = ebpf_externs(&object, (void *)rows, row, (char *)text, ROOM, &counts);
+		number = ebpf_externs(object, (void *)rows, row, (char *)text, ROOM, &counts);
 	if (!strcmp(call, "sections"))
-		number = ebpf_sections(&object, (void *)rows, row, (char *)text, ROOM, &counts);
+		number = ebpf_sections(object, (void *)rows, row, (char *)text, ROOM, &counts);
 	if (!strcmp(call, "license"))
-		number = ebpf_license(&object, (char *)text, ROOM, &count);
+		number = ebpf_license(object, (char *)text, ROOM, &count);
 	if (!strcmp(call, "map_data"))
-		number = ebpf_map_data(&object, name, len, text, ROOM, &count);
+		number = ebpf_map_data(object, name, len, text, ROOM, &count);
 	if (!strcmp(call, "program_section"))
-		number = ebpf_program_section(&object, name, len, (char *)text, ROOM, &count);
+		number = ebpf_program_section(object, name, len, (char *)text, ROOM, &count);
 	if (!strcmp(call, "slots"))
-		number = ebpf_slots(&object, name, len, (void *)rows, row, &count);
+		number = ebpf_slots(object, name, len, (void *)rows, row, &count);
 	if (!strcmp(call, "func_infos"))
-		number = ebpf_func_infos(&object, name, len, (void *)rows, row, &count);
+		number = ebpf_func_infos(object, name, len, (void *)rows, row, &count);
 	if (!strcmp(call, "line_infos"))
-		number = ebpf_line_infos(&object, name, len, (void *)rows, row, &count);
+		number = ebpf_line_infos(object, name, len, (void *)rows, row, &count);
 	for (size_t at = 0; number != EBPF_DONE && at < ROOM; at++)
 		if (rows[at] != 0x55 || text[at] != 0x55)
 			errx(3, "%s writes before it refuses", call);
@@ -271,21 +279,21 @@ static void put_names(void)
 static int lists(const char *name)
 {
 	if (!strcmp(name, "programs"))
-		put_programs(&object);
+		put_programs(object);
 	else if (!strcmp(name, "named"))
-		put_program_sections(&object);
+		put_program_sections(object);
 	else if (!strcmp(name, "listed"))
-		put_maps(&object);
+		put_maps(object);
 	else if (!strcmp(name, "declared"))
-		put_externs(&object);
+		put_externs(object);
 	else if (!strcmp(name, "sections"))
-		put_sections(&object);
+		put_sections(object);
 	else if (!strcmp(name, "info"))
-		put_info(&object);
+		put_info(object);
 	else if (!strcmp(name, "slots"))
-		put_slots(&object);
+		put_slots(object);
 	else if (!strcmp(name, "records"))
-		put_records(&object);
+		put_records(object);
 	else if (!strcmp(name, "names"))
 		put_names();
 	else
@@ -295,17 +303,17 @@ static int lists(const char *name)
 
 static void put_all(void)
 {
-	if (!object.at) {
+	if (!object) {
 		printf("closed\n");
 		return;
 	}
-	put_info(&object);
-	put_programs(&object);
-	put_maps(&object);
-	put_externs(&object);
-	put_sections(&object);
-	put_slots(&object);
-	put_records(&object);
+	put_info(object);
+	put_programs(object);
+	put_maps(object);
+	put_externs(object);
+	put_sections(object);
+	put_slots(object);
+	put_records(object);
 }
 
 static void mark(const char *line, int is_marked)
@@ -366,7 +374,7 @@ int main(int words, char **word)
 	symbols = read_file(word[3]);
 	for (int at = 4; at < words; at++)
 		act(word[at], is_marked && at == words - 1);
-	ebpf_close(&object);
+	ebpf_close(object);
 	free(given.rows);
 	free(given.text);
 	free(file.at);

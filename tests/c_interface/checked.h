@@ -11,7 +11,7 @@ void count_check(int holds, const char *of, const char *what, int line);
 #define CHECK(of, holds) count_check(holds, of, #holds, __LINE__)
 
 /* The object of a file that can be opened. */
-struct ebpf_handle opened(const struct guarded *file);
+struct ebpf_handle *opened(const struct guarded *file);
 
 /* ebpf_set_values over an object with the variables `wanted` and `seen`. */
 void check_values_by_rows(const struct guarded *file);
@@ -33,6 +33,9 @@ void check_told_list(const struct told_list *list, struct ebpf_handle *of);
 /* One thing by its name, link maps, and what records come to: over an object whose program `p` calls another function,
  * and one with the program `on_packet`, the map `counts` and records, over a kernel's types. */
 void check_found_calls(const struct guarded *small, const struct guarded *counter, const struct guarded *types);
+
+/* Null pointers, over an object with programs, maps, variables and no externs. */
+void check_nulls(const struct guarded *file);
 
 /* ebpf_set_value for a variable that an object lacks, with so much room for its name. */
 void check_about(struct ebpf_handle *object, const char *variable, size_t room);

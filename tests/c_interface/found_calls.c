@@ -173,14 +173,15 @@ uint32_t link_as_told(const struct made_on *on)
 		free(text);
 		rows = zeros(counts.rows, sizeof(*rows));
 		text = zeros(counts.text, 1);
-		ebpf_programs(on->object, rows, counts.rows, text, counts.text, &counts);
+		if (ebpf_programs(on->object, rows, counts.rows, text, counts.text, &counts) != EBPF_DONE)
+			errx(3, "programs are not listed");
 	}
 	told = zeros(counts.rows, sizeof(*told));
 	for (size_t at = 0; at < counts.rows; at++)
 		told[at] = told_of(on, text + rows[at].name_at, rows[at].name_len);
 	*on->refusal = unwritten();
 	number = ebpf_relocate_calls(on->object, on->about, on->about_room, on->refusal);
-	if (on->object->at)
+	if (on->object && number != EBPF_PASS_MADE)
 		need_same_refusal(on, told, counts.rows, number);
 	for (size_t at = 0; at < counts.rows; at++) {
 		if (number == EBPF_DONE)

@@ -137,7 +137,7 @@ void put_sections(struct ebpf_handle *object)
 
 void put_info(struct ebpf_handle *object)
 {
-	struct ebpf_info info;
+	struct ebpf_object_info info;
 	size_t len = 0;
 	char *text = zeros(0, 1);
 

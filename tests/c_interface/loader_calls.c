@@ -95,7 +95,7 @@ static size_t read_digits(const char *digits, uint8_t *to)
 /* The values NAME:DIGITS,.. as rows. Nothing is allocated here, where growths may be refused. */
 static int64_t define(const struct made_on *on, char *rest)
 {
-	static struct ebpf_value rows[FEW];
+	static struct ebpf_value_row rows[FEW];
 	static char text[MANY];
 	static uint8_t bytes[MANY];
 	size_t count = 0, text_len = 0, bytes_len = 0;
@@ -106,7 +106,7 @@ static int64_t define(const struct made_on *on, char *rest)
 		char *digits = strchr(row, ':') + 1;
 		size_t name_len = (size_t)(digits - row) - 1, len = read_digits(digits, bytes + bytes_len);
 
-		rows[count++] = (struct ebpf_value){ text_len, name_len, bytes_len, len, 1 };
+		rows[count++] = (struct ebpf_value_row){ text_len, name_len, bytes_len, len, 1 };
 		memcpy(text + text_len, row, name_len);
 		text_len += name_len;
 		bytes_len += len;

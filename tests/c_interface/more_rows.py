@@ -215,6 +215,61 @@ def prepared_handles():
     yield CallsRow("a closed handle isn't prepared", (b"", b"types", b""), ["prepare_handle=\udcff:1"], ["prepare_handle 3"])
 
 
+PASSES = ["types", "maps", "resolve", "externs", "calls"]
+
+# What is set before a pass, and never after one.
+SETTINGS = ["value=wanted:must:2a000000", "values=wanted:must:2a000000", "entries=counts:9", "size=counts:9", "sanitize=0"]
+MORE_SETTINGS = ["data=.rodata:01020304", "define=CONFIG_HZ:0a"]
+
+
+def number_of(first, second):
+    """What is answered to a pass, or to one after another."""
+    made, asked = PASSES.index(first), PASSES.index(second)
+    return 11 if asked == made else 12 if asked < made else 0
+
+
+def passes_in_order():
+    """A pass is made at most once and behind none that comes later, and what is refused changes nothing."""
+    files = COUNTER, TASKS, b""
+    shows = ["info", "programs", "listed", "declared", "slots", "records"]
+
+    def in_order(first, second):
+        number = number_of(first, second)
+
+        def judge(lines):
+            at = next((at for at, line in enumerate(lines) if line.startswith(f"{second} ") and at > 1), 0)
+            if lines[1] != f"{first} 0" or lines[at] != f"{second} {number}":
+                return f"{lines[1]}, {lines[at]}: wanted {second} {number}"
+            same = lines[2:at] == lines[at + 1 :]
+            return None if not number or (same and at > 2) else "a refused pass changes the object"
+
+        return CallsRow(f"{second} after {first}", files, ["open", first, *shows, second, *shows], judge)
+
+    def same_slots(lines):
+        first, second = (lines[at + 1 :] for at, line in enumerate(lines) if line == "calls 0")
+        first = first[: first.index("open 0")]
+        return None if first == second and len(first) > 2 else "slots of another object"
+
+    for first in PASSES:
+        for second in PASSES:
+            yield in_order(first, second)
+        for action in SETTINGS + MORE_SETTINGS:
+            name = action.split("=")[0]
+            yield CallsRow(f"{name} after {first}", files, ["open", first, action], ["open 0", f"{first} 0", f"{name} 12"])
+        prepared = ["open 0", f"{first} 0", f"prepare_handle {11 if first == 'types' else 12}"]
+        yield CallsRow(f"prepared after {first}", files, ["open", first, "prepare_handle"], prepared)
+        yield CallsRow(f"{first} after a copy of it", files, ["open", first, "clone", first], ["open 0", f"{first} 0", "clone 0", f"{first} 11"])
+    for action in PASSES + ["prepare_handle"]:
+        number = 11 if action == "calls" else 12
+        yield CallsRow(f"{action} of a prepared handle", files, ["open", "prepare_handle", action], ["open 0", "prepare_handle 0", f"{action} {number}"])
+        yield CallsRow(f"{action} of a prepared file", files, ["prepare", action], ["prepare 0", f"{action} {number}"])
+    # the retry that comes to mind: a pass too many, and then what is left
+    many = ["types", "types", "maps", "maps", "types", "resolve", "maps", "externs", "prepare_handle", "resolve", "calls"]
+    yield CallsRow("slots after passes too many", files, ["open", *PASSES, "slots", "open", *many, "slots"], same_slots)
+    bad = ["open 0", "types 200", "types 200", "prepare_handle 200", "maps 0", "types 12"]
+    yield CallsRow("a refused pass isn't made", (COUNTER, b"types", b""), ["open", "types", "types", "prepare_handle", "maps", "types"], bad)
+
+
 def names():
     """Each number of the header has a name of its own, and no other number has one."""
     known = builds.numbers_of_header()
@@ -242,4 +297,4 @@ def sections_of_programs():
 
 
 def rows():
-    return [*names(), *kinds(), *broad_kinds(), *broad_files(), *sections_of_programs(), *small_object(), *numbers(), *unchanged(), *changes(), *many_values(), *prepared_handles()]
+    return [*names(), *kinds(), *broad_kinds(), *broad_files(), *sections_of_programs(), *small_object(), *numbers(), *unchanged(), *changes(), *many_values(), *prepared_handles(), *passes_in_order()]

@@ -21,22 +21,22 @@ static void prepare(struct bytes object_file, struct bytes kernel)
 	free(slots);
 }
 
-static struct ebpf_handle opened(struct bytes file)
+static struct ebpf_handle *opened(struct bytes file)
 {
-	struct ebpf_handle handle = EBPF_CLOSED_HANDLE;
+	struct ebpf_handle *handle;
 	struct ebpf_refusal refusal = { 0 };
 	char about[128] = { 0 };
 	uint32_t number = ebpf_open(file.at, file.len, &handle, about, sizeof(about), &refusal);
 
 	if (number != EBPF_DONE)
 		errx(3, "ebpf_open: %u", number);
-	return handle; /* moved */
+	return handle;
 }
 
 /* The programs as they are listed. */
 static void list(struct bytes file)
 {
-	struct ebpf_handle handle = opened(file);
+	struct ebpf_handle *handle = opened(file);
 	uint32_t number;
 
 #include "listed.inc"
@@ -46,19 +46,19 @@ static void list(struct bytes file)
 	printf("\n");
 	free(rows);
 	free(text);
-	ebpf_close(&handle);
+	ebpf_close(handle);
 }
 
 /* The refusal where one map alone has a descriptor. */
 static void refuse(struct bytes file)
 {
-	struct ebpf_handle handle = opened(file);
+	struct ebpf_handle *handle = opened(file);
 	const int fd = 3;
 	uint32_t number;
 
 #include "refused.inc"
 	printf("refused %u\n", number);
-	ebpf_close(&handle);
+	ebpf_close(handle);
 }
 
 int main(int words, char **word)

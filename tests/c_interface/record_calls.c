@@ -80,7 +80,7 @@ static const struct ebpf_record_outcome *first_refused(const struct outcomes *to
 /* A section without records may have a name that the file lacks, or that can't be read. */
 static int is_of_section(uint32_t number)
 {
-	return number == EBPF_TYPES_SECTION_NOT_FOUND || number == EBPF_TYPES_FAULT + EBPF_TYPE_STRING_OFFSET;
+	return number == EBPF_TYPES_SECTION_NOT_FOUND || number == EBPF_TYPES_FAULT_INVALID_STRING_OFFSET;
 }
 
 uint32_t relocate_as_told(const struct made_on *on)
@@ -91,6 +91,10 @@ uint32_t relocate_as_told(const struct made_on *on)
 
 	*on->refusal = unwritten();
 	number = ebpf_relocate_types(on->object, on->types.at, on->types.len, on->about, on->about_room, on->refusal);
+	if (number == EBPF_PASS_MADE || number == EBPF_PASS_ORDER) {
+		free_outcomes(&told);
+		return number;
+	}
 	if (told.number != EBPF_DONE && number != told.number)
 		errx(3, "ebpf_relocate_types answers %u, and ebpf_record_outcomes %u", number, told.number);
 	if (refused && number == refused->fault && !is_of_section(number) && refused->name_len &&

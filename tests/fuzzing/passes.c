@@ -189,7 +189,7 @@ static char *copy_of(const char *text, size_t size)
 
 static void list_info(struct ebpf_handle *object)
 {
-	struct ebpf_info info = { 0 };
+	struct ebpf_object_info info = { 0 };
 	uint32_t number = ebpf_info(object, &info);
 	size_t len = 0;
 
@@ -312,17 +312,17 @@ static uint32_t write_map_fds(struct ebpf_handle *object)
 }
 
 /* Puts a copy in the place of the object, which has to say the same. */
-static void copy(struct ebpf_handle *object)
+static void copy(struct ebpf_handle **object)
 {
-	struct ebpf_handle copied = EBPF_CLOSED_HANDLE;
-	uint64_t before = list_all(object);
+	struct ebpf_handle *copied;
+	uint64_t before = list_all(*object);
 
-	with_room("ebpf_clone", ebpf_clone(object, &copied));
+	with_room("ebpf_clone", ebpf_clone(*object, &copied));
 	if (lacked)
 		return;
-	ebpf_close(object);
-	*object = copied; /* moved */
-	if (list_all(object) != before)
+	ebpf_close(*object);
+	*object = copied;
+	if (list_all(copied) != before)
 		say("a copy is another object");
 }
 
@@ -334,8 +334,9 @@ static void of_map(const char *call, uint32_t number)
 }
 
 /* What is done beside the passes: values, sizes, older helper functions, a copy. */
-static void settings(struct ebpf_handle *object)
+static void settings(struct ebpf_handle **opened)
 {
+	struct ebpf_handle *object = *opened;
 	const char *variable = how & 2 ? "var0" : "seen", *map = how & 4 ? "map0" : "counts";
 	uint32_t number;
 
@@ -350,7 +351,7 @@ static void settings(struct ebpf_handle *object)
 	if (how & 128)
 		with_room("ebpf_sanitize", ebpf_sanitize(object, 0));
 	if (how & 1 << 20)
-		copy(object);
+		copy(opened);
 }
 
 /* Whether a pass refused, behind which the object is as it was before. */
@@ -392,19 +393,19 @@ static const char *passes(struct ebpf_handle *object)
  * at first is kept. */
 static const char *broadly(uint64_t *first)
 {
-	struct ebpf_handle object = EBPF_CLOSED_HANDLE;
+	struct ebpf_handle *object = NULL;
 	uint32_t number = ebpf_open_broad(file.at, file.len, &object, ABOUT);
 	const char *stage;
 
 	if (judged("ebpf_open_broad", number, 100, 199, 100, 199)) {
-		if (object.at)
+		if (object)
 			say("a handle is open behind a refusal");
 		return "parse";
 	}
-	*first = list_all(&object);
+	*first = list_all(object);
 	settings(&object);
-	stage = passes(&object);
-	ebpf_close(&object);
+	stage = passes(object);
+	ebpf_close(object);
 	return stage;
 }
 
@@ -419,22 +420,23 @@ static int modes_agree(void)
 /* Reads the object as stated: of what it takes, lenient parsing gives the same. */
 static void as_stated(const char *stage, uint64_t first)
 {
-	struct ebpf_handle object = EBPF_CLOSED_HANDLE;
+	struct ebpf_handle *object = NULL;
 	uint32_t number = ebpf_open(file.at, file.len, &object, ABOUT);
 
 	if (!judged("ebpf_open", number, 100, 199, 100, 199) && modes_agree()) {
 		if (!strcmp(stage, "parse"))
 			say("lenient parsing refuses what the stated one takes");
-		else if (list_all(&object) != first)
+		else if (list_all(object) != first)
 			say("lenient parsing gives another object than the stated one");
 	}
-	ebpf_close(&object);
+	ebpf_close(object);
+	object = NULL;
 	if (how & 64)
 		judged("ebpf_prepare",
 		       ebpf_prepare(file.at, file.len, types.at, types.len, room(rows_part, 0), 0, room(text_part, 0), 0,
 				    symbols.at, symbols.len, &object, ABOUT),
 		       100, 299, 300, 699);
-	ebpf_close(&object);
+	ebpf_close(object);
 }
 
 static struct bytes given(struct part part, uint32_t len)

@@ -45,7 +45,7 @@ make_crate() {
 make_repository() {
     local crate
     mkdir -p "$1/tests/c_interface" "$1/crates/capi_exports/src" "$1/crates/ebpf/src" "$1/examples/loader" "$1/examples/check"
-    cp -r "$top"/{tools,share,include,LICENSE,HANDLES} "$1"
+    cp -r "$top"/{tools,share,include,c,LICENSE,HANDLES} "$1"
     cp "$top/tests/c_interface.sh" "$1/tests"
     cp "$top/tests/c_interface/archive.py" "$1/tests/c_interface"
     cp -r "$top/docs" "$top/README.md" "$1"
@@ -69,8 +69,9 @@ make_kit() {
     mkdir -p "$RT_KIT/c"
     touch "$RT_KIT/START-HERE.md" "$RT_KIT/WHAT"
     if command -v gcc >/dev/null; then
-        echo '#include <stdint.h>
-            uint32_t ebpf_version_number(void) { return 7008009; }' | gcc -c -fPIC -x c -o "$RT_KIT/calls.o" -
+        # each proved call that the layer names, of which one returns what is asked of it
+        cat "$top"/c/*.c | grep -o '\bexact_ebpf_[a-z_]*(' | sort -u | sed 's/($//; s/.*/int &(void) { return 7008009; }/' |
+            gcc -c -fPIC -x c -o "$RT_KIT/calls.o" -
         ar rcs "$RT_KIT/calls.a" "$RT_KIT/calls.o"
     else
         ar rcs "$RT_KIT/calls.a"

@@ -1,3 +1,4 @@
 pub mod Handles
 pub mod Texts
 pub mod MappedPrograms
+pub mod PassSequences

@@ -2,6 +2,7 @@
 use Rattle.std.proofs.Common.{◌≡◌, ℕ, List, Option, Some, None, inl, inr, refl, ◌∙◌, sym, subst}
 use Rattle.std.specs.Prelude.{Result, Ok, Err, MatchOption}
 use Rattle.std.specs.FinMap.{get}
+use Rattle.ebpf_model.specs.Memory.{NamesNoneForMemory}
 use Rattle.ebpf_model.specs.declared.error.EbpfRelocationError.{EbpfRelocationError}
 use Rattle.ebpf_model.specs.declared.function.Program.{Program}
 use Rattle.ebpf_object.specs.LinkedPrograms.{program_value, MapsProgram}
@@ -29,12 +30,12 @@ module _ (o : Object) (name : List ℕ) where
   none_of text None told = refl
   none_of text (Some p) told = absurd told
 
-  refusal_of : (text : List ℕ) (found : Option Program) → text ≡ name → value_by_bytes o.programs name ≡ found → (e : EbpfRelocationError) → Told o text (Err e) found → HasUnlinkable name o (slot_refusal 600 e)
-  refusal_of text None same named e told = let no : ⊥ = cc in absurd no
-  refusal_of text (Some p) same named e told = record {
+  refusal_of : (text : List ℕ) (found : Option Program) → text ≡ name → value_by_bytes o.programs name ≡ found → (e : EbpfRelocationError) → NamesNoneForMemory e → Told o text (Err e) found → HasUnlinkable name o (slot_refusal 600 e)
+  refusal_of text None same named e memory told = let no : ⊥ = cc in absurd no
+  refusal_of text (Some p) same named e memory told = record {
     program = p;
     named = named;
-    refusal = inr (e, subst (λ n. IsUnlinkable n o p e) same told, refl);
+    refusal = inr (e, subst (λ n. IsUnlinkable n o p e) same (memory, told), refl);
   }
 
   -- no text
@@ -58,5 +59,5 @@ module _ (o : Object) (name : List ℕ) where
     pub no_program : (r : Refusal) → answer ≡ Ok None → r ≡ plain NO_PROGRAM → CannotMap name o r
     no_program r is of = inl (record { absent = named ∙ none_of text (get o.programs text) (answered (Ok None) is); is = of })
 
-    pub unlinkable : (e : EbpfRelocationError) (r : Refusal) → answer ≡ Err e → r ≡ slot_refusal 600 e → CannotMap name o r
-    unlinkable e r is of = inr (subst (HasUnlinkable name o) (sym of) (refusal_of text (get o.programs text) (text_same name text read) named e (answered (Err e) is)))
+    pub unlinkable : (e : EbpfRelocationError) (r : Refusal) → answer ≡ Err e → NamesNoneForMemory e → r ≡ slot_refusal 600 e → CannotMap name o r
+    unlinkable e r is memory of = inr (subst (HasUnlinkable name o) (sym of) (refusal_of text (get o.programs text) (text_same name text read) named e memory (answered (Err e) is)))

@@ -11,7 +11,7 @@ use Rattle.ebpf_load_info.specs.AttachTargets.{attach_target}
 use Rattle.ebpf_load_info.specs.declared.attach.AttachTarget.{AttachTarget}
 use Rattle.ebpf_load_info.specs.declared.attach.AttachTarget.TheVariants.{NotWanted, Unnamed, Found}
 use Rattle.ebpf_load_info.specs.declared.attach.AttachTarget.TheVariants.{NotFound}
-use Rattle.ebpf_model.specs.Memory.{is_memory_at}
+use Rattle.ebpf_model.specs.Memory.{NamesNoneForMemory, is_memory_at}
 use Rattle.ebpf_model.specs.declared.error.EbpfRelocationError.{EbpfRelocationError}
 use Rattle.ebpf_model.specs.declared.function.Program.{Program}
 use Rattle.ebpf_object.specs.LinkedPrograms.{linkable_of, program_value}
@@ -58,10 +58,12 @@ pub record LacksProgram (name : List ℕ) (o : Object) (r : Refusal) : Type 0 wh
   pub absent : value_by_bytes o.programs name ≡ None
   pub is : r ≡ plain NO_PROGRAM
 
--- a refusal of linking that stands, or any that tells of want of memory
+-- a refusal of linking that stands, or one that tells of want of memory and names no function
 abbrev pub IsUnlinkable : List ℕ → Object → Program → EbpfRelocationError → Type 0
 IsUnlinkable name o program e =
-    MatchBool (is_memory_at e) ⊤ (IsProgramRefusal (own_parts o) (program_value name program) e)
+    NamesNoneForMemory e
+    × MatchBool (is_memory_at e) ⊤
+    (IsProgramRefusal (own_parts o) (program_value name program) e)
 
 -- the program of the name can't be linked
 pub record HasUnlinkable (name : List ℕ) (o : Object) (r : Refusal) : Type 0 where

@@ -5,11 +5,11 @@ use Rattle.std.specs.declared.alloc.Global.{Global}
 use Rattle.std.specs.contracts.impls.GlobalAllocator.TheImpl.{ghosts}
 use base.Fml.{Fml, feq}
 use denote.RawPtr.{Ptr, null_ptr}
+use Rattle.capi_exports.specs.contracts.held.Held.{the_row}
+use Rattle.capi_exports.specs.declared.held.Held.{Held}
 use Rattle.capi_rows.specs.declared.refusal.Refusal.{Refusal}
 use Rattle.ebpf_limits.specs.Within.{within_fault}
 use Rattle.ebpf_object.specs.Objects.{parse_fault_as}
-use Rattle.ebpf_object.specs.contracts.object.Object.{the_row}
-use Rattle.ebpf_object.specs.declared.object.Object.{Object}
 use Rattle.ebpf_parts.specs.declared.parse_mode.ParseMode.{ParseMode}
 use Rattle.ebpf_parts.specs.declared.parse_mode.ParseMode.TheVariants.{Strict, Lenient}
 use Rattle.capi_rows.specs.Handles.{CannotParse}
@@ -18,8 +18,8 @@ use Rattle.capi_rows.specs.Handles.{CannotParse}
 abbrev pub heap : Global
 heap = record { memory = record { seal = tt } }
 
--- an object in a block of its own, or no block: the pointer is null
-abbrev pub handle_owns : Ptr → Option Object → Fml
+-- an object and its last pass in a block of their own, or no block: the pointer is null
+abbrev pub handle_owns : Ptr → Option Held → Fml
 handle_owns p None = feq Ptr p null_ptr
 handle_owns p (Some x) = box_owns (ghosts.dealloc_token heap) the_row p x
 

@@ -1,6 +1,8 @@
 -- What a pass over an object leaves of it, and why it refuses.
 use Rattle.std.specs.Prelude.{◌≡◌, ◌⊎◌, ⊤, ℕ, List, [], Option, Some, None, Ok, Err, MatchBool}
 use Rattle.std.specs.Prelude.{true, unwrap_or, Result, MatchResult}
+use Rattle.capi_exports.specs.declared.held.Held.{Held}
+use Rattle.capi_exports.specs.declared.held.Pass.TheVariants.{Calls}
 use Rattle.capi_rows.specs.FaultNumbers.{slot_refusal}
 use Rattle.capi_rows.specs.declared.refusal.Refusal.{Refusal}
 use Rattle.ebpf_base.specs.Faults.{fault_of}
@@ -95,11 +97,13 @@ pub record HasLostExtern (bytes symbols : List ℕ) (o : Object) (r : Refusal) :
 abbrev pub CannotResolve : List ℕ → List ℕ → Object → Refusal → Type 0
 CannotResolve bytes symbols o r = CannotReadIf bytes r ⊎ HasLostExtern bytes symbols o r
 
--- an extern can't be written
+-- an extern can't be written; want of memory names no function
 abbrev pub CannotWriteExterns : Object → Refusal → Type 0
 CannotWriteExterns o =
-    IsRefusal (λ e. MatchBool (relocating.is_memory_at e) ⊤ (externs_fault o ≡ Some e))
-    (slot_refusal 500)
+    IsRefusal
+    (λ e.
+    relocating.NamesNoneForMemory e
+    × MatchBool (relocating.is_memory_at e) ⊤ (externs_fault o ≡ Some e)) (slot_refusal 500)
 
 -- written into the slots that refer to them, each of which can take its extern
 pub record HasWrittenExterns (old new : Object) : Type 0 where
@@ -114,12 +118,13 @@ pub record HasLinked (old new : Object) : Type 0 where
       (programs_in_order old.programs) new.functions
   pub others_stay : new ≡ record old { functions = new.functions }
 
--- a program can't be linked
+-- a program can't be linked; want of memory names none
 abbrev pub CannotLink : Object → Refusal → Type 0
 CannotLink o =
     IsRefusal
     (λ e.
-    MatchBool (relocating.is_memory_at e) ⊤
+    relocating.NamesNoneForMemory e
+    × MatchBool (relocating.is_memory_at e) ⊤
     (IsFirstRefusal (linkable_of o (has_function_in o.functions))
     (programs_in_order o.programs) e)) (slot_refusal 600)
 
@@ -170,10 +175,13 @@ abbrev pub CannotPrepare : List ℕ → PreparationInputs → Refusal → Type 0
 CannotPrepare file inputs =
     NamesFirst inputs.rows inputs.text (λ r. CannotReadIf inputs.types r ⊎ HasFault file inputs r)
 
--- an open handle holds the object
-abbrev pub IsPreparedIn : List ℕ → PreparationInputs → Option Object → Type 0
+-- it is held, and no pass is left
+abbrev pub IsPreparedAs : List ℕ → PreparationInputs → Held → Type 0
+IsPreparedAs file inputs held = HasPrepared file inputs held.object × (held.last ≡ Some Calls)
+
+abbrev pub IsPreparedIn : List ℕ → PreparationInputs → Option Held → Type 0
 IsPreparedIn file inputs None = ⊥
-IsPreparedIn file inputs (Some o) = HasPrepared file inputs o
+IsPreparedIn file inputs (Some held) = IsPreparedAs file inputs held
 
 -- ---- an object that a handle holds
 

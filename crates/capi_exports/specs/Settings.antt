@@ -4,7 +4,7 @@ use Rattle.std.specs.Prelude.{length, MatchBool, if◌then◌else◌}
 use Rattle.std.specs.FinMap.{FinMap, empty, insert}
 use Rattle.capi_rows.specs.Listings.{value_by_bytes}
 use Rattle.capi_rows.specs.Refusals.{plain}
-use Rattle.capi_rows.specs.declared.codes.TheConstants.{BAD_NAME, CLOSED, WRONG_LENGTH}
+use Rattle.capi_rows.specs.declared.codes.TheConstants.{BAD_NAME, DONE, WRONG_LENGTH}
 use Rattle.capi_rows.specs.declared.refusal.Refusal.{Refusal}
 use Rattle.ebpf_base.specs.Maps.{text_cmp}
 use Rattle.capi_exports.specs.declared.map_settings.Setting.{Setting}
@@ -17,18 +17,6 @@ use Rattle.ebpf_parts.specs.Maps.{bytes_of, with_bytes, with_max_entries, with_v
 use Rattle.ebpf_parts.specs.declared.maps.either.Map.{Map}
 use Rattle.capi_rows.specs.Descriptors.{text_of}
 use Rattle.capi_rows.specs.Handles.{CannotParse, IsSet}
-
--- ---- maps
-
--- the map with a name is set; all else of the object is as before
-pub record HasSet (set : Map → Map) (name : List ℕ) (old new : Object) : Type 0 where
-  pub found : Map
-  pub there : value_by_bytes old.maps name ≡ Some found
-  pub is : new ≡ record old { maps = insert old.maps name (set found) }
-
-abbrev pub LacksMap : List ℕ → Option Object → Type 0
-LacksMap name None = ⊥
-LacksMap name (Some o) = value_by_bytes o.maps name ≡ None
 
 -- ---- variables
 
@@ -59,7 +47,10 @@ pub record HasSanitized (has_newer : Bool) (old new : Object) : Type 0 where
   pub functions : AreSanitized (λ answer. answer ≡ has_newer) old.functions new.functions
   pub others_stay : new ≡ record old { functions = new.functions }
 
--- ---- all of a map's initial data, set
+abbrev pub IsSanitized : Bool → Object → ℕ → Object → Type 0
+IsSanitized has_newer old number new = (number ≡ DONE) × HasSanitized has_newer old new
+
+-- ---- maps: their settings, and all of their initial data
 
 -- bytes in the place of as many, else those that are there
 abbrev pub replaced : List ℕ → List ℕ → List ℕ
@@ -83,13 +74,19 @@ IsDataSet bytes name before number after =
     ((number ≡ WRONG_LENGTH) × (after ≡ before))
     (IsSet (with_replaced bytes) name before number after)
 
--- of an object all else is as before; a closed handle stays closed
-abbrev pub IsDataSetOf : List ℕ → List ℕ → Option Object → ℕ → Option Object → Type 0
-IsDataSetOf bytes name None number after = (number ≡ CLOSED) × (after ≡ None)
-IsDataSetOf bytes name (Some o) number after =
-    (maps : FinMap text_cmp Map)
-    × IsDataSet bytes name o.maps number maps
-    × (after ≡ Some (record o { maps = maps }))
+-- what is set of an object's maps, by what is answered and left of them; all else is as before
+abbrev pub SetsMaps : (FinMap text_cmp Map → ℕ → FinMap text_cmp Map → Type 0) → Object → ℕ → Object
+    → Type 0
+SetsMaps Set old number new =
+    (maps : FinMap text_cmp Map) × Set old.maps number maps × (new ≡ record old { maps = maps })
+
+-- a setting of the map of a name
+abbrev pub SetsMap : (Map → Map) → List ℕ → Object → ℕ → Object → Type 0
+SetsMap set name = SetsMaps (IsSet set name)
+
+-- all data of the map of a name
+abbrev pub SetsData : List ℕ → List ℕ → Object → ℕ → Object → Type 0
+SetsData bytes name = SetsMaps (IsDataSet bytes name)
 
 -- a map with what is set of it
 abbrev pub with_setting : Setting → Map → Map

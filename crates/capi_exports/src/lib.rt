@@ -2,7 +2,9 @@
 #![tactic(auto)]
 
 mod handle;
+mod held;
 mod kconfig;
+mod laws;
 mod linking;
 mod list_calls;
 mod map_settings;

@@ -2,7 +2,9 @@
 
 ghost use Rattle.std.specs.Prelude.{◌≡◌, ◌<◌, OnOk, OnErr, IfErr, MatchResult, List, Result};
 ghost use Rattle.capi_rows.specs.Handles.{Changes, IsRefused, WhyHeld, FindsHeld};
+ghost use Rattle.capi_exports.specs.PassOrder.{CannotPass, HasPassed, object_in};
 ghost use Rattle.capi_exports.specs.Passes.{CannotLink, HasLinked};
+ghost use Rattle.capi_exports.specs.declared.held.Pass.TheVariants.{Calls};
 ghost use Rattle.capi_rows.specs.Answers.{Listed, told_listing, LeavesList, LeavesListing};
 ghost use Rattle.capi_rows.specs.declared.refusal.Refusal.{Refusal};
 ghost use Rattle.capi_exports.specs.Answers.{CannotMap, IsCopyList, IsLinkMapOf, IsReferenceList};
@@ -10,6 +12,7 @@ ghost use Rattle.capi_rows.specs.declared.record_rows.ebpf_code_copy.{ebpf_code_
 ghost use Rattle.capi_rows.specs.declared.record_rows.ebpf_code_reference.{ebpf_code_reference};
 
 use crate::handle::ebpf_handle;
+use crate::held::{Held, Pass, fault_of_pass};
 use capi_rows::buffers::{Listing, ebpf_counts, list_all, tell_items, tell_listing};
 use capi_rows::codes::{CLOSED, DONE, MEMORY, NO_PROGRAM};
 use capi_rows::faults::slot_refusal;
@@ -41,30 +44,46 @@ fn link_programs(alloc: Global, object: &mut Object) -> Result<(), Refusal>
     }
 }
 
+/// Makes the pass of calls.
+fn pass_calls(alloc: Global, held: &mut Held) -> Result<(), Refusal>
+    ensures ok { OnOk result (HasPassed Calls Calls HasLinked held.old held.new) }
+    ensures unchanged { OnErr result (held.new ≡ held.old) }
+    ensures why { IfErr result (CannotPass Calls CannotLink held.old) }
+    ensures refuses { IfErr result (λ r. 0 < r.number) }
+{
+    if let Some(number) = fault_of_pass(held.last, Pass::Calls) {
+        return Err(Refusal::plain(number));
+    }
+    link_programs(alloc, &mut held.object)?;
+    held.last = Some(Pass::Calls);
+    Ok(())
+}
+
 /// Links each program of what a handle holds with the functions that it reaches.
 ///
 /// # Answers
 ///
-/// 0; 2; 3 where the handle is closed; 600 to 611 for the first program that can't be linked, about it. What the handle
-/// holds is then as it was.
+/// 0; 2; 3 where the handle is closed; then 11 where the pass was made; 600 to 611 for the first program that can't be
+/// linked, about it. What the handle holds is then as it was.
 #[unsafe(no_mangle)]
-pub extern "C" fn ebpf_relocate_calls(
+pub extern "C" fn exact_ebpf_relocate_calls(
     alloc: Global,
     handle: &mut ebpf_handle,
     about: &mut [u8],
     report: &mut ebpf_refusal,
 ) -> u32
-    ensures linked { result ≡ DONE → Changes HasLinked handle.old.object handle.new.object }
+    ensures linked { result ≡ DONE
+        → Changes (HasPassed Calls Calls HasLinked) handle.old.held handle.new.held }
     ensures quiet { result ≡ DONE → (about.new ≡ about.old) × (report.new ≡ report.old) }
     ensures refused { ¬ (result ≡ DONE)
-        → IsRefused (WhyHeld handle.old.object CannotLink) result handle.old.object
-        handle.new.object about.old about.new report.new }
+        → IsRefused (WhyHeld handle.old.held (CannotPass Calls CannotLink)) result handle.old.held
+        handle.new.held about.old about.new report.new }
 {
-    let Some(mut object) = handle.take(alloc) else {
+    let Some(mut held) = handle.take(alloc) else {
         return tell(&Refusal::plain(CLOSED), about, report);
     };
-    let answer = link_programs(alloc, &mut object);
-    handle.put(alloc, object);
+    let answer = pass_calls(alloc, &mut held);
+    handle.put(alloc, held);
     reported_number(answer, about, report)
 }
 
@@ -111,17 +130,17 @@ pub fn references_of(
     Ok(list_references(alloc, map.references.as_slice())?)
 }
 
-/// Lists what the program with a name is made of once it is linked: a row for each copy of a function, in their order, the
-/// program's own at slot 0, and then each function that its references reach; and the functions' names in `text`, a zero
-/// byte behind each. Nothing is linked, and the handle holds what it held.
+/// Lists what the program with a name is made of once it is linked: a row for each copy of a function, in their order,
+/// the program's own at slot 0, and then each function that its references reach; and the functions' names in `text`, a
+/// zero byte behind each. Nothing is linked, and the handle holds what it held.
 ///
 /// # Answers
 ///
-/// 0; 1 where not all fits; 2; 3 where the handle is closed; 4 where no program has the name; 600 to 611 where the program
-/// can't be linked, about it, as `ebpf_relocate_calls` refuses it. The buffers are then as they were, and `counts` too but
-/// for 1.
+/// 0; 1 where not all fits; 2; 3 where the handle is closed; 4 where no program has the name; 600 to 611 where the
+/// program can't be linked, about it, as `ebpf_relocate_calls` refuses it. The buffers are then as they were, and
+/// `counts` too but for 1.
 #[unsafe(no_mangle)]
-pub extern "C" fn ebpf_link_map(
+pub extern "C" fn exact_ebpf_link_map(
     alloc: Global,
     handle: &mut ebpf_handle,
     name: &[u8],
@@ -131,31 +150,32 @@ pub extern "C" fn ebpf_link_map(
     about: &mut [u8],
     report: &mut ebpf_refusal,
 ) -> u32
-    ensures stays { handle.new.object ≡ handle.old.object }
+    ensures stays { handle.new.held ≡ handle.old.held }
     ensures listed { (found : Result (Listed ebpf_code_copy) Refusal)
-        × FindsHeld (IsCopyList name.now) (CannotMap name.now) handle.old.object found
+        × FindsHeld (IsCopyList name.now) (CannotMap name.now) (object_in handle.old.held) found
         × LeavesListing found result rows.old rows.new text.old text.new counts.old counts.new
         about.old about.new report.old report.new }
 {
-    let Some(object) = handle.take(alloc) else {
+    let Some(held) = handle.take(alloc) else {
         let closed = Err(Refusal::plain(CLOSED));
         return tell_listing(closed, rows, text, counts, about, report);
     };
-    let found = copies_of(alloc, &object, name);
-    handle.put(alloc, object);
+    let found = copies_of(alloc, &held.object, name);
+    handle.put(alloc, held);
     tell_listing(found, rows, text, counts, about, report)
 }
 
-/// Lists the slots of the linked program with a name that refer to its copies, in their order: a row for each, which says
-/// at which slot the copy begins that it refers to; and how many they are. Nothing is linked, and the handle holds what it
-/// held.
+/// Lists the slots of the linked program with a name that refer to its copies, in their order: a row for each, which
+/// says at which slot the copy begins that it refers to; and how many they are. Nothing is linked, and the handle holds
+/// what it held.
 ///
 /// # Answers
 ///
-/// 0; 1 where they don't fit; 2; 3 where the handle is closed; 4 where no program has the name; 600 to 611 where the program
-/// can't be linked, about it, as `ebpf_relocate_calls` refuses it. The buffer is then as it was, and `count` too but for 1.
+/// 0; 1 where they don't fit; 2; 3 where the handle is closed; 4 where no program has the name; 600 to 611 where the
+/// program can't be linked, about it, as `ebpf_relocate_calls` refuses it. The buffer is then as it was, and `count`
+/// too but for 1.
 #[unsafe(no_mangle)]
-pub extern "C" fn ebpf_link_references(
+pub extern "C" fn exact_ebpf_link_references(
     alloc: Global,
     handle: &mut ebpf_handle,
     name: &[u8],
@@ -164,17 +184,18 @@ pub extern "C" fn ebpf_link_references(
     about: &mut [u8],
     report: &mut ebpf_refusal,
 ) -> u32
-    ensures stays { handle.new.object ≡ handle.old.object }
+    ensures stays { handle.new.held ≡ handle.old.held }
     ensures listed { (found : Result (List ebpf_code_reference) Refusal)
-        × FindsHeld (IsReferenceList name.now) (CannotMap name.now) handle.old.object found
+        × FindsHeld (IsReferenceList name.now) (CannotMap name.now) (object_in handle.old.held)
+        found
         × LeavesList found result rows.old rows.new count.old count.new about.old about.new
         report.old report.new }
 {
-    let Some(object) = handle.take(alloc) else {
+    let Some(held) = handle.take(alloc) else {
         let closed = Err(Refusal::plain(CLOSED));
         return tell_items(closed, rows, count, about, report);
     };
-    let found = references_of(alloc, &object, name);
-    handle.put(alloc, object);
+    let found = references_of(alloc, &held.object, name);
+    handle.put(alloc, held);
     tell_items(found, rows, count, about, report)
 }

@@ -1,6 +1,7 @@
 //! Lists of what an object has, its rows by their names, and what the records of .BTF.ext are.
 
 ghost use Rattle.std.specs.Prelude.{◌≡◌, Ok, MatchResult, Result, IfOk};
+ghost use Rattle.capi_exports.specs.PassOrder.{object_in};
 ghost use Rattle.capi_rows.specs.Answers.{FillsListing, or_memory, Listed, told_listing, LeavesListing};
 ghost use Rattle.capi_rows.specs.declared.refusal.Refusal.{Refusal};
 ghost use Rattle.capi_rows.specs.Handles.{FindsHeld};
@@ -39,58 +40,73 @@ fn write_programs(
     write_all(alloc, object, &object.programs, rows, text, counts)
 }
 
-/// Lists the programs of an object: a row each in byte order of their names, and the names in `text`, a zero byte behind
-/// each. Where loaders know the name of its section, that says how a program is loaded, else its kind does.
+/// Lists the programs of an object: a row each in byte order of their names, and the names in `text`, a zero byte
+/// behind each. Where loaders know the name of its section, that says how a program is loaded, else its kind does.
 ///
 /// # Answers
 ///
 /// 0; 1 where not all fits; 2; 3. The buffers are then as they were, and `counts` too but for 1.
 #[unsafe(no_mangle)]
-pub extern "C" fn ebpf_programs(
+pub extern "C" fn exact_ebpf_programs(
     alloc: Global,
     handle: &mut ebpf_handle,
     rows: &mut [ebpf_program],
     text: &mut [u8],
     counts: &mut ebpf_counts,
 ) -> u32
-    ensures stays { handle.new.object ≡ handle.old.object }
+    ensures stays { handle.new.held ≡ handle.old.held }
     ensures fills { FillsListing
-        (or_memory result (of_open (λ o. Ok (program_list o)) handle.old.object)) result
+        (of_open (λ o. or_memory result (Ok (program_list o))) (object_in handle.old.held)) result
         rows.old rows.new text.old text.new counts.old counts.new }
 {
-    let Some(object) = handle.take(alloc) else {
+    let Some(held) = handle.take(alloc) else {
         return CLOSED;
     };
-    let number = write_programs(alloc, &object, rows, text, counts);
-    handle.put(alloc, object);
+    let number = write_programs(alloc, &held.object, rows, text, counts);
+    handle.put(alloc, held);
     number
 }
 
+/// Lists the maps of an object, as `ebpf_maps` does.
+fn write_maps(
+    alloc: Global,
+    object: &Object,
+    rows: &mut [ebpf_map],
+    text: &mut [u8],
+    counts: &mut ebpf_counts,
+) -> u32
+    ensures { FillsListing (or_memory result (Ok (map_list object.now))) result rows.old rows.new
+        text.old text.new counts.old counts.new }
+{
+    write_all(alloc, &object.btf, &object.maps, rows, text, counts)
+}
+
 /// Lists the maps of an object: a row each in byte order of their names, and the names in `text`, a zero byte behind
-/// each. The ids of types are those that a map is created with (`ebpf_load_info::map_types`), an inner map's by the same
-/// types; 0 where the object has none.
+/// each. The ids of types are those that a map is created with (`ebpf_load_info::map_types`), an inner map's by the
+/// same types; 0 where the object has none.
 ///
 /// # Answers
 ///
 /// 0; 1 where not all fits; 2; 3. The buffers are then as they were, and `counts` too but for 1.
 #[unsafe(no_mangle)]
-pub extern "C" fn ebpf_maps(
+pub extern "C" fn exact_ebpf_maps(
     alloc: Global,
     handle: &mut ebpf_handle,
     rows: &mut [ebpf_map],
     text: &mut [u8],
     counts: &mut ebpf_counts,
 ) -> u32
-    ensures stays { handle.new.object ≡ handle.old.object }
+    ensures stays { handle.new.held ≡ handle.old.held }
     ensures fills { FillsListing
-        (or_memory result (of_open (λ o. Ok (map_list o)) handle.old.object)) result rows.old
+        (of_open (λ o. or_memory result (Ok (map_list o))) (object_in handle.old.held)) result
+        rows.old
         rows.new text.old text.new counts.old counts.new }
 {
-    let Some(object) = handle.take(alloc) else {
+    let Some(held) = handle.take(alloc) else {
         return CLOSED;
     };
-    let number = write_all(alloc, &object.btf, &object.maps, rows, text, counts);
-    handle.put(alloc, object);
+    let number = write_maps(alloc, &held.object, rows, text, counts);
+    handle.put(alloc, held);
     number
 }
 
@@ -101,23 +117,24 @@ pub extern "C" fn ebpf_maps(
 ///
 /// 0; 1 where not all fits; 2; 3. The buffers are then as they were, and `counts` too but for 1.
 #[unsafe(no_mangle)]
-pub extern "C" fn ebpf_externs(
+pub extern "C" fn exact_ebpf_externs(
     alloc: Global,
     handle: &mut ebpf_handle,
     rows: &mut [ebpf_extern],
     text: &mut [u8],
     counts: &mut ebpf_counts,
 ) -> u32
-    ensures stays { handle.new.object ≡ handle.old.object }
+    ensures stays { handle.new.held ≡ handle.old.held }
     ensures fills { FillsListing
-        (or_memory result (of_open (λ o. Ok (extern_list o)) handle.old.object)) result rows.old
+        (of_open (λ o. or_memory result (Ok (extern_list o))) (object_in handle.old.held)) result
+        rows.old
         rows.new text.old text.new counts.old counts.new }
 {
-    let Some(object) = handle.take(alloc) else {
+    let Some(held) = handle.take(alloc) else {
         return CLOSED;
     };
-    let number = write_all(alloc, &(), &object.externs, rows, text, counts);
-    handle.put(alloc, object);
+    let number = write_all(alloc, &(), &held.object.externs, rows, text, counts);
+    handle.put(alloc, held);
     number
 }
 
@@ -128,23 +145,23 @@ pub extern "C" fn ebpf_externs(
 ///
 /// 0; 1 where not all fits; 2; 3. The buffers are then as they were, and `counts` too but for 1.
 #[unsafe(no_mangle)]
-pub extern "C" fn ebpf_sections(
+pub extern "C" fn exact_ebpf_sections(
     alloc: Global,
     handle: &mut ebpf_handle,
     rows: &mut [ebpf_section],
     text: &mut [u8],
     counts: &mut ebpf_counts,
 ) -> u32
-    ensures stays { handle.new.object ≡ handle.old.object }
+    ensures stays { handle.new.held ≡ handle.old.held }
     ensures fills { FillsListing
-        (or_memory result (of_open (λ o. Ok (section_list o)) handle.old.object)) result
+        (of_open (λ o. or_memory result (Ok (section_list o))) (object_in handle.old.held)) result
         rows.old rows.new text.old text.new counts.old counts.new }
 {
-    let Some(object) = handle.take(alloc) else {
+    let Some(held) = handle.take(alloc) else {
         return CLOSED;
     };
-    let number = write_all(alloc, &(), &object.section_infos, rows, text, counts);
-    handle.put(alloc, object);
+    let number = write_all(alloc, &(), &held.object.section_infos, rows, text, counts);
+    handle.put(alloc, held);
     number
 }
 
@@ -164,17 +181,17 @@ fn list_initial_slots(
     Ok(list_all(alloc, &(), slots.as_slice())?)
 }
 
-/// Lists the initial values of an object's maps of maps and arrays of programs: a row each by the maps' names in byte order,
-/// then by index; in `text` the name of each row's map and then that of what stands there, a zero byte behind each. `file`
-/// are the bytes that the object was opened from.
+/// Lists the initial values of an object's maps of maps and arrays of programs: a row each by the maps' names in byte
+/// order, then by index; in `text` the name of each row's map and then that of what stands there, a zero byte behind
+/// each. `file` are the bytes that the object was opened from.
 ///
 /// # Answers
 ///
 /// 0; 1 where not all fits; 2; 3 where the handle is closed; 800 to 809 where the bytes are no file; 820 to 830 for the
-/// first relocation that can't be told, from 822 on about its map. The buffers are then as they were, and `counts` too but
-/// for 1.
+/// first relocation that can't be told, from 822 on about its map. The buffers are then as they were, and `counts` too
+/// but for 1.
 #[unsafe(no_mangle)]
-pub extern "C" fn ebpf_initial_slots(
+pub extern "C" fn exact_ebpf_initial_slots(
     alloc: Global,
     file: &[u8],
     handle: &mut ebpf_handle,
@@ -184,18 +201,19 @@ pub extern "C" fn ebpf_initial_slots(
     about: &mut [u8],
     report: &mut ebpf_refusal,
 ) -> u32
-    ensures stays { handle.new.object ≡ handle.old.object }
+    ensures stays { handle.new.held ≡ handle.old.held }
     ensures listed { (found : Result (Listed ebpf_initial_slot) Refusal)
-        × FindsHeld (IsSlotList file.now) (CannotListSlots file.now) handle.old.object found
+        × FindsHeld (IsSlotList file.now) (CannotListSlots file.now) (object_in handle.old.held)
+        found
         × LeavesListing found result rows.old rows.new text.old text.new counts.old counts.new
         about.old about.new report.old report.new }
 {
-    let Some(object) = handle.take(alloc) else {
+    let Some(held) = handle.take(alloc) else {
         let closed = Err(Refusal::plain(CLOSED));
         return tell_listing(closed, rows, text, counts, about, report);
     };
-    let found = list_initial_slots(alloc, file, &object);
-    handle.put(alloc, object);
+    let found = list_initial_slots(alloc, file, &held.object);
+    handle.put(alloc, held);
     tell_listing(found, rows, text, counts, about, report)
 }
 
@@ -205,21 +223,23 @@ pub extern "C" fn ebpf_initial_slots(
 ///
 /// 0; 3 where the handle is closed; 5 where no map has the name. The row is then as it was.
 #[unsafe(no_mangle)]
-pub extern "C" fn ebpf_find_map(
+pub extern "C" fn exact_ebpf_find_map(
     alloc: Global,
     handle: &mut ebpf_handle,
     name: &[u8],
     row: &mut ebpf_map,
 ) -> u32
-    ensures stays { handle.new.object ≡ handle.old.object }
-    ensures answer { result ≡ answer_row (of_open (map_named name.now) handle.old.object) }
-    ensures row { row.new ≡ row_after (of_open (map_named name.now) handle.old.object) row.old }
+    ensures stays { handle.new.held ≡ handle.old.held }
+    ensures answer { result
+        ≡ answer_row (of_open (map_named name.now) (object_in handle.old.held)) }
+    ensures row { row.new
+        ≡ row_after (of_open (map_named name.now) (object_in handle.old.held)) row.old }
 {
-    let Some(object) = handle.take(alloc) else {
+    let Some(held) = handle.take(alloc) else {
         return CLOSED;
     };
-    let number = write_row(map_named(&object, name), row);
-    handle.put(alloc, object);
+    let number = write_row(map_named(&held.object, name), row);
+    handle.put(alloc, held);
     number
 }
 
@@ -229,21 +249,23 @@ pub extern "C" fn ebpf_find_map(
 ///
 /// 0; 3 where the handle is closed; 4 where no program has the name. The row is then as it was.
 #[unsafe(no_mangle)]
-pub extern "C" fn ebpf_find_program(
+pub extern "C" fn exact_ebpf_find_program(
     alloc: Global,
     handle: &mut ebpf_handle,
     name: &[u8],
     row: &mut ebpf_program,
 ) -> u32
-    ensures stays { handle.new.object ≡ handle.old.object }
-    ensures answer { result ≡ answer_row (of_open (program_named name.now) handle.old.object) }
-    ensures row { row.new ≡ row_after (of_open (program_named name.now) handle.old.object) row.old }
+    ensures stays { handle.new.held ≡ handle.old.held }
+    ensures answer { result
+        ≡ answer_row (of_open (program_named name.now) (object_in handle.old.held)) }
+    ensures row { row.new
+        ≡ row_after (of_open (program_named name.now) (object_in handle.old.held)) row.old }
 {
-    let Some(object) = handle.take(alloc) else {
+    let Some(held) = handle.take(alloc) else {
         return CLOSED;
     };
-    let number = write_row(program_named(&object, name), row);
-    handle.put(alloc, object);
+    let number = write_row(program_named(&held.object, name), row);
+    handle.put(alloc, held);
     number
 }
 
@@ -273,16 +295,17 @@ fn rows_over_bytes(
     Ok(rows_over(alloc, object, &target)?)
 }
 
-/// Lists what each CO-RE record of an object comes to over a kernel's types, which are raw BTF in the byte order that its
-/// magic number tells: a row each, section by section and in order, also behind one that is refused; and the names of their
-/// sections in `text`, a zero byte behind each. The object stays. Without types or records of its own it has no rows.
+/// Lists what each CO-RE record of an object comes to over a kernel's types, which are raw BTF in the byte order that
+/// its magic number tells: a row each, section by section and in order, also behind one that is refused; and the names
+/// of their sections in `text`, a zero byte behind each. The object stays. Without types or records of its own it has
+/// no rows.
 ///
 /// # Answers
 ///
-/// 0; 1 where not all fits; 2; 3 where the handle is closed; 200 to 214 where the types can't be read. The buffers are then
-/// as they were, and `counts` too but for 1.
+/// 0; 1 where not all fits; 2; 3 where the handle is closed; 200 to 214 where the types can't be read. The buffers are
+/// then as they were, and `counts` too but for 1.
 #[unsafe(no_mangle)]
-pub extern "C" fn ebpf_record_outcomes(
+pub extern "C" fn exact_ebpf_record_outcomes(
     alloc: Global,
     handle: &mut ebpf_handle,
     types: &[u8],
@@ -292,17 +315,18 @@ pub extern "C" fn ebpf_record_outcomes(
     about: &mut [u8],
     report: &mut ebpf_refusal,
 ) -> u32
-    ensures stays { handle.new.object ≡ handle.old.object }
+    ensures stays { handle.new.held ≡ handle.old.held }
     ensures listed { (found : Result (Listed ebpf_record_outcome) Refusal)
-        × FindsHeld (IsOutcomeList types.now) (CannotListOutcomes types.now) handle.old.object found
+        × FindsHeld (IsOutcomeList types.now) (CannotListOutcomes types.now)
+        (object_in handle.old.held) found
         × LeavesListing found result rows.old rows.new text.old text.new counts.old counts.new
         about.old about.new report.old report.new }
 {
-    let Some(object) = handle.take(alloc) else {
+    let Some(held) = handle.take(alloc) else {
         let closed = Err(Refusal::plain(CLOSED));
         return tell_listing(closed, rows, text, counts, about, report);
     };
-    let found = rows_over_bytes(alloc, types, &object);
-    handle.put(alloc, object);
+    let found = rows_over_bytes(alloc, types, &held.object);
+    handle.put(alloc, held);
     tell_listing(found, rows, text, counts, about, report)
 }

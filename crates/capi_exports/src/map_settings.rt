@@ -1,12 +1,14 @@
 //! Sizes and data of maps, and values of many variables, set before the maps are made.
 
 ghost use Rattle.std.specs.Prelude.{◌≡◌, ◌⊎◌, None, ◌<◌, OnOk, OnErr, IfErr};
-ghost use Rattle.capi_exports.specs.Settings.{HasSet, LacksMap, replaced, with_setting, has_other_length, IsDataSet, IsDataSetOf};
+ghost use Rattle.capi_exports.specs.PassOrder.{CannotSet, HasSetting, OfHandle, Sets};
+ghost use Rattle.capi_exports.specs.Settings.{IsDataSet, SetsData, SetsMap, has_other_length, replaced, with_setting};
 ghost use Rattle.ebpf_parts.specs.Maps.{with_max_entries, with_value_size};
 ghost use Rattle.capi_rows.specs.Handles.{Changes, IsRefused, WhyHeld, IsSet};
 ghost use Rattle.capi_rows.specs.Variables.{CannotPatchAll, HasPatchedAll};
 
 use crate::handle::ebpf_handle;
+use crate::held::{Held, fault_of_setting};
 use capi_rows::codes::{BAD_NAME, BAD_VALUE, CLOSED, DONE, MEMORY, NO_MAP, WRONG_LENGTH};
 use capi_rows::entries::value_by_bytes;
 use capi_rows::faults::parse_refusal;
@@ -62,30 +64,37 @@ pub fn set_map(maps: &mut ByName<Map>, name: &[u8], setting: Setting<'_>) -> u32
     DONE
 }
 
+/// Sets what is said of the map of a name of what a handle holds.
+fn set_held(held: &mut Held, name: &[u8], setting: Setting<'_>) -> u32
+    ensures { Sets (SetsMap (with_setting setting.entry) name.now) held.old result held.new }
+{
+    if let Some(number) = fault_of_setting(held.last) {
+        return number;
+    }
+    set_map(&mut held.object.maps, name, setting)
+}
+
 /// Sets how many entries a map of what a handle holds takes at most.
 ///
 /// # Answers
 ///
-/// 0; 3 where the handle is closed; 5 where no map has the name. What the handle holds is then as it was.
+/// 0; 3 where the handle is closed; 12 where a pass was made; 5 where no map has the name. What the handle holds is
+/// then as it was.
 #[unsafe(no_mangle)]
-pub extern "C" fn ebpf_set_max_entries(
+pub extern "C" fn exact_ebpf_set_max_entries(
     alloc: Global,
     handle: &mut ebpf_handle,
     name: &[u8],
     entries: u32,
 ) -> u32
-    ensures set { result ≡ DONE
-        → Changes (HasSet (λ m. with_max_entries m entries) name.now) handle.old.object
-        handle.new.object }
-    ensures refused { ¬ (result ≡ DONE) → handle.new.object ≡ handle.old.object }
-    ensures why { (result ≡ DONE) ⊎ ((result ≡ CLOSED) × (handle.old.object ≡ None)) ⊎
-        ((result ≡ NO_MAP) × LacksMap name.now handle.old.object) }
+    ensures { OfHandle (Sets (SetsMap (λ m. with_max_entries m entries) name.now)) handle.old.held
+        result handle.new.held }
 {
-    let Some(mut object) = handle.take(alloc) else {
+    let Some(mut held) = handle.take(alloc) else {
         return CLOSED;
     };
-    let number = set_map(&mut object.maps, name, Setting::MaxEntries(entries));
-    handle.put(alloc, object);
+    let number = set_held(&mut held, name, Setting::MaxEntries(entries));
+    handle.put(alloc, held);
     number
 }
 
@@ -93,26 +102,23 @@ pub extern "C" fn ebpf_set_max_entries(
 ///
 /// # Answers
 ///
-/// 0; 3 where the handle is closed; 5 where no map has the name. What the handle holds is then as it was.
+/// 0; 3 where the handle is closed; 12 where a pass was made; 5 where no map has the name. What the handle holds is
+/// then as it was.
 #[unsafe(no_mangle)]
-pub extern "C" fn ebpf_set_value_size(
+pub extern "C" fn exact_ebpf_set_value_size(
     alloc: Global,
     handle: &mut ebpf_handle,
     name: &[u8],
     size: u32,
 ) -> u32
-    ensures set { result ≡ DONE
-        → Changes (HasSet (λ m. with_value_size m size) name.now) handle.old.object
-        handle.new.object }
-    ensures refused { ¬ (result ≡ DONE) → handle.new.object ≡ handle.old.object }
-    ensures why { (result ≡ DONE) ⊎ ((result ≡ CLOSED) × (handle.old.object ≡ None)) ⊎
-        ((result ≡ NO_MAP) × LacksMap name.now handle.old.object) }
+    ensures { OfHandle (Sets (SetsMap (λ m. with_value_size m size) name.now)) handle.old.held
+        result handle.new.held }
 {
-    let Some(mut object) = handle.take(alloc) else {
+    let Some(mut held) = handle.take(alloc) else {
         return CLOSED;
     };
-    let number = set_map(&mut object.maps, name, Setting::ValueSize(size));
-    handle.put(alloc, object);
+    let number = set_held(&mut held, name, Setting::ValueSize(size));
+    handle.put(alloc, held);
     number
 }
 
@@ -136,26 +142,37 @@ fn set_data(maps: &mut ByName<Map>, name: &[u8], bytes: &[u8]) -> u32
     set_map(maps, name, Setting::Data(bytes))
 }
 
+/// Sets the data of the map of a name of what a handle holds.
+fn set_held_data(held: &mut Held, name: &[u8], bytes: &[u8]) -> u32
+    ensures { Sets (SetsData bytes.now name.now) held.old result held.new }
+{
+    if let Some(number) = fault_of_setting(held.last) {
+        return number;
+    }
+    set_data(&mut held.object.maps, name, bytes)
+}
+
 /// Sets all of the initial data of a map of what a handle holds. It has as many bytes as before.
 ///
 /// # Answers
 ///
-/// 0; 3 where the handle is closed; 5 where no map has the name; 9 where its data has another length. What the handle holds
-/// is then as it was.
+/// 0; 3 where the handle is closed; 12 where a pass was made; 5 where no map has the name; 9 where its data has another
+/// length. What the handle holds is then as it was.
 #[unsafe(no_mangle)]
-pub extern "C" fn ebpf_set_map_data(
+pub extern "C" fn exact_ebpf_set_map_data(
     alloc: Global,
     handle: &mut ebpf_handle,
     name: &[u8],
     bytes: &[u8],
 ) -> u32
-    ensures { IsDataSetOf bytes.now name.now handle.old.object result handle.new.object }
+    ensures { OfHandle (Sets (SetsData bytes.now name.now)) handle.old.held result
+        handle.new.held }
 {
-    let Some(mut object) = handle.take(alloc) else {
+    let Some(mut held) = handle.take(alloc) else {
         return CLOSED;
     };
-    let number = set_data(&mut object.maps, name, bytes);
-    handle.put(alloc, object);
+    let number = set_held_data(&mut held, name, bytes);
+    handle.put(alloc, held);
     number
 }
 
@@ -185,6 +202,26 @@ fn set_values(
     }
 }
 
+/// Sets the values of variables, before a pass.
+fn set_held_values(
+    alloc: Global,
+    held: &mut Held,
+    rows: &[ebpf_value],
+    text: &[u8],
+    bytes: &[u8],
+) -> Result<(), Refusal>
+    ensures ok { OnOk result
+        (HasSetting (HasPatchedAll rows.now text.now bytes.now) held.old held.new) }
+    ensures unchanged { OnErr result (held.new ≡ held.old) }
+    ensures why { IfErr result (CannotSet (CannotPatchAll rows.now text.now bytes.now) held.old) }
+    ensures refuses { IfErr result (λ r. 0 < r.number) }
+{
+    if let Some(number) = fault_of_setting(held.last) {
+        return Err(Refusal::plain(number));
+    }
+    set_values(alloc, &mut held.object, rows, text, bytes)
+}
+
 /// Writes the values of variables into the data of the maps that hold them. Each row says where its variable's name
 /// stands in `text`, and where its value stands in `bytes`. Of rows of one name the last one counts. The values are
 /// written in byte order of the names, later ones over earlier ones. Of symbols with a name the one with the greatest
@@ -193,11 +230,11 @@ fn set_values(
 ///
 /// # Answers
 ///
-/// 0; 2; 3 where the handle is closed; then 6 where a row's name is not inside the text or is no text; then 7 where a
-/// row's value is not inside the bytes; then 150 to 152 for the first fault in byte order of the names, about the
-/// variable. What the handle holds is then as it was.
+/// 0; 2; 3 where the handle is closed; then 12 where a pass was made; then 6 where a row's name is not inside the text
+/// or is no text; then 7 where a row's value is not inside the bytes; then 150 to 152 for the first fault in byte order
+/// of the names, about the variable. What the handle holds is then as it was.
 #[unsafe(no_mangle)]
-pub extern "C" fn ebpf_set_values(
+pub extern "C" fn exact_ebpf_set_values(
     alloc: Global,
     handle: &mut ebpf_handle,
     rows: &[ebpf_value],
@@ -207,16 +244,18 @@ pub extern "C" fn ebpf_set_values(
     report: &mut ebpf_refusal,
 ) -> u32
     ensures patched { result ≡ DONE
-        → Changes (HasPatchedAll rows.now text.now bytes.now) handle.old.object handle.new.object }
+        → Changes (HasSetting (HasPatchedAll rows.now text.now bytes.now)) handle.old.held
+        handle.new.held }
     ensures quiet { result ≡ DONE → (about.new ≡ about.old) × (report.new ≡ report.old) }
     ensures refused { ¬ (result ≡ DONE)
-        → IsRefused (WhyHeld handle.old.object (CannotPatchAll rows.now text.now bytes.now)) result
-        handle.old.object handle.new.object about.old about.new report.new }
+        → IsRefused (WhyHeld handle.old.held (CannotSet (CannotPatchAll rows.now text.now
+        bytes.now))) result
+        handle.old.held handle.new.held about.old about.new report.new }
 {
-    let Some(mut object) = handle.take(alloc) else {
+    let Some(mut held) = handle.take(alloc) else {
         return tell(&Refusal::plain(CLOSED), about, report);
     };
-    let answer = set_values(alloc, &mut object, rows, text, bytes);
-    handle.put(alloc, object);
+    let answer = set_held_values(alloc, &mut held, rows, text, bytes);
+    handle.put(alloc, held);
     reported_number(answer, about, report)
 }

@@ -22,14 +22,14 @@ fn write_both(first: &[u8], second: &[u8], out: &mut [u8], count: &mut usize) ->
     DONE
 }
 
-/// Writes the name of a number, as `parse: BadMagic`: the stage and the fault. Each number of a stage and a fault that can
-/// be its has one, whether a call answers it or not; of every other number it is empty.
+/// Writes the name of a number, as `parse: BadMagic`: the stage and the fault. Each number of a stage and a fault that
+/// can be its has one, whether a call answers it or not; of every other number it is empty.
 ///
 /// # Answers
 ///
 /// 0; 1 where it doesn't fit.
 #[unsafe(no_mangle)]
-pub extern "C" fn ebpf_number_name(number: u32, text: &mut [u8], len: &mut usize) -> u32
+pub extern "C" fn exact_ebpf_number_name(number: u32, text: &mut [u8], len: &mut usize) -> u32
     ensures { (name : List ℕ) × FillsList (Ok name) result text.old text.new len.old len.new }
 {
     let (stage, fault) = name_of(number);

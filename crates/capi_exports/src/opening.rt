@@ -2,12 +2,14 @@
 
 ghost use Rattle.std.specs.Prelude.{◌≡◌, ◌⊎◌, ◌<◌, IfOk, IfErr, None, Some, MatchOption};
 ghost use Rattle.capi_rows.specs.Handles.{IsRefused};
+ghost use Rattle.capi_exports.specs.PassOrder.{opened};
 ghost use Rattle.capi_exports.specs.Handles.{CannotOpen, CannotOpenWithin, parse_mode_of};
 ghost use Rattle.ebpf_object.specs.Objects.{object_as, object_of, parse_fault, parse_fault_as};
 ghost use Rattle.ebpf_parts.specs.declared.parse_mode.ParseMode.TheVariants.{Lenient, Strict};
 ghost use Rattle.ebpf_limits.specs.Within.{within_fault};
 
 use crate::handle::ebpf_handle;
+use crate::held::Held;
 use capi_rows::codes::{CLOSED, DONE, MEMORY};
 use capi_rows::faults::parse_refusal;
 use capi_rows::refusal::{Refusal, ebpf_refusal, tell};
@@ -17,14 +19,14 @@ use ebpf_object::obj::ParseMode;
 use std::alloc::{AllocError, Global};
 
 /// The object of a file by a reading, in a box.
-fn open_object(alloc: Global, file: &[u8], mode: ParseMode) -> Result<Box<Object>, Refusal>
-    ensures object { IfOk result (λ b. b.value ≡ object_as mode file.now) }
+fn open_object(alloc: Global, file: &[u8], mode: ParseMode) -> Result<Box<Held>, Refusal>
+    ensures object { IfOk result (λ b. b.value ≡ opened (object_as mode file.now)) }
     ensures sound { IfOk result (λ _. parse_fault_as mode file.now ≡ None) }
     ensures why { IfErr result (CannotOpen mode file.now) }
     ensures refuses { IfErr result (λ r. 0 < r.number) }
 {
     match Object::parse_as(alloc, file, mode) {
-        Ok(object) => Ok(Box::new(alloc, object)?),
+        Ok(object) => Ok(Box::new(alloc, Held { object, last: None })?),
         Err(error) => Err(parse_refusal(error)),
     }
 }
@@ -39,16 +41,16 @@ fn open(
     report: &mut ebpf_refusal,
 ) -> u32
     ensures opened { result ≡ DONE
-        → (handle.new.object ≡ Some (object_as mode file.now))
+        → (handle.new.held ≡ Some (opened (object_as mode file.now)))
         × (parse_fault_as mode file.now ≡ None) }
     ensures quiet { result ≡ DONE → (about.new ≡ about.old) × (report.new ≡ report.old) }
     ensures refused { ¬ (result ≡ DONE)
-        → IsRefused (CannotOpen mode file.now) result handle.old.object handle.new.object about.old
+        → IsRefused (CannotOpen mode file.now) result handle.old.held handle.new.held about.old
         about.new report.new }
 {
     match open_object(alloc, file, mode) {
-        Ok(object) => {
-            handle.put(alloc, object);
+        Ok(held) => {
+            handle.put(alloc, held);
             DONE
         }
         Err(refusal) => tell(&refusal, about, report),
@@ -61,7 +63,7 @@ fn open(
 ///
 /// 0; 2, and 100 to 199 for the fault of the file. The handle is then as it was.
 #[unsafe(no_mangle)]
-pub extern "C" fn ebpf_open(
+pub extern "C" fn exact_ebpf_open(
     alloc: Global,
     file: &[u8],
     handle: &mut ebpf_handle,
@@ -69,23 +71,23 @@ pub extern "C" fn ebpf_open(
     report: &mut ebpf_refusal,
 ) -> u32
     ensures opened { result ≡ DONE
-        → (handle.new.object ≡ Some (object_of file.now)) × (parse_fault file.now ≡ None) }
+        → (handle.new.held ≡ Some (opened (object_of file.now))) × (parse_fault file.now ≡ None) }
     ensures quiet { result ≡ DONE → (about.new ≡ about.old) × (report.new ≡ report.old) }
     ensures refused { ¬ (result ≡ DONE)
-        → IsRefused (CannotOpen Strict file.now) result handle.old.object handle.new.object
+        → IsRefused (CannotOpen Strict file.now) result handle.old.held handle.new.held
         about.old about.new report.new }
 {
     open(alloc, file, ParseMode::Strict, handle, about, report)
 }
 
-/// Opens the object of a file that is read broadly, where every section of code is a program's, whatever its name. What the
-/// handle held before is closed.
+/// Opens the object of a file that is read broadly, where every section of code is a program's, whatever its name. What
+/// the handle held before is closed.
 ///
 /// # Answers
 ///
 /// 0; 2, and 100 to 199 for the fault of the file. The handle is then as it was.
 #[unsafe(no_mangle)]
-pub extern "C" fn ebpf_open_broad(
+pub extern "C" fn exact_ebpf_open_broad(
     alloc: Global,
     file: &[u8],
     handle: &mut ebpf_handle,
@@ -93,21 +95,28 @@ pub extern "C" fn ebpf_open_broad(
     report: &mut ebpf_refusal,
 ) -> u32
     ensures opened { result ≡ DONE
-        → (handle.new.object ≡ Some (object_as Lenient file.now))
+        → (handle.new.held ≡ Some (opened (object_as Lenient file.now)))
         × (parse_fault_as Lenient file.now ≡ None) }
     ensures quiet { result ≡ DONE → (about.new ≡ about.old) × (report.new ≡ report.old) }
     ensures refused { ¬ (result ≡ DONE)
-        → IsRefused (CannotOpen Lenient file.now) result handle.old.object handle.new.object
+        → IsRefused (CannotOpen Lenient file.now) result handle.old.held handle.new.held
         about.old about.new report.new }
 {
     open(alloc, file, ParseMode::Lenient, handle, about, report)
 }
 
-/// A copy of an object, in a box of its own.
-fn copy_of(object: &Box<Object>) -> Result<Box<Object>, AllocError>
-    ensures { IfOk result (λ copy. copy.value ≡ object.now.value) }
+/// A copy of what a handle holds, in a box of its own.
+fn copy_of(alloc: Global, held: &Held) -> Result<Box<Held>, AllocError>
+    ensures { IfOk result (λ copy. copy.value ≡ held.now) }
 {
-    object.clone()
+    let object = held.object.clone()?;
+    Ok(Box::new(
+        alloc,
+        Held {
+            object,
+            last: held.last,
+        },
+    )?)
 }
 
 /// Makes `copy` hold a copy of what `handle` holds. What `copy` held before is closed.
@@ -116,21 +125,25 @@ fn copy_of(object: &Box<Object>) -> Result<Box<Object>, AllocError>
 ///
 /// 0; 2; 3 where `handle` is closed. `copy` is then as it was.
 #[unsafe(no_mangle)]
-pub extern "C" fn ebpf_clone(alloc: Global, handle: &mut ebpf_handle, copy: &mut ebpf_handle) -> u32
-    ensures stays { handle.new.object ≡ handle.old.object }
-    ensures copied { result ≡ DONE → copy.new.object ≡ handle.old.object }
-    ensures refused { ¬ (result ≡ DONE) → copy.new.object ≡ copy.old.object }
-    ensures why { MatchOption handle.old.object (result ≡ CLOSED) (λ _.
+pub extern "C" fn exact_ebpf_clone(
+    alloc: Global,
+    handle: &mut ebpf_handle,
+    copy: &mut ebpf_handle,
+) -> u32
+    ensures stays { handle.new.held ≡ handle.old.held }
+    ensures copied { result ≡ DONE → copy.new.held ≡ handle.old.held }
+    ensures refused { ¬ (result ≡ DONE) → copy.new.held ≡ copy.old.held }
+    ensures why { MatchOption handle.old.held (result ≡ CLOSED) (λ _.
         (result ≡ DONE) ⊎ (result ≡ MEMORY)) }
 {
-    let Some(object) = handle.take(alloc) else {
+    let Some(held) = handle.take(alloc) else {
         return CLOSED;
     };
-    let copied = copy_of(&object);
-    handle.put(alloc, object);
+    let copied = copy_of(alloc, &held);
+    handle.put(alloc, held);
     match copied {
-        Ok(object) => {
-            copy.put(alloc, object);
+        Ok(held) => {
+            copy.put(alloc, held);
             DONE
         }
         Err(_) => MEMORY,
@@ -139,10 +152,10 @@ pub extern "C" fn ebpf_clone(alloc: Global, handle: &mut ebpf_handle, copy: &mut
 
 /// Frees what a handle holds, and leaves it closed.
 #[unsafe(no_mangle)]
-pub extern "C" fn ebpf_close(alloc: Global, handle: &mut ebpf_handle)
-    ensures { handle.new.object ≡ None }
+pub extern "C" fn exact_ebpf_close(alloc: Global, handle: &mut ebpf_handle)
+    ensures { handle.new.held ≡ None }
 {
-    let _object = handle.take(alloc);
+    let _held = handle.take(alloc);
 }
 
 /// The reading that a flag asks for.
@@ -162,26 +175,26 @@ fn open_object_within(
     file: &[u8],
     mode: ParseMode,
     most_bytes: u64,
-) -> Result<Box<Object>, Refusal>
-    ensures object { IfOk result (λ b. b.value ≡ object_as mode file.now) }
+) -> Result<Box<Held>, Refusal>
+    ensures object { IfOk result (λ b. b.value ≡ opened (object_as mode file.now)) }
     ensures sound { IfOk result (λ _. within_fault mode most_bytes file.now ≡ None) }
     ensures why { IfErr result (CannotOpenWithin mode most_bytes file.now) }
     ensures refuses { IfErr result (λ r. 0 < r.number) }
 {
     match parse_within(alloc, file, mode, Limits { most_bytes }) {
-        Ok(object) => Ok(Box::new(alloc, object)?),
+        Ok(object) => Ok(Box::new(alloc, Held { object, last: None })?),
         Err(error) => Err(parse_refusal(error)),
     }
 }
 
-/// Opens the object of a file, lenient where `lenient` is not 0, where what is made of the file owns at most `most_bytes`
-/// bytes; that is counted before it is made. What the handle held before is closed.
+/// Opens the object of a file, lenient where `lenient` is not 0, where what is made of the file owns at most
+/// `most_bytes` bytes; that is counted before it is made. What the handle held before is closed.
 ///
 /// # Answers
 ///
 /// 0; 2, and 100 to 199 for the fault of the file, 157 where more would be made. The handle is then as it was.
 #[unsafe(no_mangle)]
-pub extern "C" fn ebpf_open_within(
+pub extern "C" fn exact_ebpf_open_within(
     alloc: Global,
     file: &[u8],
     lenient: u32,
@@ -191,16 +204,16 @@ pub extern "C" fn ebpf_open_within(
     report: &mut ebpf_refusal,
 ) -> u32
     ensures opened { result ≡ DONE
-        → (handle.new.object ≡ Some (object_as (parse_mode_of lenient) file.now))
+        → (handle.new.held ≡ Some (opened (object_as (parse_mode_of lenient) file.now)))
         × (within_fault (parse_mode_of lenient) most_bytes file.now ≡ None) }
     ensures quiet { result ≡ DONE → (about.new ≡ about.old) × (report.new ≡ report.old) }
     ensures refused { ¬ (result ≡ DONE)
         → IsRefused (CannotOpenWithin (parse_mode_of lenient) most_bytes file.now) result
-        handle.old.object handle.new.object about.old about.new report.new }
+        handle.old.held handle.new.held about.old about.new report.new }
 {
     match open_object_within(alloc, file, parse_mode_of(lenient), most_bytes) {
-        Ok(object) => {
-            handle.put(alloc, object);
+        Ok(held) => {
+            handle.put(alloc, held);
             DONE
         }
         Err(refusal) => tell(&refusal, about, report),

@@ -2,9 +2,12 @@
 
 ghost use Rattle.std.specs.Prelude.{◌≡◌, ◌<◌, IfOk, IfErr, OnOk, OnErr};
 ghost use Rattle.capi_rows.specs.Handles.{IsRefused, Changes, WhyHeld};
-ghost use Rattle.capi_exports.specs.Passes.{inputs_of, CannotPrepare, HasPrepared, IsPreparedIn, CannotPrepareHeld, HasPreparedHeld};
+ghost use Rattle.capi_exports.specs.PassOrder.{CannotPass, HasPassed};
+ghost use Rattle.capi_exports.specs.declared.held.Pass.TheVariants.{Types, Calls};
+ghost use Rattle.capi_exports.specs.Passes.{inputs_of, CannotPrepare, IsPreparedAs, IsPreparedIn, CannotPrepareHeld, HasPreparedHeld};
 
 use crate::handle::ebpf_handle;
+use crate::held::{Held, Pass, fault_of_pass};
 use capi_rows::codes::{BAD_NAME, CLOSED, DONE, MEMORY};
 use capi_rows::info::read_types_if;
 use capi_rows::reads::{descriptors_in, ebpf_descriptor, have_names};
@@ -22,9 +25,9 @@ fn prepare_box(
     rows: &[ebpf_descriptor],
     text: &[u8],
     symbols: &[u8],
-) -> Result<Box<Object>, Refusal>
+) -> Result<Box<Held>, Refusal>
     ensures prepared { IfOk result (λ b.
-        HasPrepared file.now (inputs_of types.now rows.now text.now symbols.now) b.value) }
+        IsPreparedAs file.now (inputs_of types.now rows.now text.now symbols.now) b.value) }
     ensures why { IfErr result
         (CannotPrepare file.now (inputs_of types.now rows.now text.now symbols.now)) }
     ensures refuses { IfErr result (λ r. 0 < r.number) }
@@ -36,22 +39,29 @@ fn prepare_box(
     let descriptors = descriptors_in(alloc, rows, text)?;
     let steps = Steps::all_with(kernel.as_ref(), &descriptors);
     match prepare(alloc, file, &steps, SymbolText(symbols)) {
-        Ok(object) => Ok(Box::new(alloc, object)?),
+        Ok(object) => Ok(Box::new(
+            alloc,
+            Held {
+                object,
+                last: Some(Pass::Calls),
+            },
+        )?),
         Err(error) => Err(prepare_refusal(error)),
     }
 }
 
 /// Opens the object of a file, and runs the passes over it: functions are relocated to a kernel's types, descriptors of
 /// maps are written, externs are found and written, programs are linked with the functions that they reach. Where there
-/// are no bytes of types, functions are not relocated, and externs are looked up in the symbols alone. What the handle held
-/// before is closed.
+/// are no bytes of types, functions are not relocated, and externs are looked up in the symbols alone. What the handle
+/// held before is closed.
 ///
 /// # Answers
 ///
 /// 0; 2; 6 where a row's name is not inside the text or is no text; then 200 to 214 where the types can't be read; then
-/// the number of the fault of the first stage that has one, as of the calls for the stages. The handle is then as it was.
+/// the number of the fault of the first stage that has one, as of the calls for the stages. The handle is then as it
+/// was.
 #[unsafe(no_mangle)]
-pub extern "C" fn ebpf_prepare(
+pub extern "C" fn exact_ebpf_prepare(
     alloc: Global,
     file: &[u8],
     types: &[u8],
@@ -64,15 +74,15 @@ pub extern "C" fn ebpf_prepare(
 ) -> u32
     ensures prepared { result ≡ DONE
         → IsPreparedIn file.now (inputs_of types.now rows.now text.now symbols.now)
-        handle.new.object }
+        handle.new.held }
     ensures quiet { result ≡ DONE → (about.new ≡ about.old) × (report.new ≡ report.old) }
     ensures refused { ¬ (result ≡ DONE)
         → IsRefused (CannotPrepare file.now (inputs_of types.now rows.now text.now symbols.now))
-        result handle.old.object handle.new.object about.old about.new report.new }
+        result handle.old.held handle.new.held about.old about.new report.new }
 {
     match prepare_box(alloc, file, types, rows, text, symbols) {
-        Ok(object) => {
-            handle.put(alloc, object);
+        Ok(held) => {
+            handle.put(alloc, held);
             DONE
         }
         Err(refusal) => tell(&refusal, about, report),
@@ -108,16 +118,41 @@ fn prepare_held(
     }
 }
 
-/// Runs the passes of `ebpf_prepare` over what a handle holds, whatever was set on it before. Where there are no bytes of
-/// types, functions are not relocated, and externs are looked up in the symbols alone.
+/// Makes all passes over an object of which none was made.
+fn prepare_all(
+    alloc: Global,
+    held: &mut Held,
+    types: &[u8],
+    rows: &[ebpf_descriptor],
+    text: &[u8],
+    symbols: &[u8],
+) -> Result<(), Refusal>
+    ensures ok { OnOk result (HasPassed Types Calls
+        (HasPreparedHeld (inputs_of types.now rows.now text.now symbols.now)) held.old held.new) }
+    ensures unchanged { OnErr result (held.new ≡ held.old) }
+    ensures why { IfErr result (CannotPass Types
+        (CannotPrepareHeld (inputs_of types.now rows.now text.now symbols.now)) held.old) }
+    ensures refuses { IfErr result (λ r. 0 < r.number) }
+{
+    if let Some(number) = fault_of_pass(held.last, Pass::Types) {
+        return Err(Refusal::plain(number));
+    }
+    prepare_held(alloc, &mut held.object, types, rows, text, symbols)?;
+    held.last = Some(Pass::Calls);
+    Ok(())
+}
+
+/// Runs the passes of `ebpf_prepare` over what a handle holds, whatever was set on it before. Where there are no bytes
+/// of types, functions are not relocated, and externs are looked up in the symbols alone.
 ///
 /// # Answers
 ///
-/// 0; 2; 3 where the handle is closed; then 6 where a row's name is not inside the text or is no text; then 200 to 214
-/// where the types can't be read; then the number of the fault of the first stage that has one, as of the calls for the
-/// stages. What the handle holds is then as it was.
+/// 0; 2; 3 where the handle is closed; then 11 where the pass of types was made and no other, 12 where a later one was;
+/// then 6 where a row's name is not inside the text or is no text; then 200 to 214 where the types can't be read; then
+/// the number of the fault of the first stage that has one, as of the calls for the stages. What the handle holds is
+/// then as it was.
 #[unsafe(no_mangle)]
-pub extern "C" fn ebpf_prepare_handle(
+pub extern "C" fn exact_ebpf_prepare_handle(
     alloc: Global,
     handle: &mut ebpf_handle,
     types: &[u8],
@@ -128,19 +163,22 @@ pub extern "C" fn ebpf_prepare_handle(
     report: &mut ebpf_refusal,
 ) -> u32
     ensures prepared { result ≡ DONE
-        → Changes (HasPreparedHeld (inputs_of types.now rows.now text.now symbols.now))
-        handle.old.object handle.new.object }
+        → Changes
+        (HasPassed Types Calls
+        (HasPreparedHeld (inputs_of types.now rows.now text.now symbols.now)))
+        handle.old.held handle.new.held }
     ensures quiet { result ≡ DONE → (about.new ≡ about.old) × (report.new ≡ report.old) }
     ensures refused { ¬ (result ≡ DONE)
         → IsRefused
-        (WhyHeld handle.old.object
-        (CannotPrepareHeld (inputs_of types.now rows.now text.now symbols.now))) result
-        handle.old.object handle.new.object about.old about.new report.new }
+        (WhyHeld handle.old.held
+        (CannotPass Types
+        (CannotPrepareHeld (inputs_of types.now rows.now text.now symbols.now)))) result
+        handle.old.held handle.new.held about.old about.new report.new }
 {
-    let Some(mut object) = handle.take(alloc) else {
+    let Some(mut held) = handle.take(alloc) else {
         return tell(&Refusal::plain(CLOSED), about, report);
     };
-    let answer = prepare_held(alloc, &mut object, types, rows, text, symbols);
-    handle.put(alloc, object);
+    let answer = prepare_all(alloc, &mut held, types, rows, text, symbols);
+    handle.put(alloc, held);
     reported_number(answer, about, report)
 }

@@ -1,7 +1,8 @@
 //! The calls that read what an object has.
 
 ghost use Rattle.std.specs.Prelude.{◌≡◌, MatchOption};
-ghost use Rattle.capi_rows.specs.Answers.{FillsList, or_memory};
+ghost use Rattle.capi_exports.specs.PassOrder.{object_in};
+ghost use Rattle.capi_rows.specs.Answers.{FillsList};
 ghost use Rattle.capi_rows.specs.Refusals.{flag};
 ghost use Rattle.capi_rows.specs.FileTypes.{info_of, states_license};
 ghost use Rattle.capi_rows.specs.Reads.{read_func_infos, read_license, read_line_infos, read_map_data, of_open, read_section_name, read_slots};
@@ -24,20 +25,21 @@ use std::alloc::Global;
 ///
 /// 0; 3, and `info` is then as it was.
 #[unsafe(no_mangle)]
-pub extern "C" fn ebpf_info(
+pub extern "C" fn exact_ebpf_info(
     alloc: Global,
     handle: &mut ebpf_handle,
     info: &mut ebpf_object_info,
 ) -> u32
-    ensures stays { handle.new.object ≡ handle.old.object }
-    ensures info { MatchOption handle.old.object ((result ≡ CLOSED) × (info.new ≡ info.old)) (λ o.
+    ensures stays { handle.new.held ≡ handle.old.held }
+    ensures info { MatchOption (object_in handle.old.held) ((result ≡ CLOSED) ×
+        (info.new ≡ info.old)) (λ o.
         (result ≡ DONE) × (info.new ≡ info_of o)) }
 {
-    let Some(object) = handle.take(alloc) else {
+    let Some(held) = handle.take(alloc) else {
         return CLOSED;
     };
-    *info = info_of(&object);
-    handle.put(alloc, object);
+    *info = info_of(&held.object);
+    handle.put(alloc, held);
     DONE
 }
 
@@ -47,21 +49,22 @@ pub extern "C" fn ebpf_info(
 ///
 /// 0; 1 where it doesn't fit; 3. The buffer is then as it was, and `len` too but for 1.
 #[unsafe(no_mangle)]
-pub extern "C" fn ebpf_license(
+pub extern "C" fn exact_ebpf_license(
     alloc: Global,
     handle: &mut ebpf_handle,
     text: &mut [u8],
     len: &mut usize,
 ) -> u32
-    ensures stays { handle.new.object ≡ handle.old.object }
-    ensures fills { FillsList (of_open (read_license) handle.old.object) result text.old text.new
+    ensures stays { handle.new.held ≡ handle.old.held }
+    ensures fills { FillsList (of_open (read_license) (object_in handle.old.held)) result text.old
+        text.new
         len.old len.new }
 {
-    let Some(object) = handle.take(alloc) else {
+    let Some(held) = handle.take(alloc) else {
         return CLOSED;
     };
-    let number = write_list(Ok(object.license.as_slice()), text, len);
-    handle.put(alloc, object);
+    let number = write_list(Ok(held.object.license.as_slice()), text, len);
+    handle.put(alloc, held);
     number
 }
 
@@ -71,28 +74,28 @@ pub extern "C" fn ebpf_license(
 ///
 /// 0; 3, and `states` is then as it was.
 #[unsafe(no_mangle)]
-pub extern "C" fn ebpf_states_license(
+pub extern "C" fn exact_ebpf_states_license(
     alloc: Global,
     handle: &mut ebpf_handle,
     states: &mut u32,
 ) -> u32
-    ensures stays { handle.new.object ≡ handle.old.object }
-    ensures states { MatchOption handle.old.object ((result ≡ CLOSED) × (states.new ≡ states.old))
+    ensures stays { handle.new.held ≡ handle.old.held }
+    ensures states { MatchOption (object_in handle.old.held)
+        ((result ≡ CLOSED) × (states.new ≡ states.old))
         (λ o. (result ≡ DONE) × (states.new ≡ flag (states_license o))) }
 {
-    let Some(object) = handle.take(alloc) else {
+    let Some(held) = handle.take(alloc) else {
         return CLOSED;
     };
-    *states = flag(object.states_license());
-    handle.put(alloc, object);
+    *states = flag(held.object.states_license());
+    handle.put(alloc, held);
     DONE
 }
 
 /// Writes the name of a program's section, as `ebpf_program_section` does.
-#[tactic(auto, using(capi_rows::proofs::Fills::unless_memory))]
 fn write_section(object: &Object, name: &[u8], text: &mut [u8], len: &mut usize) -> u32
-    ensures { FillsList (or_memory result (read_section_name name.now object.now)) result text.old
-        text.new len.old len.new }
+    ensures { FillsList (read_section_name name.now object.now) result text.old text.new len.old
+        len.new }
 {
     write_list(read_section_name(object, name), text, len)
 }
@@ -102,25 +105,25 @@ fn write_section(object: &Object, name: &[u8], text: &mut [u8], len: &mut usize)
 ///
 /// # Answers
 ///
-/// 0; 1 where it doesn't fit; 2; 3; 4. The buffer is then as it was, and `len` too but for 1.
+/// 0; 1 where it doesn't fit; 3; 4. The buffer is then as it was, and `len` too but for 1.
 #[unsafe(no_mangle)]
-pub extern "C" fn ebpf_program_section(
+pub extern "C" fn exact_ebpf_program_section(
     alloc: Global,
     handle: &mut ebpf_handle,
     name: &[u8],
     text: &mut [u8],
     len: &mut usize,
 ) -> u32
-    ensures stays { handle.new.object ≡ handle.old.object }
+    ensures stays { handle.new.held ≡ handle.old.held }
     ensures fills { FillsList
-        (or_memory result (of_open (read_section_name name.now) handle.old.object)) result
+        (of_open (read_section_name name.now) (object_in handle.old.held)) result
         text.old text.new len.old len.new }
 {
-    let Some(object) = handle.take(alloc) else {
+    let Some(held) = handle.take(alloc) else {
         return CLOSED;
     };
-    let number = write_section(&object, name, text, len);
-    handle.put(alloc, object);
+    let number = write_section(&held.object, name, text, len);
+    handle.put(alloc, held);
     number
 }
 
@@ -130,22 +133,23 @@ pub extern "C" fn ebpf_program_section(
 ///
 /// 0; 1 where they don't fit; 3; 4. The buffer is then as it was, and `count` too but for 1.
 #[unsafe(no_mangle)]
-pub extern "C" fn ebpf_slots(
+pub extern "C" fn exact_ebpf_slots(
     alloc: Global,
     handle: &mut ebpf_handle,
     name: &[u8],
     slots: &mut [bpf_insn],
     count: &mut usize,
 ) -> u32
-    ensures stays { handle.new.object ≡ handle.old.object }
-    ensures fills { FillsList (of_open (read_slots name.now) handle.old.object) result slots.old
+    ensures stays { handle.new.held ≡ handle.old.held }
+    ensures fills { FillsList (of_open (read_slots name.now) (object_in handle.old.held)) result
+        slots.old
         slots.new count.old count.new }
 {
-    let Some(object) = handle.take(alloc) else {
+    let Some(held) = handle.take(alloc) else {
         return CLOSED;
     };
-    let number = write_list(read_slots(&object, name), slots, count);
-    handle.put(alloc, object);
+    let number = write_list(read_slots(&held.object, name), slots, count);
+    handle.put(alloc, held);
     number
 }
 
@@ -155,22 +159,23 @@ pub extern "C" fn ebpf_slots(
 ///
 /// 0; 1 where they don't fit; 3; 4. The buffer is then as it was, and `count` too but for 1.
 #[unsafe(no_mangle)]
-pub extern "C" fn ebpf_func_infos(
+pub extern "C" fn exact_ebpf_func_infos(
     alloc: Global,
     handle: &mut ebpf_handle,
     name: &[u8],
     rows: &mut [bpf_func_info],
     count: &mut usize,
 ) -> u32
-    ensures stays { handle.new.object ≡ handle.old.object }
-    ensures fills { FillsList (of_open (read_func_infos name.now) handle.old.object) result rows.old
+    ensures stays { handle.new.held ≡ handle.old.held }
+    ensures fills { FillsList (of_open (read_func_infos name.now) (object_in handle.old.held))
+        result rows.old
         rows.new count.old count.new }
 {
-    let Some(object) = handle.take(alloc) else {
+    let Some(held) = handle.take(alloc) else {
         return CLOSED;
     };
-    let number = write_list(read_func_infos(&object, name), rows, count);
-    handle.put(alloc, object);
+    let number = write_list(read_func_infos(&held.object, name), rows, count);
+    handle.put(alloc, held);
     number
 }
 
@@ -180,22 +185,23 @@ pub extern "C" fn ebpf_func_infos(
 ///
 /// 0; 1 where they don't fit; 3; 4. The buffer is then as it was, and `count` too but for 1.
 #[unsafe(no_mangle)]
-pub extern "C" fn ebpf_line_infos(
+pub extern "C" fn exact_ebpf_line_infos(
     alloc: Global,
     handle: &mut ebpf_handle,
     name: &[u8],
     rows: &mut [bpf_line_info],
     count: &mut usize,
 ) -> u32
-    ensures stays { handle.new.object ≡ handle.old.object }
-    ensures fills { FillsList (of_open (read_line_infos name.now) handle.old.object) result rows.old
+    ensures stays { handle.new.held ≡ handle.old.held }
+    ensures fills { FillsList (of_open (read_line_infos name.now) (object_in handle.old.held))
+        result rows.old
         rows.new count.old count.new }
 {
-    let Some(object) = handle.take(alloc) else {
+    let Some(held) = handle.take(alloc) else {
         return CLOSED;
     };
-    let number = write_list(read_line_infos(&object, name), rows, count);
-    handle.put(alloc, object);
+    let number = write_list(read_line_infos(&held.object, name), rows, count);
+    handle.put(alloc, held);
     number
 }
 
@@ -205,21 +211,22 @@ pub extern "C" fn ebpf_line_infos(
 ///
 /// 0; 1 where it doesn't fit; 3; 5. The buffer is then as it was, and `len` too but for 1.
 #[unsafe(no_mangle)]
-pub extern "C" fn ebpf_map_data(
+pub extern "C" fn exact_ebpf_map_data(
     alloc: Global,
     handle: &mut ebpf_handle,
     name: &[u8],
     bytes: &mut [u8],
     len: &mut usize,
 ) -> u32
-    ensures stays { handle.new.object ≡ handle.old.object }
-    ensures fills { FillsList (of_open (read_map_data name.now) handle.old.object) result bytes.old
+    ensures stays { handle.new.held ≡ handle.old.held }
+    ensures fills { FillsList (of_open (read_map_data name.now) (object_in handle.old.held)) result
+        bytes.old
         bytes.new len.old len.new }
 {
-    let Some(object) = handle.take(alloc) else {
+    let Some(held) = handle.take(alloc) else {
         return CLOSED;
     };
-    let number = write_list(read_map_data(&object, name), bytes, len);
-    handle.put(alloc, object);
+    let number = write_list(read_map_data(&held.object, name), bytes, len);
+    handle.put(alloc, held);
     number
 }

@@ -52,17 +52,17 @@ fn find_target(alloc: Global, name: &[u8], types: &[u8]) -> Result<AttachTarget,
     Ok(attach_target(alloc, section, &types)?)
 }
 
-/// Says what the programs of a section of this name are attached to, as a type of the kernel's, or for `freplace` of the
-/// program that is replaced: 0 in `answer` where they are loaded without the id of a type, 1 where the name has no name of
-/// a target, 2 where the type is found, and 3 where there is none; and its id, 0 but for 2. The types are raw BTF in the
-/// byte order that its magic number tells.
+/// Says what the programs of a section of this name are attached to, as a type of the kernel's, or for `freplace` of
+/// the program that is replaced: 0 in `answer` where they are loaded without the id of a type, 1 where the name has no
+/// name of a target, 2 where the type is found, and 3 where there is none; and its id, 0 but for 2. The types are raw
+/// BTF in the byte order that its magic number tells.
 ///
 /// # Answers
 ///
 /// 0; 2; 6 where the name is no text; then 200 to 214 where the types can't be read. `answer` and `type_id` are then as
 /// they were.
 #[unsafe(no_mangle)]
-pub extern "C" fn ebpf_attach_target(
+pub extern "C" fn exact_ebpf_attach_target(
     alloc: Global,
     section_name: &[u8],
     types: &[u8],
@@ -95,17 +95,18 @@ fn types_for_kernel(alloc: Global, file: &[u8]) -> Result<Items<u8>, Refusal>
     }
 }
 
-/// Writes the types of a file as the kernel takes them (`BPF_BTF_LOAD`), and how many bytes they are: 0 where the file has
-/// no section .BTF. They are its .BTF, but for the sizes and offsets of sections, the linkage of what is hidden, and the
-/// externs of .ksyms and .kconfig (`ebpf_btf_load::kernel_types`); ids and offsets of strings stay.
+/// Writes the types of a file as the kernel takes them (`BPF_BTF_LOAD`), and how many bytes they are: 0 where the file
+/// has no section .BTF. They are its .BTF, but for the sizes and offsets of sections, the linkage of what is hidden,
+/// and the externs of .ksyms and .kconfig (`ebpf_btf_load::kernel_types`); ids and offsets of strings stay.
 ///
 /// # Answers
 ///
 /// 0; 1 where they don't fit; 2; 700 to 709 where the bytes are no file or .BTF passes its end; 720 to 734 where .BTF
-/// can't be read; 740 to 743 for the first fault of its sections, about the section, the variable or the extern, where its
-/// name can be read; 744 where what comes out passes 32 bits. The buffer is then as it was, and `len` too but for 1.
+/// can't be read; 740 to 743 for the first fault of its sections, about the section, the variable or the extern, where
+/// its name can be read; 744 where what comes out passes 32 bits. The buffer is then as it was, and `len` too but for
+/// 1.
 #[unsafe(no_mangle)]
-pub extern "C" fn ebpf_kernel_types(
+pub extern "C" fn exact_ebpf_kernel_types(
     alloc: Global,
     file: &[u8],
     types: &mut [u8],

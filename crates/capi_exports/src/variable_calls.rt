@@ -2,6 +2,7 @@
 
 ghost use Rattle.std.specs.Prelude.{◌≡◌, ◌<◌, not, ◌==◌, IfOk, OnOk, OnErr, IfErr, Ok};
 ghost use Rattle.capi_rows.specs.Answers.{FillsList, FillsListing, or_memory};
+ghost use Rattle.capi_exports.specs.PassOrder.{CannotSet, HasSetting, object_in};
 ghost use Rattle.capi_exports.specs.Settings.{one_value, CannotPatch, HasPatched};
 ghost use Rattle.ebpf_object.specs.Patches.{globals_of};
 ghost use Rattle.capi_rows.specs.Handles.{Changes, IsRefused, WhyHeld};
@@ -9,6 +10,7 @@ ghost use Rattle.capi_rows.specs.Reads.{of_open};
 ghost use Rattle.capi_rows.specs.Variables.{read_value, variable_list};
 
 use crate::handle::ebpf_handle;
+use crate::held::{Held, fault_of_setting};
 use capi_rows::buffers::{ebpf_counts, write_all};
 use capi_rows::codes::{BAD_NAME, CLOSED, DONE, MEMORY};
 use capi_rows::faults::parse_refusal;
@@ -59,15 +61,35 @@ fn set_value(
     }
 }
 
+/// Sets the value of a variable, before a pass.
+fn set_held_value(
+    alloc: Global,
+    held: &mut Held,
+    name: &[u8],
+    value: &[u8],
+    must_exist: bool,
+) -> Result<(), Refusal>
+    ensures ok { OnOk result
+        (HasSetting (HasPatched name.now value.now must_exist) held.old held.new) }
+    ensures unchanged { OnErr result (held.new ≡ held.old) }
+    ensures why { IfErr result (CannotSet (CannotPatch name.now value.now must_exist) held.old) }
+    ensures refuses { IfErr result (λ r. 0 < r.number) }
+{
+    if let Some(number) = fault_of_setting(held.last) {
+        return Err(Refusal::plain(number));
+    }
+    set_value(alloc, &mut held.object, name, value, must_exist)
+}
+
 /// Writes the value of a variable into the data of the map that holds it. Of symbols with the name the one with the
 /// greatest number counts. Where there is none and `must_exist` is 0, all stays.
 ///
 /// # Answers
 ///
-/// 0; 2; 3 where the handle is closed; then 6 where the name is no text; then 150 to 152 for the fault, about the
-/// variable. What the handle holds is then as it was.
+/// 0; 2; 3 where the handle is closed; then 12 where a pass was made; then 6 where the name is no text; then 150 to 152
+/// for the fault, about the variable. What the handle holds is then as it was.
 #[unsafe(no_mangle)]
-pub extern "C" fn ebpf_set_value(
+pub extern "C" fn exact_ebpf_set_value(
     alloc: Global,
     handle: &mut ebpf_handle,
     name: &[u8],
@@ -77,19 +99,21 @@ pub extern "C" fn ebpf_set_value(
     report: &mut ebpf_refusal,
 ) -> u32
     ensures patched { result ≡ DONE
-        → Changes (HasPatched name.now value.now (not (must_exist == 0))) handle.old.object
-        handle.new.object }
+        → Changes (HasSetting (HasPatched name.now value.now (not (must_exist == 0))))
+        handle.old.held
+        handle.new.held }
     ensures quiet { result ≡ DONE → (about.new ≡ about.old) × (report.new ≡ report.old) }
     ensures refused { ¬ (result ≡ DONE)
         → IsRefused
-        (WhyHeld handle.old.object (CannotPatch name.now value.now (not (must_exist == 0))))
-        result handle.old.object handle.new.object about.old about.new report.new }
+        (WhyHeld handle.old.held
+        (CannotSet (CannotPatch name.now value.now (not (must_exist == 0)))))
+        result handle.old.held handle.new.held about.old about.new report.new }
 {
-    let Some(mut object) = handle.take(alloc) else {
+    let Some(mut held) = handle.take(alloc) else {
         return tell(&Refusal::plain(CLOSED), about, report);
     };
-    let answer = set_value(alloc, &mut object, name, value, must_exist != 0);
-    handle.put(alloc, object);
+    let answer = set_held_value(alloc, &mut held, name, value, must_exist != 0);
+    handle.put(alloc, held);
     reported_number(answer, about, report)
 }
 
@@ -110,57 +134,59 @@ fn write_variables(
     write_all(alloc, object, &names, rows, text, counts)
 }
 
-/// Lists the variables of an object: a row each in byte order of their names; in `text` the name of each and then that of its
-/// map, a zero byte behind each. They are the symbols whose bytes, of which there are some, are inside the data of a map.
-/// The map is the first by name that the symbol's section has; of symbols of one name that with the greatest index counts.
+/// Lists the variables of an object: a row each in byte order of their names; in `text` the name of each and then that
+/// of its map, a zero byte behind each. They are the symbols whose bytes, of which there are some, are inside the data
+/// of a map. The map is the first by name that the symbol's section has; of symbols of one name that with the greatest
+/// index counts.
 ///
 /// # Answers
 ///
 /// 0; 1 where not all fits; 2; 3. The buffers are then as they were, and `counts` too but for 1.
 #[unsafe(no_mangle)]
-pub extern "C" fn ebpf_variables(
+pub extern "C" fn exact_ebpf_variables(
     alloc: Global,
     handle: &mut ebpf_handle,
     rows: &mut [ebpf_variable],
     text: &mut [u8],
     counts: &mut ebpf_counts,
 ) -> u32
-    ensures stays { handle.new.object ≡ handle.old.object }
+    ensures stays { handle.new.held ≡ handle.old.held }
     ensures fills { FillsListing
-        (or_memory result (of_open (λ o. Ok (variable_list o)) handle.old.object)) result
+        (of_open (λ o. or_memory result (Ok (variable_list o))) (object_in handle.old.held)) result
         rows.old rows.new text.old text.new counts.old counts.new }
 {
-    let Some(object) = handle.take(alloc) else {
+    let Some(held) = handle.take(alloc) else {
         return CLOSED;
     };
-    let number = write_variables(alloc, &object, rows, text, counts);
-    handle.put(alloc, object);
+    let number = write_variables(alloc, &held.object, rows, text, counts);
+    handle.put(alloc, held);
     number
 }
 
-/// Writes the bytes of a variable as they stand in the data of its map, and how many they are. Of symbols with the name that
-/// with the greatest index counts.
+/// Writes the bytes of a variable as they stand in the data of its map, and how many they are. Of symbols with the name
+/// that with the greatest index counts.
 ///
 /// # Answers
 ///
 /// 0; 1 where they don't fit; 2; 3; 10 where no symbol has the name, or its bytes are not inside the data of a map. The
 /// buffer is then as it was, and `len` too but for 1.
 #[unsafe(no_mangle)]
-pub extern "C" fn ebpf_value(
+pub extern "C" fn exact_ebpf_value(
     alloc: Global,
     handle: &mut ebpf_handle,
     name: &[u8],
     value: &mut [u8],
     len: &mut usize,
 ) -> u32
-    ensures stays { handle.new.object ≡ handle.old.object }
-    ensures fills { FillsList (or_memory result (of_open (read_value name.now) handle.old.object))
+    ensures stays { handle.new.held ≡ handle.old.held }
+    ensures fills { FillsList (of_open (λ o. or_memory result (read_value name.now o))
+        (object_in handle.old.held))
         result value.old value.new len.old len.new }
 {
-    let Some(object) = handle.take(alloc) else {
+    let Some(held) = handle.take(alloc) else {
         return CLOSED;
     };
-    let number = write_value(&object, name, value, len);
-    handle.put(alloc, object);
+    let number = write_value(&held.object, name, value, len);
+    handle.put(alloc, held);
     number
 }

@@ -23,9 +23,9 @@ abbrev pub CannotParse : Option ParseError → Refusal → Type 0
 CannotParse fault = IsRefusal (λ e. MatchBool (is_parse_memory e) ⊤ (fault ≡ Some e)) parse_refusal
 
 -- the refusal of what an open handle holds; a closed one is refused as such
-abbrev pub WhyHeld : Option Object → (Object → Refusal → Type 0) → Refusal → Type 0
+abbrev pub WhyHeld : {H : Type 0} → Option H → (H → Refusal → Type 0) → Refusal → Type 0
 WhyHeld None Why r = r ≡ plain CLOSED
-WhyHeld (Some o) Why r = Why o r
+WhyHeld (Some h) Why r = Why h r
 
 -- what is found of what a handle holds, or why not; a closed one is refused as such
 abbrev pub FindsHeld : {X : Type 0} → (Object → X → Type 0) → (Object → Refusal → Type 0)
@@ -33,14 +33,14 @@ abbrev pub FindsHeld : {X : Type 0} → (Object → X → Type 0) → (Object �
 FindsHeld Finds Why None found = found ≡ Err (plain CLOSED)
 FindsHeld Finds Why (Some o) found = MatchResult found (Finds o) (Why o)
 
--- an open handle holds another object than before
-abbrev pub Changes : (Object → Object → Type 0) → Option Object → Option Object → Type 0
+-- an open handle holds something else than before
+abbrev pub Changes : {H : Type 0} → (H → H → Type 0) → Option H → Option H → Type 0
 Changes Change None after = ⊥
 Changes Change (Some old) None = ⊥
 Changes Change (Some old) (Some new) = Change old new
 
 -- a call refuses for a reason: the handle is as it was, and C is told
-pub record IsRefused (Why : Refusal → Type 0) (answer : ℕ) (before after : Option Object)
+pub record IsRefused {H : Type 0} (Why : Refusal → Type 0) (answer : ℕ) (before after : Option H)
     (about_before about_after : List ℕ) (report : ebpf_refusal)
     : Type 0 where
   pub stays : after ≡ before

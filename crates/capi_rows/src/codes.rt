@@ -25,6 +25,10 @@ pub const NO_EXTERN: u32 = 8;
 pub const WRONG_LENGTH: u32 = 9;
 /// No variable of a map has the name.
 pub const NO_VARIABLE: u32 = 10;
+/// The pass is the last one that was made of the object.
+pub const PASS_MADE: u32 = 11;
+/// A later pass was made of the object, or any pass before something is set.
+pub const PASS_ORDER: u32 = 12;
 
 /// 1 where it is true, else 0.
 pub fn flag(is_true: bool) -> u32
@@ -34,7 +38,7 @@ pub fn flag(is_true: bool) -> u32
 }
 
 /// What is of no stage.
-const GENERAL: [&str; 11] = [
+const GENERAL: [&str; 13] = [
     "Done",
     "Room",
     "OutOfMemory",
@@ -46,6 +50,8 @@ const GENERAL: [&str; 11] = [
     "NoExtern",
     "WrongLength",
     "NoVariable",
+    "PassMade",
+    "PassOrder",
 ];
 
 /// Faults of files.

@@ -58,6 +58,10 @@ pub enum Error {
     WrongLength,
     /// No variable in the data of a map has the name.
     NoVariable,
+    /// The pass is the last one that was made of the object.
+    PassMade,
+    /// A later pass was made of the object, or any pass before something is set.
+    PassOrder,
     /// The file is no object, or has no such variable.
     Parse(Refusal),
     /// A kernel's types can't be read, or functions can't be relocated to them.
@@ -150,6 +154,8 @@ impl Error {
             8 => Error::NoExtern,
             9 => Error::WrongLength,
             10 => Error::NoVariable,
+            11 => Error::PassMade,
+            12 => Error::PassOrder,
             100..=199 => Error::Parse(refusal),
             200..=299 => Error::Types(refusal),
             300..=399 => Error::Maps(refusal),
@@ -173,6 +179,8 @@ impl fmt::Display for Error {
             Error::NoExtern => return out.write_str("no such extern of the configuration"),
             Error::WrongLength => return out.write_str("another length than the map's data has"),
             Error::NoVariable => return out.write_str("no such variable"),
+            Error::PassMade => return out.write_str("the pass was made before"),
+            Error::PassOrder => return out.write_str("a later pass was made before"),
             Error::Parse(refusal) | Error::Types(refusal) | Error::Maps(refusal) | Error::Ksyms(refusal) => refusal,
             Error::Externs(refusal) | Error::Calls(refusal) | Error::KernelTypes(refusal) => refusal,
             Error::InitialSlots(refusal) | Error::Kconfig(refusal) | Error::Other(refusal) => refusal,

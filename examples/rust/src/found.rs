@@ -34,7 +34,7 @@ impl Object {
     pub fn map(&self, name: &str) -> Result<Map, Error> {
         let mut row = raw::Map::default();
         // SAFETY: an `Object` is open, the name is borrowed for the call, and the row is ours.
-        plain(unsafe { raw_found::ebpf_find_map(self.handle.get(), name.as_ptr(), name.len(), &mut row) })?;
+        plain(unsafe { raw_found::ebpf_find_map(self.handle, name.as_ptr(), name.len(), &mut row) })?;
         Ok(row.value(name.to_owned()))
     }
 
@@ -42,7 +42,7 @@ impl Object {
     pub fn program(&self, name: &str) -> Result<Program, Error> {
         let mut row = raw::Program::default();
         // SAFETY: an `Object` is open, the name is borrowed for the call, and the row is ours.
-        plain(unsafe { raw_found::ebpf_find_program(self.handle.get(), name.as_ptr(), name.len(), &mut row) })?;
+        plain(unsafe { raw_found::ebpf_find_program(self.handle, name.as_ptr(), name.len(), &mut row) })?;
         Ok(row.value(name.to_owned()))
     }
 
@@ -53,7 +53,7 @@ impl Object {
         let (rows, text) = listed(
             |rows, room, text, text_room, counts, (about, about_room, refusal)| unsafe {
                 raw_found::ebpf_link_map(
-                    self.handle.get(),
+                    self.handle,
                     program.as_ptr(),
                     program.len(),
                     rows,
@@ -82,7 +82,7 @@ impl Object {
         // SAFETY: an `Object` is open, the name is borrowed for the call, and the buffers are ours.
         let rows = filled(|rows, room, count, (about, about_room, refusal)| unsafe {
             raw_found::ebpf_link_references(
-                self.handle.get(),
+                self.handle,
                 program.as_ptr(),
                 program.len(),
                 rows,

@@ -174,7 +174,7 @@ impl Object {
                 raw::ebpf_initial_slots(
                     file.as_ptr(),
                     file.len(),
-                    self.handle.get(),
+                    self.handle,
                     rows,
                     room,
                     text,
@@ -199,7 +199,7 @@ impl Object {
     pub fn variables(&self) -> Result<Vec<Variable>, Error> {
         // SAFETY: an `Object` is open, and the buffers are ours.
         let (rows, text) = listed(|rows, room, text, text_room, counts, _| unsafe {
-            raw::ebpf_variables(self.handle.get(), rows, room, text, text_room, counts)
+            raw::ebpf_variables(self.handle, rows, room, text, text_room, counts)
         })?;
         let value = |row: &raw::Variable| Variable {
             name: text_at(&text, row.name_at, row.name_len),
@@ -214,22 +214,14 @@ impl Object {
     pub fn value(&self, variable: &str) -> Result<Vec<u8>, Error> {
         // SAFETY: an `Object` is open, the name is borrowed for the call, and the buffer is ours.
         filled(|value, room, len, _| unsafe {
-            raw::ebpf_value(self.handle.get(), variable.as_ptr(), variable.len(), value, room, len)
+            raw::ebpf_value(self.handle, variable.as_ptr(), variable.len(), value, room, len)
         })
     }
 
     /// Sets all of the initial data of a map, which has as many bytes as before.
     pub fn set_map_data(&mut self, map: &str, data: &[u8]) -> Result<(), Error> {
         // SAFETY: an `Object` is open, and the slices are borrowed for the call.
-        plain(unsafe {
-            raw::ebpf_set_map_data(
-                self.handle.get_mut(),
-                map.as_ptr(),
-                map.len(),
-                data.as_ptr(),
-                data.len(),
-            )
-        })
+        plain(unsafe { raw::ebpf_set_map_data(self.handle, map.as_ptr(), map.len(), data.as_ptr(), data.len()) })
     }
 
     /// The externs that the kernel's configuration gives, in the order in which the object's types name them.
@@ -238,7 +230,7 @@ impl Object {
         let (rows, text) = listed(
             |rows, room, text, text_room, counts, (about, about_room, refusal)| unsafe {
                 raw::ebpf_kconfig(
-                    self.handle.get(),
+                    self.handle,
                     rows,
                     room,
                     text,
@@ -266,7 +258,7 @@ impl Object {
         // SAFETY: an `Object` is open, the slices are borrowed for the call, and the buffers are ours.
         let value = filled(|value, room, len, (about, about_room, refusal)| unsafe {
             raw::ebpf_kconfig_value(
-                self.handle.get(),
+                self.handle,
                 name.as_ptr(),
                 name.len(),
                 config.as_ptr(),
@@ -288,7 +280,7 @@ impl Object {
         // SAFETY: an `Object` is open, the name is borrowed for the call, and the buffers are ours.
         filled(|value, room, len, (about, about_room, refusal)| unsafe {
             raw::ebpf_kconfig_number(
-                self.handle.get(),
+                self.handle,
                 name.as_ptr(),
                 name.len(),
                 number,
@@ -307,7 +299,7 @@ impl Object {
     pub fn define_kconfig(&mut self, values: &[(&str, &[u8])]) -> Result<(), Error> {
         let given: Vec<(&str, &[u8], bool)> = values.iter().map(|(name, value)| (*name, *value, false)).collect();
         let (rows, text, bytes) = value_rows(&given);
-        let handle = self.handle.get_mut();
+        let handle = self.handle;
         telling(|about, room, refusal| {
             // SAFETY: an `Object` is open, and the slices are borrowed for the call.
             unsafe {

@@ -2,15 +2,13 @@
 use crate::error::{Details, Error};
 use crate::raw::{self, Counts, Descriptor, FuncInfo, Handle, Insn, LineInfo, Value};
 use crate::rows::{Extern, Map, Program, Row, Section};
-use std::cell::UnsafeCell;
 
 /// How many bytes are kept of the name that a refusal is about.
 const ABOUT: usize = 256;
 
 /// What an ELF file with eBPF programs holds. It stays on its thread.
 pub struct Object {
-    // The library takes each handle by a pointer without const, and leaves it as it is where it only lists.
-    pub(crate) handle: UnsafeCell<Handle>,
+    pub(crate) handle: *mut Handle,
 }
 
 /// A kernel, and the maps that are made in it.
@@ -113,59 +111,54 @@ type List<R> = unsafe extern "C" fn(*mut Handle, *mut R, usize, *mut u8, usize, 
 impl Object {
     /// The object of a file.
     pub fn open(file: &[u8]) -> Result<Object, Error> {
-        let mut handle = Handle {
-            at: std::ptr::null_mut(),
-        };
+        let mut handle = std::ptr::null_mut();
         telling(|about, room, refusal| {
-            // SAFETY: the slices are borrowed for the call, and a handle of zeros is a closed one.
+            // SAFETY: the slices are borrowed for the call, and the handle is only written.
             unsafe { raw::ebpf_open(file.as_ptr(), file.len(), &mut handle, about, room, refusal) }
         })?;
-        Ok(Object {
-            handle: UnsafeCell::new(handle),
-        })
+        Ok(Object { handle })
     }
 
     /// The object of a file that is read broadly: each section of code is a program's, whatever its name, and an array of
     /// programs may be declared with its programs.
     pub fn open_broad(file: &[u8]) -> Result<Object, Error> {
-        let mut handle = Handle {
-            at: std::ptr::null_mut(),
-        };
+        let mut handle = std::ptr::null_mut();
         telling(|about, room, refusal| {
-            // SAFETY: the slices are borrowed for the call, and a handle of zeros is a closed one.
+            // SAFETY: the slices are borrowed for the call, and the handle is only written.
             unsafe { raw::ebpf_open_broad(file.as_ptr(), file.len(), &mut handle, about, room, refusal) }
         })?;
-        Ok(Object {
-            handle: UnsafeCell::new(handle),
-        })
+        Ok(Object { handle })
     }
 
     /// The object of a file that is read broadly, where what is made of it owns at most so many bytes. That is counted before
     /// it is made.
     pub fn open_within(file: &[u8], most_bytes: u64) -> Result<Object, Error> {
-        let mut handle = Handle {
-            at: std::ptr::null_mut(),
-        };
+        let mut handle = std::ptr::null_mut();
         telling(|about, room, refusal| {
-            // SAFETY: the slices are borrowed for the call, and a handle of zeros is a closed one.
+            // SAFETY: the slices are borrowed for the call, and the handle is only written.
             unsafe {
-                raw::ebpf_open_within(file.as_ptr(), file.len(), 1, most_bytes, &mut handle, about, room, refusal)
+                raw::ebpf_open_within(
+                    file.as_ptr(),
+                    file.len(),
+                    1,
+                    most_bytes,
+                    &mut handle,
+                    about,
+                    room,
+                    refusal,
+                )
             }
         })?;
-        Ok(Object {
-            handle: UnsafeCell::new(handle),
-        })
+        Ok(Object { handle })
     }
 
     /// The object of a file after all passes over it.
     pub fn prepare(file: &[u8], target: &Target<'_>) -> Result<Object, Error> {
-        let mut handle = Handle {
-            at: std::ptr::null_mut(),
-        };
+        let mut handle = std::ptr::null_mut();
         let (rows, text) = map_fds(target.maps);
         let (types, symbols) = (target.types, target.symbols);
         telling(|about, room, refusal| {
-            // SAFETY: the slices are borrowed for the call, and a handle of zeros is a closed one.
+            // SAFETY: the slices are borrowed for the call, and the handle is only written.
             unsafe {
                 raw::ebpf_prepare(
                     file.as_ptr(),
@@ -185,14 +178,12 @@ impl Object {
                 )
             }
         })?;
-        Ok(Object {
-            handle: UnsafeCell::new(handle),
-        })
+        Ok(Object { handle })
     }
 
     /// Runs all passes over this object, with what was set on it. Where that is refused it is as it was.
     pub fn prepare_in_place(&mut self, target: &Target<'_>) -> Result<(), Error> {
-        let handle = self.handle.get_mut();
+        let handle = self.handle;
         let (rows, text) = map_fds(target.maps);
         let (types, symbols) = (target.types, target.symbols);
         telling(|about, room, refusal| {
@@ -218,21 +209,17 @@ impl Object {
 
     /// A copy that later calls on this one leave as it is.
     pub fn try_clone(&self) -> Result<Object, Error> {
-        let mut handle = Handle {
-            at: std::ptr::null_mut(),
-        };
-        // SAFETY: an `Object` is open, and a handle of zeros is a closed one.
-        plain(unsafe { raw::ebpf_clone(self.handle.get(), &mut handle) })?;
-        Ok(Object {
-            handle: UnsafeCell::new(handle),
-        })
+        let mut handle = std::ptr::null_mut();
+        // SAFETY: an `Object` is open, and the copy's handle is only written.
+        plain(unsafe { raw::ebpf_clone(self.handle, &mut handle) })?;
+        Ok(Object { handle })
     }
 
     /// What the object says of itself.
     pub fn info(&self) -> Result<Info, Error> {
         let mut info = raw::Info::default();
         // SAFETY: an `Object` is open.
-        plain(unsafe { raw::ebpf_info(self.handle.get(), &mut info) })?;
+        plain(unsafe { raw::ebpf_info(self.handle, &mut info) })?;
         Ok(Info {
             is_big_endian: info.is_big_endian != 0,
             kernel_version: (info.has_kernel_version != 0).then_some(info.kernel_version),
@@ -245,14 +232,14 @@ impl Object {
     /// The license of the programs.
     pub fn license(&self) -> Result<Vec<u8>, Error> {
         // SAFETY: an `Object` is open, and the buffer is ours.
-        filled(|text, room, len| unsafe { raw::ebpf_license(self.handle.get(), text, room, len) })
+        filled(|text, room, len| unsafe { raw::ebpf_license(self.handle, text, room, len) })
     }
 
     /// Whether the file states the license; else it is the default.
     pub fn states_license(&self) -> Result<bool, Error> {
         let mut states = 0;
         // SAFETY: an `Object` is open.
-        plain(unsafe { raw::ebpf_states_license(self.handle.get(), &mut states) })?;
+        plain(unsafe { raw::ebpf_states_license(self.handle, &mut states) })?;
         Ok(states != 0)
     }
 
@@ -265,7 +252,7 @@ impl Object {
             // SAFETY: an `Object` is open, and the buffers are ours.
             match unsafe {
                 list(
-                    self.handle.get(),
+                    self.handle,
                     rows.as_mut_ptr(),
                     rows_room,
                     text_at,
@@ -311,16 +298,14 @@ impl Object {
     /// The initial data of a map.
     pub fn map_data(&self, map: &str) -> Result<Vec<u8>, Error> {
         // SAFETY: an `Object` is open, the name is borrowed for the call, and the buffer is ours.
-        filled(|data, room, len| unsafe {
-            raw::ebpf_map_data(self.handle.get(), map.as_ptr(), map.len(), data, room, len)
-        })
+        filled(|data, room, len| unsafe { raw::ebpf_map_data(self.handle, map.as_ptr(), map.len(), data, room, len) })
     }
 
     /// The name of a program's section, empty where the section is not listed.
     pub fn program_section(&self, program: &str) -> Result<Vec<u8>, Error> {
         // SAFETY: an `Object` is open, the name is borrowed for the call, and the buffer is ours.
         filled(|text, room, len| unsafe {
-            raw::ebpf_program_section(self.handle.get(), program.as_ptr(), program.len(), text, room, len)
+            raw::ebpf_program_section(self.handle, program.as_ptr(), program.len(), text, room, len)
         })
     }
 
@@ -328,7 +313,7 @@ impl Object {
     pub fn slots(&self, program: &str) -> Result<Vec<Insn>, Error> {
         // SAFETY: an `Object` is open, the name is borrowed for the call, and the buffer is ours.
         filled(|slots, room, count| unsafe {
-            raw::ebpf_slots(self.handle.get(), program.as_ptr(), program.len(), slots, room, count)
+            raw::ebpf_slots(self.handle, program.as_ptr(), program.len(), slots, room, count)
         })
     }
 
@@ -336,7 +321,7 @@ impl Object {
     pub fn func_infos(&self, program: &str) -> Result<Vec<FuncInfo>, Error> {
         // SAFETY: an `Object` is open, the name is borrowed for the call, and the buffer is ours.
         filled(|rows, room, count| unsafe {
-            raw::ebpf_func_infos(self.handle.get(), program.as_ptr(), program.len(), rows, room, count)
+            raw::ebpf_func_infos(self.handle, program.as_ptr(), program.len(), rows, room, count)
         })
     }
 
@@ -344,13 +329,13 @@ impl Object {
     pub fn line_infos(&self, program: &str) -> Result<Vec<LineInfo>, Error> {
         // SAFETY: an `Object` is open, the name is borrowed for the call, and the buffer is ours.
         filled(|rows, room, count| unsafe {
-            raw::ebpf_line_infos(self.handle.get(), program.as_ptr(), program.len(), rows, room, count)
+            raw::ebpf_line_infos(self.handle, program.as_ptr(), program.len(), rows, room, count)
         })
     }
 
     /// Writes the value of a variable. Where the object has none of the name and `must_exist` is false, all stays.
     pub fn set_value(&mut self, variable: &str, value: &[u8], must_exist: bool) -> Result<(), Error> {
-        let handle = self.handle.get_mut();
+        let handle = self.handle;
         telling(|about, room, refusal| {
             // SAFETY: an `Object` is open, and the slices are borrowed for the call.
             unsafe {
@@ -372,7 +357,7 @@ impl Object {
     /// Writes the values of many variables, all or none: of each its name, its value, and whether the object has to have
     /// it. Of equal names the last counts. Many calls of `set_value` take longer, since each makes a table of all names.
     pub fn set_values(&mut self, values: &[(&str, &[u8], bool)]) -> Result<(), Error> {
-        let handle = self.handle.get_mut();
+        let handle = self.handle;
         let (rows, text, bytes) = value_rows(values);
         telling(|about, room, refusal| {
             // SAFETY: an `Object` is open, and the slices are borrowed for the call.
@@ -396,24 +381,24 @@ impl Object {
     /// Sets how many entries a map holds at most.
     pub fn set_max_entries(&mut self, map: &str, entries: u32) -> Result<(), Error> {
         // SAFETY: an `Object` is open, and the name is borrowed for the call.
-        plain(unsafe { raw::ebpf_set_max_entries(self.handle.get_mut(), map.as_ptr(), map.len(), entries) })
+        plain(unsafe { raw::ebpf_set_max_entries(self.handle, map.as_ptr(), map.len(), entries) })
     }
 
     /// Sets the size of a map's values, in bytes.
     pub fn set_value_size(&mut self, map: &str, size: u32) -> Result<(), Error> {
         // SAFETY: an `Object` is open, and the name is borrowed for the call.
-        plain(unsafe { raw::ebpf_set_value_size(self.handle.get_mut(), map.as_ptr(), map.len(), size) })
+        plain(unsafe { raw::ebpf_set_value_size(self.handle, map.as_ptr(), map.len(), size) })
     }
 
     /// Where the kernel lacks the helper functions 112 to 115, puts older ones in their place.
     pub fn sanitize(&mut self, has_newer: bool) -> Result<(), Error> {
         // SAFETY: an `Object` is open.
-        plain(unsafe { raw::ebpf_sanitize(self.handle.get_mut(), has_newer.into()) })
+        plain(unsafe { raw::ebpf_sanitize(self.handle, has_newer.into()) })
     }
 
     /// Relocates the functions to a kernel's types.
     pub fn relocate_types(&mut self, types: &[u8]) -> Result<(), Error> {
-        let handle = self.handle.get_mut();
+        let handle = self.handle;
         telling(|about, room, refusal| {
             // SAFETY: an `Object` is open, and the slice is borrowed for the call.
             unsafe { raw::ebpf_relocate_types(handle, types.as_ptr(), types.len(), about, room, refusal) }
@@ -422,7 +407,7 @@ impl Object {
 
     /// Writes descriptors of maps into the slots that refer to them.
     pub fn relocate_maps(&mut self, maps: &[(&str, i32)]) -> Result<(), Error> {
-        let handle = self.handle.get_mut();
+        let handle = self.handle;
         let (rows, text) = map_fds(maps);
         telling(|about, room, refusal| {
             // SAFETY: an `Object` is open, and the slices are borrowed for the call.
@@ -443,7 +428,7 @@ impl Object {
 
     /// Finds the externs in a kernel's types (empty: it isn't asked) and in its symbols.
     pub fn resolve_externs(&mut self, types: &[u8], symbols: &[u8]) -> Result<(), Error> {
-        let handle = self.handle.get_mut();
+        let handle = self.handle;
         telling(|about, room, refusal| {
             // SAFETY: an `Object` is open, and the slices are borrowed for the call.
             unsafe {
@@ -463,14 +448,14 @@ impl Object {
 
     /// Writes what is known of the externs into the slots that refer to them.
     pub fn relocate_externs(&mut self) -> Result<(), Error> {
-        let handle = self.handle.get_mut();
+        let handle = self.handle;
         // SAFETY: an `Object` is open.
         telling(|about, room, refusal| unsafe { raw::ebpf_relocate_externs(handle, about, room, refusal) })
     }
 
     /// Links each program with the functions that it reaches.
     pub fn relocate_calls(&mut self) -> Result<(), Error> {
-        let handle = self.handle.get_mut();
+        let handle = self.handle;
         // SAFETY: an `Object` is open.
         telling(|about, room, refusal| unsafe { raw::ebpf_relocate_calls(handle, about, room, refusal) })
     }
@@ -479,6 +464,6 @@ impl Object {
 impl Drop for Object {
     fn drop(&mut self) {
         // SAFETY: an `Object` is open, and this is its last use.
-        unsafe { raw::ebpf_close(self.handle.get_mut()) }
+        unsafe { raw::ebpf_close(self.handle) }
     }
 }

@@ -1,9 +1,9 @@
 //! include/ebpf.h as Rust has it.
 
-/// `struct ebpf_handle`.
+/// `struct ebpf_handle`, of which the header says nothing.
 #[repr(C)]
 pub struct Handle {
-    pub at: *mut u8,
+    _hidden: [u8; 0],
 }
 
 /// `struct ebpf_refusal`.
@@ -205,7 +205,7 @@ extern "C" {
     pub fn ebpf_open(
         file: *const u8,
         file_len: usize,
-        handle: *mut Handle,
+        handle: *mut *mut Handle,
         about: *mut u8,
         about_room: usize,
         refusal: *mut Refusal,
@@ -213,7 +213,7 @@ extern "C" {
     pub fn ebpf_open_broad(
         file: *const u8,
         file_len: usize,
-        handle: *mut Handle,
+        handle: *mut *mut Handle,
         about: *mut u8,
         about_room: usize,
         refusal: *mut Refusal,
@@ -223,12 +223,12 @@ extern "C" {
         file_len: usize,
         broad: u32,
         most_bytes: u64,
-        handle: *mut Handle,
+        handle: *mut *mut Handle,
         about: *mut u8,
         about_room: usize,
         refusal: *mut Refusal,
     ) -> u32;
-    pub fn ebpf_clone(handle: *mut Handle, copy: *mut Handle) -> u32;
+    pub fn ebpf_clone(handle: *const Handle, copy: *mut *mut Handle) -> u32;
     pub fn ebpf_close(handle: *mut Handle);
     pub fn ebpf_info(handle: *mut Handle, info: *mut Info) -> u32;
     pub fn ebpf_license(handle: *mut Handle, text: *mut u8, room: usize, len: *mut usize) -> u32;
@@ -475,7 +475,7 @@ extern "C" {
         text_len: usize,
         symbols: *const u8,
         symbols_len: usize,
-        handle: *mut Handle,
+        handle: *mut *mut Handle,
         about: *mut u8,
         about_room: usize,
         refusal: *mut Refusal,

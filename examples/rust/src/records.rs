@@ -97,7 +97,7 @@ impl Object {
         let (rows, text) = listed(
             |rows, room, text, text_room, counts, (about, about_room, refusal)| unsafe {
                 raw_found::ebpf_record_outcomes(
-                    self.handle.get(),
+                    self.handle,
                     types.as_ptr(),
                     types.len(),
                     rows,

@@ -3,9 +3,7 @@ use ebpf_c_wrapper::{Absence, CodeReference, Error, Object, RecordResult};
 use std::path::PathBuf;
 
 fn object(name: &str) -> Object {
-    let path = PathBuf::from(env!("CARGO_MANIFEST_DIR"))
-        .join("../..")
-        .join(name);
+    let path = PathBuf::from(env!("CARGO_MANIFEST_DIR")).join("../..").join(name);
     Object::open(&std::fs::read(path).expect("a file of the repository")).expect("an object")
 }
 

@@ -3,9 +3,7 @@ use ebpf_c_wrapper::{version, Details, Error, Object, Target};
 use std::path::PathBuf;
 
 fn file(name: &str) -> Vec<u8> {
-    let path = PathBuf::from(env!("CARGO_MANIFEST_DIR"))
-        .join("../..")
-        .join(name);
+    let path = PathBuf::from(env!("CARGO_MANIFEST_DIR")).join("../..").join(name);
     std::fs::read(path).expect("a file of the repository")
 }
 
@@ -166,4 +164,19 @@ fn a_map_without_a_descriptor_is_told_by_its_symbol() {
         ..Details::default()
     };
     assert!(matches!(&refused, Error::Maps(refusal) if refusal.number == 301 && refusal.details == place));
+}
+
+#[test]
+fn a_pass_is_made_at_most_once() {
+    let mut object = Object::open(&file("tests/drivers/test_rows/data/counter.o")).expect("an object");
+    let target = Target {
+        maps: &[("counts", 5), (".bss", 6), (".rodata", 7), ("tables", 8)],
+        ..Target::default()
+    };
+    object.relocate_maps(target.maps).expect("descriptors");
+    let slots = object.slots("on_wake").expect("slots");
+    assert_eq!(object.relocate_maps(target.maps), Err(Error::PassMade));
+    assert_eq!(object.prepare_in_place(&target), Err(Error::PassOrder));
+    assert_eq!(object.set_max_entries("counts", 1), Err(Error::PassOrder));
+    assert_eq!(object.slots("on_wake").expect("slots"), slots);
 }

@@ -47,7 +47,7 @@ into_pointer_spec 𝓤 𝓛 𝓜 𝓡 wired =
     qed 𝓛 ((‵ ftrue ⊛ ‵ (owns (types_at f.ended.signature.params y.0.0) y.0.3 y.0.4)) ∷ raw ((c y.0.0 y.0.3).requires y.1) ∷ []) ∵
     move ! (1 ∷ []) $ drop ! $ split ! $ move ! (1 ∷ []) $ fsplit ! $ handle_out ! v y.0.4.0 (λ same.
     move ! (1 ∷ []) $ fsplit ! $ handle_tells (freeing_of object_types) ! a y.0.4.1.0 (λ h freed fits.
-    move ! (2 ∷ []) $ held_out ! v.at v.object
+    move ! (2 ∷ []) $ held_out ! v.at v.held
     (λ at_null none.
     let ws : y.0.4.0 ≡ word null_ptr ∷ [] = same ∙ ap (λ (p : Ptr). word p ∷ []) at_null in
     suffices ! (runs (word null_ptr ∷ h ∷ [])) (subst (λ (us : List Val). ent 𝓤 (runs (word null_ptr ∷ h ∷ [])) (runs us)) (sym (λ i. ws i ++ (freed i ++ []))) (id⊢ 𝓤 _)) $

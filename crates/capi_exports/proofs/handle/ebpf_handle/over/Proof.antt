@@ -41,6 +41,6 @@ over_spec 𝓤 𝓛 𝓜 𝓡 wired =
     sets ! (of_opd ! (get ! refl)) refl (tt, tt) $
     sets ! (agg ! (and_then ! (get ! refl) (no_more !))) refl (tt, (tt, tt)) $
     returns ! (look_at ! 0 refl) $ free_all ! refl $ keep ! (0 ∷ []) $
-    suffices ! _ (ends_at 𝓛 f.ended stayed c y (word (block_ptr b o)) (record { at = block_ptr b o; object = Some l.value }) (tt, tt) (tt, tt)) $ says ! refl $
+    suffices ! _ (ends_at 𝓛 f.ended stayed c y (word (block_ptr b o)) (record { at = block_ptr b o; held = Some l.value }) (tt, tt) (tt, tt)) $ says ! refl $
     handle_in ! (block_ptr b o) (Some l.value) $
     nothing ! $ nothing ! $ join ! $ nothing ! $ done !)))

@@ -25,6 +25,6 @@ without_object_spec 𝓤 𝓛 𝓜 𝓡 wired =
     enter ! _ _ _ _ _ $ alloc_all ! (λ l. pass_all ! refl tt $
     sets ! (agg ! (and_then ! (lit ! tt) (no_more !))) refl (tt, (record { fits = lit< tt }, tt)) $
     returns ! (look_at ! 0 refl) $ free_all ! refl $
-    suffices ! _ (ends_at 𝓛 f.ended tt c y (word null_ptr) (record { at = null_ptr; object = None }) tt tt) $ says ! refl $
+    suffices ! _ (ends_at 𝓛 f.ended tt c y (word null_ptr) (record { at = null_ptr; held = None }) tt tt) $ says ! refl $
     feq_i ! Ptr null_ptr null_ptr refl $ handle_in ! null_ptr None $
     nothing ! $ join ! $ nothing ! $ join ! $ done !))

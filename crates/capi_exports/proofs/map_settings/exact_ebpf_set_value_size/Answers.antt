@@ -1,0 +1,11 @@
+use Rattle.std.proofs.Common.{Some, ap, ◌∙◌}
+use Rattle.capi_exports.proofs.Handles.{of_handle}
+use Rattle.capi_exports.specs.PassOrder.{Sets}
+use Rattle.capi_exports.specs.Settings.{SetsMap}
+use Rattle.ebpf_parts.specs.Maps.{with_value_size}
+use Rattle.capi_exports.proofs.map_settings.exact_ebpf_set_value_size.Goals as goal
+
+pub returns : goal.returns
+returns c =
+    of_handle (Sets (SetsMap (λ m. with_value_size m c.args.size) c.args.name.now)) _ _ c.deref_mut.result.now _ _
+    (ap Some c.deref_mut.ensures.value ∙ c.in-Some.ensures.held) c.put.ensures c.set_held-number.ensures
