@@ -153,7 +153,7 @@ enum ebpf_number {
 	EBPF_PARSE_NO_SYMBOLS = 154, /* no symbol is in a section; about the section */
 	EBPF_PARSE_NO_TYPES = 155, /* the object has no types */
 	EBPF_PARSE_BIG_ENDIAN_CODE = 156, /* the file is big-endian and has code: lenient parsing alone */
-	EBPF_PARSE_TOO_LARGE = 157, /* what is made of the file would pass the limit: ebpf_open_within alone */
+	EBPF_PARSE_TOO_LARGE = 157, /* what is made of the file would pass the limit (max_bytes) */
 	EBPF_PARSE_OTHER_MACHINE = 158, /* the file is for another machine than eBPF: lenient parsing alone */
 
 	/* 200 to 299: types. About the section, from 220 on */

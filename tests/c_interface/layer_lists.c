@@ -164,12 +164,10 @@ static void check_parts(struct ebpf_handle *of, const struct ebpf_handle *closed
 
 /* ---- lists that are taken over something that is given */
 
-static void check_taken(const struct layer_files *files, const struct ebpf_handle *closed)
+static void check_copies(const struct layer_files *files, const struct ebpf_handle *closed)
 {
 	struct ebpf_handle *of = object_of(&files->small);
 	struct ebpf_code_copy copy;
-	struct ebpf_record_outcome outcome;
-	struct ebpf_initial_slot slot;
 	const char *name, *other;
 	size_t count = 77;
 
@@ -188,13 +186,28 @@ static void check_taken(const struct layer_files *files, const struct ebpf_handl
 	CHECK("copies", is_last(closed, EBPF_CLOSED) && ebpf_link_map(NULL, "p", 1, NULL) == EBPF_CLOSED);
 	CHECK("copies", ebpf_sanitize(of, 1) == EBPF_DONE && !ebpf_code_copy_at(of, 0, NULL) && is_last(of, EBPF_NO_ROW));
 	ebpf_close(of);
-	of = object_of(&files->counter);
+}
+
+static void check_outcomes(const struct layer_files *files)
+{
+	struct ebpf_handle *of = object_of(&files->counter);
+	struct ebpf_record_outcome outcome;
+	size_t count = 77;
+
 	CHECK("outcomes", ebpf_record_outcomes(of, files->types.at, files->types.len, &count) == EBPF_DONE && count);
 	CHECK("outcomes", ebpf_record_outcome_at(of, count - 1, &outcome) && outcome.has_slot);
 	CHECK("outcomes", !ebpf_record_outcome_at(of, count, NULL) && is_last(of, EBPF_NO_ROW));
 	CHECK("outcomes", ebpf_record_outcomes(of, NULL, 0, &count) == EBPF_TYPES_READ_INVALID_HEADER);
 	ebpf_close(of);
-	of = object_of(&files->loaded);
+}
+
+static void check_initial(const struct layer_files *files)
+{
+	struct ebpf_handle *of = object_of(&files->loaded);
+	struct ebpf_initial_slot slot;
+	const char *name;
+	size_t count = 77;
+
 	CHECK("initial values", ebpf_initial_slots(of, files->loaded.at, files->loaded.len, &count) == EBPF_DONE && count);
 	for (size_t at = 0; at < count; at++) {
 		name = ebpf_initial_slot_at(of, at, &slot);
@@ -276,7 +289,9 @@ void check_kept(const struct layer_files *files)
 		check_parts(of, closed);
 		ebpf_close(of);
 	}
-	check_taken(files, closed);
+	check_copies(files, closed);
+	check_outcomes(files);
+	check_initial(files);
 	check_values(files, closed);
 	check_dropped(files);
 	ebpf_close(closed);

@@ -18,7 +18,7 @@ CHECK = TOP / "examples/check"
 PIECES = ["prepared", "opened", "kept", "listed", "refused"]
 
 # The number of a relocation of maps without a descriptor in words, as docs/C.md has it.
-SENTENCE = 'maps: no descriptor is given for any map of the symbol\'s section: "count" (symbol 12, section 9)'
+SENTENCE = 'maps: no descriptor is given for any map of the symbol\'s section: "count" (symbol 12, section 12)'
 
 # What page_code prints. `ebpf link` in docs/CLI.md has the 35 slots, of which slot 11 is poisoned. `readelf -s` has the
 # sizes of the programs, and the number of the symbol `seen`, whose map gets no descriptor.
