@@ -327,6 +327,8 @@ static void put_told(uint32_t number)
 {
 	const struct ebpf_error *error = ebpf_last_error(not_opened ? not_opened : object);
 
+	if (!not_opened && !object && types_error.number)
+		error = &types_error;
 	if (number != EBPF_DONE && error->number == number) {
 		if (!is_told(&error->refusal, number, error->name_len) || error->is_cut || strlen(error->name) != error->name_len)
 			errx(3, "another refusal than %u is told", number);

@@ -13,19 +13,27 @@ uint32_t number_of(const struct made_on *on, const void *kept)
 	return number;
 }
 
+struct ebpf_error types_error;
+
 /* The types for the kernel, which a handle keeps. Without one the proved call is made, as the layer makes it. */
 static int64_t take_types(const struct made_on *on, const uint8_t **types, size_t *len)
 {
 	static uint8_t room[MANY];
 	static char about[128];
-	static struct ebpf_refusal refusal;
+	struct ebpf_error *error = &types_error;
 
+	if (on->object) {
+		*types = ebpf_kernel_types(on->object, on->file.at, on->file.len, len);
+		return number_of(on, *types);
+	}
 	*types = room;
-	if (!on->object)
-		return exact_ebpf_kernel_types(on->file.at, on->file.len, room, sizeof(room), len, about, sizeof(about),
-					       &refusal);
-	*types = ebpf_kernel_types(on->object, on->file.at, on->file.len, len);
-	return number_of(on, *types);
+	memset(about, 0, sizeof(about));
+	memset(error, 0, sizeof(*error));
+	error->number = exact_ebpf_kernel_types(on->file.at, on->file.len, room, sizeof(room), len, about,
+						sizeof(about) - 1, &error->refusal);
+	error->name = about;
+	error->name_len = error->refusal.name_len;
+	return error->number;
 }
 
 static int64_t put_types(const struct made_on *on)

@@ -13,6 +13,9 @@ struct made_on {
 /* The number of the last call, of which something that the handle keeps is `kept`. */
 uint32_t number_of(const struct made_on *on, const void *kept);
 
+/* What was said last of types without a handle. */
+extern struct ebpf_error types_error;
+
 /* Makes the call of an action, and prints what it lists; its number. -1 where no call has the name. */
 int64_t loader_call(const struct made_on *on, const char *name, char *rest);
 
