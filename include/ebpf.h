@@ -397,9 +397,9 @@ const char *ebpf_strerror(uint32_t number);
 /* Returns 0 if the library has the version of this header, else EBPF_OTHER_VERSION. The last part may be greater. */
 EBPF_INLINE uint32_t ebpf_check_version(void)
 {
-	uint32_t of_library = ebpf_version_number();
+	uint32_t of_library = ebpf_version_number(), of_header = EBPF_VERSION_NUMBER;
 
-	if (of_library / 1000 != EBPF_VERSION_NUMBER / 1000 || of_library < EBPF_VERSION_NUMBER)
+	if (of_library / 1000 != of_header / 1000 || of_library < of_header)
 		return EBPF_OTHER_VERSION;
 	return EBPF_DONE;
 }
