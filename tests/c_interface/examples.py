@@ -68,9 +68,9 @@ def python(folder, library):
     return [
         ("the blocks of Python", None if len(blocks) == 2 else f"{len(blocks)} blocks, and 2 are run"),
         ("the lines of Python", None if done.stdout == "on_packet 15\non_wake 13\n" else said(done)),
-        ("the same on no object", None if refused.stderr == "refused: 100\n" else said(refused)),
+        ("the same on no object", None if refused.stderr == "refused: 100: the file is too short for its header\n" else said(refused)),
         ("a program's copies", None if made.stdout == "2\n0 p\n2 f\n" else said(made)),
-        ("those of no program", None if absent.stderr == "refused: 4\n" else said(absent)),
+        ("those of no program", None if absent.stderr == "refused: 4: no program has the name\n" else said(absent)),
     ]
 
 

@@ -69,8 +69,8 @@ make_kit() {
     mkdir -p "$RT_KIT/c"
     touch "$RT_KIT/START-HERE.md" "$RT_KIT/WHAT"
     if command -v gcc >/dev/null; then
-        # each proved call that the layer names, of which one returns what is asked of it
-        cat "$top"/c/*.c | grep -o '\bexact_ebpf_[a-z_]*(' | sort -u | sed 's/($//; s/.*/int &(void) { return 7008009; }/' |
+        # each proved call, of which one returns what is asked of it
+        grep -o '\bexact_ebpf_[a-z_]*(' "$top/c/exact.h" | sort -u | sed 's/($//; s/.*/int &(void) { return 7008009; }/' |
             gcc -c -fPIC -x c -o "$RT_KIT/calls.o" -
         ar rcs "$RT_KIT/calls.a" "$RT_KIT/calls.o"
     else

@@ -78,7 +78,7 @@ ALL = [
         "a value that the configuration lacks",
         "configuration_missing",
         ["read_configuration"],
-        refusal="(904) CONFIG_NO_SUCH_OPTION",
+        refusal='"CONFIG_NO_SUCH_OPTION" (904)',
     ),
     Case("functions of the kernel, in tc", "kernel_functions", ["find_own_task"], ran(FUNCTIONS, 1)),
     Case("the same in syscall", "kernel_functions", ["find_own_task_in_syscall"], ran(FUNCTIONS, 11)),
