@@ -12,7 +12,7 @@ use std::ptr::{self, NonNull};
 /// It stays on the thread that made it, as `ebpf.h` asks: it is neither `Send` nor `Sync`. All that its calls return is
 /// both.
 ///
-/// ```compile_fail
+/// ```compile_fail,E0277
 /// fn is_send<T: Send>() {}
 /// is_send::<ebpf_object::Object>();
 /// ```

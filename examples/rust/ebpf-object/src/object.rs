@@ -98,7 +98,8 @@ pub(crate) fn descriptor_rows<S: AsRef<str>>(maps: &[(S, i32)]) -> (Vec<sys::ebp
 /// // a loader makes these maps first, by bpf(2)
 /// let maps = [("counts", 5), (".bss", 6), (".rodata", 7), ("tables", 8)];
 /// let prepared = object.prepare(&Kernel::none(), &maps)?;
-/// assert_eq!(prepared.slots("on_packet")?.len(), 15);
+/// // its own 15 slots, and the 18 of the function that it calls
+/// assert_eq!(prepared.slots("on_packet")?.len(), 33);
 /// # Ok(())
 /// # }
 /// ```

@@ -7,13 +7,13 @@ use std::ops::Deref;
 ///
 /// Its getters are those of [`Contents`]. No pass can be made any more, and nothing can be set:
 ///
-/// ```compile_fail
+/// ```compile_fail,E0599
 /// fn again(prepared: ebpf_object::Prepared) {
 ///     prepared.prepare(&ebpf_object::Kernel::none(), &[("counts", 5)]);
 /// }
 /// ```
 ///
-/// ```compile_fail
+/// ```compile_fail,E0599
 /// fn set(mut prepared: ebpf_object::Prepared) {
 ///     prepared.set_max_entries("counts", 1);
 /// }

@@ -50,7 +50,7 @@ mod order {
 /// Each pass may be left out, and each is made at most once, in this order: types, maps, resolution of externs, externs,
 /// calls. A pass in another order does not compile:
 ///
-/// ```compile_fail
+/// ```compile_fail,E0277
 /// use ebpf_object::{Failed, MapsRelocated, Steps, TypesRelocated};
 ///
 /// fn turned(steps: Steps<MapsRelocated>) -> Result<Steps<TypesRelocated>, Failed<Steps<MapsRelocated>>> {

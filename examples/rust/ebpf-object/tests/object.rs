@@ -1,6 +1,6 @@
 //! Objects and their passes.
 use ebpf_object::{
-    library_version, Absence, Error, Failed, Kernel, Object, OpenOptions, OutcomeResult, Prepared, ProgramKind,
+    library_version, Absence, Error, Failed, Insn, Kernel, Object, OpenOptions, OutcomeResult, Prepared, ProgramKind,
     SectionKind, Setting,
 };
 use std::path::Path;
@@ -125,10 +125,12 @@ fn an_object_is_prepared_with_its_values() {
     assert_eq!(object.slots("on_packet").expect("slots"), before);
     let prepared = object.prepare(&Kernel::none(), &COUNTER_MAPS).expect("prepared");
     let slots = prepared.slots("on_packet").expect("slots");
-    assert_eq!(slots.iter().filter(|it| it.imm == 8).count(), 1);
+    // its own 15 slots, and the 18 of the function that it calls; each refers to the map once
+    let refers = |it: &&Insn| it.code == 0x18 && it.imm == 8;
+    assert_eq!((slots.len(), slots[..15].iter().filter(refers).count()), (33, 1));
     assert_eq!(prepared.map_data(".rodata").expect("data"), [42, 0, 0, 0]);
     assert_eq!(prepared.try_clone().expect("a copy").slots("on_packet").expect("slots"), slots);
-    assert_eq!(prepared.func_infos("on_packet").expect("func info").len(), 1);
+    assert_eq!(prepared.func_infos("on_packet").expect("func info").len(), 2);
     assert!(!prepared.line_infos("on_packet").expect("line info").is_empty());
 }
 
