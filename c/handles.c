@@ -1,110 +1,94 @@
-/* The calls that make a handle and that free one, over the proved calls on what it holds. */
+/* The calls that make a handle and that free one. */
 #include "layer.h"
 #include <stdlib.h>
+#include <string.h>
 
-uint32_t exact_ebpf_open(const uint8_t *, size_t, struct ebpf_handle *, char *, size_t, struct ebpf_refusal *);
-uint32_t exact_ebpf_open_broad(const uint8_t *, size_t, struct ebpf_handle *, char *, size_t, struct ebpf_refusal *);
-uint32_t exact_ebpf_open_within(const uint8_t *, size_t, uint32_t, uint64_t, struct ebpf_handle *, char *, size_t,
-				struct ebpf_refusal *);
-uint32_t exact_ebpf_prepare(const uint8_t *, size_t, const uint8_t *, size_t, const struct ebpf_descriptor *, size_t,
-			    const char *, size_t, const uint8_t *, size_t, struct ebpf_handle *, char *, size_t,
-			    struct ebpf_refusal *);
-uint32_t exact_ebpf_clone(struct ebpf_handle *, struct ebpf_handle *);
-void exact_ebpf_close(struct ebpf_handle *);
+uint64_t ebpf_layer_nothing;
 
-/* A closed handle, or NULL: then the refusal says that memory was wanted. */
-static struct ebpf_handle *make(struct ebpf_refusal *refusal)
+/* A handle without an object, or NULL. */
+struct ebpf_handle *ebpf_layer_make(void)
 {
-	struct ebpf_handle *made = malloc(sizeof(*made));
+	struct ebpf_handle *made = calloc(1, sizeof(*made));
 
 	if (made)
-		made->at = NULL;
-	else if (refusal)
-		*refusal = (struct ebpf_refusal){ .number = EBPF_MEMORY };
+		ebpf_layer_end(made, EBPF_DONE, NULL);
 	return made;
 }
 
-/* Gives the handle to the caller, or frees it where nothing is in it. */
-static uint32_t give(uint32_t number, struct ebpf_handle *made, struct ebpf_handle **handle)
+/* Reads a struct of options, of which `known` has the defaults and the size. Whether this library knows what it says. */
+int ebpf_layer_options(const void *options, void *known, size_t size)
 {
-	if (number != EBPF_DONE) {
-		free(made);
-		made = NULL;
-	}
+	const uint8_t *bytes = options;
+	size_t given = size;
+
+	if (!options)
+		return 1;
+	memcpy(&given, options, sizeof(given));
+	if (given < sizeof(given))
+		return 0;
+	for (size_t at = size; at < given; at++)
+		if (bytes[at])
+			return 0;
+	memset(known, 0, size);
+	memcpy(known, options, given < size ? given : size);
+	return 1;
+}
+
+/* Opens a file into a handle. */
+static uint32_t open_into(struct ebpf_handle *made, const uint8_t *file, size_t file_len,
+			  const struct ebpf_open_options *with, struct ebpf_told *told)
+{
+	if (with->max_bytes)
+		return exact_ebpf_open_within(EBPF_ARRAY(file, file_len), with->parsing == EBPF_LENIENT, with->max_bytes,
+					      &made->exact, EBPF_TOLD(*told));
+	if (with->parsing == EBPF_STRICT)
+		return exact_ebpf_open(EBPF_ARRAY(file, file_len), &made->exact, EBPF_TOLD(*told));
+	return exact_ebpf_open_broad(EBPF_ARRAY(file, file_len), &made->exact, EBPF_TOLD(*told));
+}
+
+uint32_t ebpf_open(const uint8_t *file, size_t file_len, const struct ebpf_open_options *options,
+		   struct ebpf_handle **handle)
+{
+	struct ebpf_open_options with = ebpf_open_defaults();
+	struct ebpf_handle *made = ebpf_layer_make();
+	struct ebpf_told told;
+	uint32_t number;
+
 	*handle = made;
-	return number;
-}
-
-uint32_t ebpf_open(const uint8_t *file, size_t file_len, struct ebpf_handle **handle, char *about, size_t about_room,
-		   struct ebpf_refusal *refusal)
-{
-	struct ebpf_refusal no_refusal = { 0 };
-	struct ebpf_handle *made = make(refusal);
-
 	if (!made)
-		return give(EBPF_MEMORY, made, handle);
-	return give(exact_ebpf_open(EBPF_ARRAY(file, file_len), made, EBPF_ARRAY(about, about_room),
-				    refusal ? refusal : &no_refusal),
-		    made, handle);
-}
-
-uint32_t ebpf_open_broad(const uint8_t *file, size_t file_len, struct ebpf_handle **handle, char *about,
-			 size_t about_room, struct ebpf_refusal *refusal)
-{
-	struct ebpf_refusal no_refusal = { 0 };
-	struct ebpf_handle *made = make(refusal);
-
-	if (!made)
-		return give(EBPF_MEMORY, made, handle);
-	return give(exact_ebpf_open_broad(EBPF_ARRAY(file, file_len), made, EBPF_ARRAY(about, about_room),
-					  refusal ? refusal : &no_refusal),
-		    made, handle);
-}
-
-uint32_t ebpf_open_within(const uint8_t *file, size_t file_len, uint32_t lenient, uint64_t most_bytes,
-			  struct ebpf_handle **handle, char *about, size_t about_room, struct ebpf_refusal *refusal)
-{
-	struct ebpf_refusal no_refusal = { 0 };
-	struct ebpf_handle *made = make(refusal);
-
-	if (!made)
-		return give(EBPF_MEMORY, made, handle);
-	return give(exact_ebpf_open_within(EBPF_ARRAY(file, file_len), lenient, most_bytes, made,
-					   EBPF_ARRAY(about, about_room), refusal ? refusal : &no_refusal),
-		    made, handle);
-}
-
-uint32_t ebpf_prepare(const uint8_t *file, size_t file_len, const uint8_t *types, size_t types_len,
-		      const struct ebpf_descriptor *rows, size_t rows_len, const char *text, size_t text_len,
-		      const uint8_t *symbols, size_t symbols_len, struct ebpf_handle **handle, char *about,
-		      size_t about_room, struct ebpf_refusal *refusal)
-{
-	struct ebpf_refusal no_refusal = { 0 };
-	struct ebpf_handle *made = make(refusal);
-
-	if (!made)
-		return give(EBPF_MEMORY, made, handle);
-	return give(exact_ebpf_prepare(EBPF_ARRAY(file, file_len), EBPF_ARRAY(types, types_len),
-				       EBPF_ARRAY(rows, rows_len), EBPF_ARRAY(text, text_len),
-				       EBPF_ARRAY(symbols, symbols_len), made, EBPF_ARRAY(about, about_room),
-				       refusal ? refusal : &no_refusal),
-		    made, handle);
+		return EBPF_MEMORY;
+	if (!ebpf_layer_options(options, &with, sizeof(with)) || with.parsing > EBPF_STRICT || with.reserved)
+		return ebpf_layer_end(made, EBPF_BAD_OPTIONS, NULL);
+	ebpf_layer_begin(&told);
+	do
+		number = open_into(made, file, file_len, &with, &told);
+	while (ebpf_layer_is_cut(number, &told));
+	return ebpf_layer_end(made, number, &told);
 }
 
 uint32_t ebpf_clone(const struct ebpf_handle *handle, struct ebpf_handle **copy)
 {
-	struct ebpf_handle closed = { NULL };
-	struct ebpf_handle *made = make(NULL);
+	struct exact_handle closed = { NULL };
+	struct ebpf_handle *made = ebpf_layer_make();
+	uint32_t number = made ? exact_ebpf_clone(EBPF_EXACT(handle), &made->exact) : EBPF_MEMORY;
 
-	if (!made)
-		return give(handle ? EBPF_MEMORY : EBPF_CLOSED, made, copy);
-	return give(exact_ebpf_clone(EBPF_HANDLE(handle), made), made, copy);
+	if (!handle || !handle->exact.at)
+		number = EBPF_CLOSED;
+	if (number != EBPF_DONE) {
+		free(made);
+		made = NULL;
+	}
+	*copy = made;
+	return ebpf_layer_end(handle, number, NULL);
 }
 
 void ebpf_close(struct ebpf_handle *handle)
 {
 	if (!handle)
 		return;
-	exact_ebpf_close(handle);
+	exact_ebpf_close(&handle->exact);
+	ebpf_layer_drop(handle);
+	free(handle->long_name);
+	free(handle->sentence);
 	free(handle);
 }

@@ -11,15 +11,15 @@ const char *ebpf_strerror(uint32_t number)
 	case EBPF_MEMORY:
 		return "out of memory";
 	case EBPF_CLOSED:
-		return "the handle is closed: it is NULL";
+		return "the handle has no object: it is NULL, or its file was refused";
 	case EBPF_NO_PROGRAM:
 		return "no program has the name";
 	case EBPF_NO_MAP:
 		return "no map has the name";
 	case EBPF_BAD_NAME:
-		return "a name that is given is no UTF-8, or a row's name is not inside the text beside it";
+		return "a name that is given is no UTF-8";
 	case EBPF_BAD_VALUE:
-		return "a row's value is not inside the bytes beside it";
+		return "a row's value is not inside the bytes beside it; the lower layer alone";
 	case EBPF_NO_EXTERN:
 		return "no kconfig extern has the name";
 	case EBPF_WRONG_LENGTH:
@@ -30,6 +30,12 @@ const char *ebpf_strerror(uint32_t number)
 		return "the pass is the last one that was made of the object";
 	case EBPF_PASS_ORDER:
 		return "a later pass was made of the object; for what sets something, any pass was made";
+	case EBPF_BAD_OPTIONS:
+		return "a struct of options has a size or a value that this library does not know";
+	case EBPF_NO_ROW:
+		return "no row has the index, or the list was not taken";
+	case EBPF_OTHER_VERSION:
+		return "the library has another version than the header";
 	case EBPF_PARSE_TOO_SHORT:
 		return "the file is too short for its header";
 	case EBPF_PARSE_BAD_MAGIC:

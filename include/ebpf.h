@@ -8,35 +8,42 @@
  *  - A count is no greater than what lies behind its pointer, and each pointer is aligned for its type.
  *  - What a call may write (each pointer without const) overlaps nothing else that the call is given. No other thread
  *    touches it during the call. What is const does not change during the call: that goes for a mapped file too.
- *  - A handle is what `ebpf_open`, `ebpf_open_broad`, `ebpf_open_within`, `ebpf_prepare` or `ebpf_clone` gave. It stays
- *    on the thread that made it, and one call at a time uses it, also where it is const: a call takes the object out
- *    of the handle while it runs. `ebpf_close` frees it, once.
+ *  - A handle is what `ebpf_open`, `ebpf_prepare` or `ebpf_clone` gave. It stays on the thread that made it, and one
+ *    call at a time uses it, also where it is const: a call takes the object out of the handle while it runs, and keeps
+ *    its error and its lists there. Two threads that read one object have a handle each (`ebpf_clone`). `ebpf_close`
+ *    frees it, once.
  *  - malloc, realloc and free are of one allocator and align as the C standard says. No call is made from a signal
  *    handler, nor in the child that a process with threads forked.
  * Beyond these anything may be passed: any bytes as a file, types, symbols, names or values, any numbers.
- *  - A null array is empty, whatever its count. A null handle is a closed one (3). A null count, row or refusal is not
- *    written. Only where a handle is given out (`struct ebpf_handle **`) the pointer is not null.
- *  - Memory that a call writes needn't be initialised. The calls that give out a handle write it, and never read it: it
- *    is NULL where the call refuses.
+ *  - A null array is empty, whatever its count. A null handle is a closed one (3). A null count or row is not written.
+ *    Only where a handle is given out (`struct ebpf_handle **`) the pointer is not null.
+ *  - Memory that a call writes needn't be initialised. The calls that give out a handle write it, and never read it.
  *  - No pointer that a call is given is kept behind the call. The object has copies of all that it needs.
  *
  * The calls are two layers. The lower one is proved; its names begin with `exact_`, and it takes no null pointer and a
- * handle in the caller's own memory. The upper one is C (c/): it puts an empty array, a closed handle or a place of its
- * own where a pointer is null, makes and frees the block that a handle is, and has the texts of `ebpf_strerror`.
+ * handle in the caller's own memory. The upper one is C (c/), and tested: it puts an empty array, a closed handle or a
+ * place of its own where a pointer is null, makes and frees the block that a handle is, keeps errors and lists there,
+ * and has the texts of `ebpf_strerror`.
  *
  * A call returns a number. 0 (EBPF_DONE): all is done and written, exactly as the call's text says. Any other number:
- * handles and buffers are unchanged, but for what is said here of counts and of `about`.
+ * the object and buffers are unchanged, but for what is said here of counts. `ebpf_last_error` says more of it.
  *
- * Counts: with the numbers 0 and 1 (EBPF_ROOM), a call's counts (*len, *count, *counts, *is_found) say how much there
- * is. So they say how much room is needed. With any other number they are unchanged.
+ * Counts: with the numbers 0 and 1 (EBPF_ROOM), a call's counts (*len, *count, *counts) say how much there is. So they
+ * say how much room is needed. With any other number they are unchanged.
  *
- * about: a call that can refuse by a name has `char *about, size_t about_room, struct ebpf_refusal *refusal`. If the
- * number is not 0, `about` holds the name that is concerned, cut to `about_room`: of a function, a map, a section, for
- * example. `*refusal` holds the number, `name_len` and the details, as the slot or the symbol (struct ebpf_refusal). If
- * no name is concerned, as with 1, `name_len` is 0 and `about` is unchanged. With the number 0 both are unchanged.
+ * Calls that return a pointer or a count return what the handle keeps ('what a handle keeps for its caller'). They
+ * return NULL or 0 where they refuse.
  *
- * Texts are UTF-8 with a length. Names are compared byte by byte. Lists are in byte order of their names, unless a call
+ * Names are UTF-8 with a length. They are compared byte by byte. Lists are in byte order of their names, unless a call
  * says otherwise. Each call that writes into a buffer writes to its front and leaves the rest.
+ *
+ * What stays:
+ *  - A number keeps its meaning. New ones get numbers that were free.
+ *  - From 0.4 on a symbol is never given another signature. What is replaced gets another name. If a symbol goes, the
+ *    soname is a new one.
+ *  - A struct that a caller makes for a call, and that may grow, begins with its size (struct ebpf_open_options). Other
+ *    structs that a caller lays out never grow. A struct that the library makes (struct ebpf_error) grows at its end.
+ *  - `ebpf_check_version` compares the library with the header. Call it once.
  */
 #ifndef EBPF_H
 #define EBPF_H
@@ -51,6 +58,12 @@
 #else
 #define EBPF_CHECKED
 #define EBPF_NONNULL(number)
+#endif
+
+#ifdef __GNUC__
+#define EBPF_INLINE static inline __attribute__((unused))
+#else
+#define EBPF_INLINE static inline
 #endif
 
 #ifdef __cplusplus
@@ -71,16 +84,21 @@ enum ebpf_number {
 	EBPF_DONE = 0, /* all is done and written */
 	EBPF_ROOM = 1, /* a buffer is too small; the counts say how much is needed */
 	EBPF_MEMORY = 2, /* out of memory */
-	EBPF_CLOSED = 3, /* the handle is closed: it is NULL */
+	EBPF_CLOSED = 3, /* the handle has no object: it is NULL, or its file was refused */
 	EBPF_NO_PROGRAM = 4, /* no program has the name */
 	EBPF_NO_MAP = 5, /* no map has the name */
-	EBPF_BAD_NAME = 6, /* a name that is given is no UTF-8, or a row's name is not inside the text beside it */
-	EBPF_BAD_VALUE = 7, /* a row's value is not inside the bytes beside it */
+	EBPF_BAD_NAME = 6, /* a name that is given is no UTF-8 */
+	EBPF_BAD_VALUE = 7, /* a row's value is not inside the bytes beside it; the lower layer alone */
 	EBPF_NO_EXTERN = 8, /* no kconfig extern has the name */
 	EBPF_WRONG_LENGTH = 9, /* the data has another length than that of the map */
 	EBPF_NO_VARIABLE = 10, /* no symbol has the name, or its bytes are not inside the data of a map */
 	EBPF_PASS_MADE = 11, /* the pass is the last one that was made of the object */
 	EBPF_PASS_ORDER = 12, /* a later pass was made of the object; for what sets something, any pass was made */
+
+	/* 90 to 99: of the layer in C */
+	EBPF_BAD_OPTIONS = 90, /* a struct of options has a size or a value that this library does not know */
+	EBPF_NO_ROW = 91, /* no row has the index, or the list was not taken */
+	EBPF_OTHER_VERSION = 92, /* the library has another version than the header */
 
 	/* 100 to 199: the file can't be parsed, or an object can't be changed by values */
 	EBPF_PARSE_TOO_SHORT = 100, /* the file is too short for its header */
@@ -341,8 +359,7 @@ enum ebpf_detail {
 };
 
 /*
- * A refusal. If a call returns another number than 0, it writes every field. Fields that `has` does not name are 0.
- * docs/C.md, 'Refusals', says which numbers have which fields.
+ * A refusal. Fields that `has` does not name are 0. docs/C.md, 'Refusals', says which numbers have which fields.
  */
 struct ebpf_refusal {
 	uint32_t number;	/* what the call returns */
@@ -360,7 +377,7 @@ struct ebpf_refusal {
 	uint64_t index;		/* the number of a member, an element or a variant that is asked for */
 	uint64_t count;		/* how many of them there are, or how many slots */
 	uint64_t kind;		/* a map type (enum bpf_map_type), a kind of CO-RE relocation, or a machine (e_machine) */
-	size_t name_len;	/* how many bytes of the name are in `about` */
+	size_t name_len;	/* how many bytes the name has: ebpf_error.name */
 };
 
 /*
@@ -377,41 +394,97 @@ uint32_t ebpf_number_name(uint32_t number, char *text, size_t room, size_t *len)
  */
 const char *ebpf_strerror(uint32_t number);
 
-/* ---- handles */
+/* Returns 0 if the library has the version of this header, else EBPF_OTHER_VERSION. The last part may be greater. */
+EBPF_INLINE uint32_t ebpf_check_version(void)
+{
+	uint32_t of_library = ebpf_version_number();
 
-/* An object that was opened, and the last pass that was made of it. */
+	if (of_library / 1000 != EBPF_VERSION_NUMBER / 1000 || of_library < EBPF_VERSION_NUMBER)
+		return EBPF_OTHER_VERSION;
+	return EBPF_DONE;
+}
+
+/* ---- handles, and the error of the last call */
+
+/* An object that was opened, the last pass that was made of it, its last error, and its lists. */
 struct ebpf_handle;
 
-/*
- * Opens the object of a file by strict parsing, and gives out a handle: *handle is NULL with other numbers than 0.
- * Numbers: 2, 100 to 199.
- */
-EBPF_CHECKED uint32_t ebpf_open(const uint8_t *file, size_t file_len, struct ebpf_handle **handle, char *about,
-			size_t about_room, struct ebpf_refusal *refusal) EBPF_NONNULL(3);
+/* The refusal of a call. The library makes it: later versions have more fields at its end. */
+struct ebpf_error {
+	const char *name;	     /* what the refusal is about: of a function, a map, a section, for example; "" for none */
+	size_t name_len;	     /* how many bytes it has; a zero byte is behind them */
+	uint32_t number;	     /* what the call returned; 0 where nothing was refused */
+	uint32_t is_cut;	     /* 1: there was no memory for all of the name; else 0 */
+	struct ebpf_refusal refusal; /* the same number, and the details; all 0 where nothing was refused */
+};
 
 /*
- * Opens the object of a file by lenient parsing. It differs from `ebpf_open`:
+ * Returns the error of the last call that was given the handle, also as const. It is never NULL.
+ *  - Each call with a handle writes it, those too that return a pointer or a count. If nothing was refused, its number
+ *    is 0. `ebpf_last_error`, `ebpf_explain` and `ebpf_close` alone don't write it. `ebpf_clone` writes that of the
+ *    handle that is copied.
+ *  - It and its name are the handle's until the next call that is given the handle.
+ *  - For NULL it is EBPF_MEMORY: `ebpf_open`, `ebpf_prepare` and `ebpf_clone` give NULL for want of memory alone, but
+ *    for a clone of what is closed.
+ */
+const struct ebpf_error *ebpf_last_error(const struct ebpf_handle *handle);
+
+/*
+ * Returns a sentence on the last error: the text of `ebpf_strerror`, then the name in quotes and the details, as
+ * `no symbol has the name of a variable: "wanted" (symbol 3)`. It ends in a zero byte, and is never NULL. It is the
+ * handle's until the next call that is given the handle. The command `ebpf` may word the same error otherwise. Without
+ * memory for a sentence it is the text alone.
+ */
+const char *ebpf_explain(const struct ebpf_handle *handle);
+
+enum ebpf_parsing {
+	EBPF_LENIENT = 0,
+	EBPF_STRICT = 1,
+};
+
+/* How a file is opened. A new option is a new field at the end, and 0 stands for what was done before. */
+struct ebpf_open_options {
+	size_t size;	    /* of this struct, in bytes, as the caller's header has it */
+	uint64_t max_bytes; /* how many bytes the object may own; 0: no limit */
+	uint32_t parsing;   /* enum ebpf_parsing */
+	uint32_t reserved;  /* 0 */
+};
+
+/* Options with their defaults. Set what differs. */
+EBPF_INLINE struct ebpf_open_options ebpf_open_defaults(void)
+{
+	struct ebpf_open_options options = { sizeof(struct ebpf_open_options), 0, EBPF_LENIENT, 0 };
+
+	return options;
+}
+
+/*
+ * Opens the object of a file, and gives out a handle. `options` may be NULL: then they are the defaults.
+ *
+ * Also where the file is refused a handle is given out, so that `ebpf_last_error` and `ebpf_explain` say why, as
+ * sqlite3_open does. Such a handle is closed for all other calls (3). Free it by `ebpf_close` too. *handle is NULL only
+ * where there is no memory for a handle (2).
+ *
+ * Lenient parsing is the default. It accepts more than strict parsing:
  *  - Each section of code is a program's, whatever its name. If the library's list lacks the name, the programs have
- *    the kind EBPF_KIND_OTHER.
+ *    the kind EBPF_KIND_OTHER. Strict parsing refuses such a section (144).
  *  - A section with `?` before its name has the kind of the rest.
  *  - An array of programs may be declared with its programs.
  *  - A license ends at its first zero.
  *  - map_extra may be a 64-bit number.
- *  - A big-endian file with code is refused (156).
- *  - A file for another machine is refused (158): e_machine is neither EM_BPF nor EM_NONE.
- * For any other file that `ebpf_open` accepts, both give the same object. Numbers: 2, 100 to 199.
+ * It refuses a big-endian file with code (156), and a file for another machine (158): e_machine is neither EM_BPF nor
+ * EM_NONE. For any other file that strict parsing accepts, both give the same object.
+ *
+ * Give a limit (`max_bytes`) for a file from strangers: a file of some kilobytes can make an object of gigabytes. The
+ * call counts the bytes that the object would own before it makes it, and returns 157 above the limit.
+ * docs/BEHAVIOUR.md, 'Limits', says what counts.
+ *
+ * Options are refused (EBPF_BAD_OPTIONS) if `size` is less than that of a size_t, if a field has an unknown value, or
+ * if a byte behind the fields that this library knows is not 0. A field that is not wholly within `size` is 0.
+ * Numbers: 2, 90, 100 to 199.
  */
-EBPF_CHECKED uint32_t ebpf_open_broad(const uint8_t *file, size_t file_len, struct ebpf_handle **handle,
-			char *about, size_t about_room, struct ebpf_refusal *refusal) EBPF_NONNULL(3);
-
-/*
- * Opens the object of a file from strangers: a file of some kilobytes can make an object of gigabytes. Parsing is
- * strict if `lenient` is 0, else lenient. The call counts the bytes that the object would own before it makes it.
- * Above `most_bytes` it returns 157. docs/BEHAVIOUR.md, 'Limits', says what counts. Numbers: 2, 100 to 199.
- */
-EBPF_CHECKED uint32_t ebpf_open_within(const uint8_t *file, size_t file_len, uint32_t lenient, uint64_t most_bytes,
-			struct ebpf_handle **handle, char *about, size_t about_room,
-			struct ebpf_refusal *refusal) EBPF_NONNULL(5);
+EBPF_CHECKED uint32_t ebpf_open(const uint8_t *file, size_t file_len, const struct ebpf_open_options *options,
+			struct ebpf_handle **handle) EBPF_NONNULL(4);
 
 /* Gives out a handle with a copy of what `handle` holds: *copy is NULL with other numbers than 0. Numbers: 2, 3. */
 EBPF_CHECKED uint32_t ebpf_clone(const struct ebpf_handle *handle, struct ebpf_handle **copy) EBPF_NONNULL(2);
@@ -481,7 +554,7 @@ enum ebpf_program_kind {
 	EBPF_KIND_CGROUP_SOCK = 27,
 	EBPF_KIND_CGROUP_DEVICE = 28,
 	EBPF_KIND_ITER = 29,
-	EBPF_KIND_OTHER = 30, /* a name that says none of these: lenient parsing (`ebpf_open_broad`) alone */
+	EBPF_KIND_OTHER = 30, /* a name that says none of these: lenient parsing alone */
 };
 
 /* flags of a program */
@@ -622,17 +695,6 @@ EBPF_CHECKED uint32_t ebpf_sections(const struct ebpf_handle *handle, struct ebp
 
 /* ---- what a loader hands to the kernel, laid out as its own structs */
 
-/*
- * Writes the types of a file for BPF_BTF_LOAD: its section .BTF, completed as the kernel takes it.
- *  - Data sections get their sizes and offsets.
- *  - Hidden functions and variables become static.
- *  - The externs of .ksyms and .kconfig become variables.
- *  - Ids and offsets of strings stay. So those of func info, line info and maps fit.
- * *len is the length of the types: 0 if the file has no .BTF. Numbers: 1, 2, 700 to 799.
- */
-EBPF_CHECKED uint32_t ebpf_kernel_types(const uint8_t *file, size_t file_len, uint8_t *types, size_t room,
-			size_t *len, char *about, size_t about_room, struct ebpf_refusal *refusal);
-
 /* what is known of the type that a program is attached to */
 enum ebpf_target_answer {
 	EBPF_TARGET_NOT_WANTED = 0, /* such programs are loaded without the id of a type */
@@ -655,26 +717,6 @@ enum ebpf_target_answer {
  */
 EBPF_CHECKED uint32_t ebpf_attach_target(const char *section_name, size_t section_name_len, const uint8_t *types,
 			size_t types_len, uint32_t *answer, uint32_t *type_id);
-
-/* An initial value of a map of maps or of an array of programs. */
-struct ebpf_initial_slot {
-	size_t name_at, name_len;     /* the place of the map's name in the text */
-	size_t target_at, target_len; /* the place of the name of what stands there */
-	uint32_t index;		      /* in the map, and its key, in the byte order of the machine */
-	uint32_t is_program;	      /* 1: the program of this name stands there; 0: the map */
-};
-
-/*
- * Lists the initial values of the object's maps: a row each, by the maps' names in byte order, then by index. `text`
- * has the name of each row's map and then that of its target.
- *  - `file` is what the handle was opened from. Other bytes give their own relocations over this object.
- *  - An object with an array of programs is opened by `ebpf_open_broad`.
- *  - A loader writes the maps once all are made, and the programs once all are loaded.
- * Numbers: 1, 2, 3, 800 to 899.
- */
-EBPF_CHECKED uint32_t ebpf_initial_slots(const uint8_t *file, size_t file_len, const struct ebpf_handle *handle,
-			struct ebpf_initial_slot *rows, size_t rows_room, char *text, size_t text_room,
-			struct ebpf_counts *counts, char *about, size_t about_room, struct ebpf_refusal *refusal);
 
 /* struct bpf_insn */
 struct ebpf_insn {
@@ -721,13 +763,14 @@ EBPF_CHECKED uint32_t ebpf_line_infos(const struct ebpf_handle *handle, const ch
  * that is no UTF-8 is refused before all other faults of the value. Numbers: 2, 3, 6, 12, 150 to 152.
  */
 EBPF_CHECKED uint32_t ebpf_set_value(struct ebpf_handle *handle, const char *name, size_t name_len,
-			const uint8_t *value, size_t value_len, uint32_t must_exist, char *about, size_t about_room,
-			struct ebpf_refusal *refusal);
+			const uint8_t *value, size_t value_len, uint32_t must_exist);
 
-/* A variable's name and its value: places in the text and in the bytes that are given beside the rows. */
+/* A variable's name and its value. Each may be NULL with the length 0. */
 struct ebpf_value_row {
-	size_t name_at, name_len;
-	size_t value_at, value_len;
+	const char *name;
+	size_t name_len;
+	const uint8_t *value;
+	size_t value_len;
 	uint32_t must_exist; /* 0: the row is passed over where no symbol has the name */
 };
 
@@ -735,15 +778,12 @@ struct ebpf_value_row {
  * Writes the values of many variables, each as `ebpf_set_value` does. All rows are written, or none.
  *  - Of rows of one name the last counts.
  *  - If variables share bytes, the one with the greater name counts.
- *  - A row is refused first whose name is no UTF-8, or not inside the text. Then comes one whose value is not inside
- *    the bytes, then the first fault in byte order of the names.
+ *  - A row is refused first whose name is no UTF-8. Then comes the first fault in byte order of the names.
  *  - The table of the variables' names is made once for all rows. Each `ebpf_set_value` makes it anew, so 1,000 of
  *    those cost 1,000 tables.
- * Numbers: 2, 3, 6, 7, 12, 150 to 152.
+ * Numbers: 2, 3, 6, 12, 150 to 152.
  */
-EBPF_CHECKED uint32_t ebpf_set_values(struct ebpf_handle *handle, const struct ebpf_value_row *rows,
-			size_t rows_len, const char *text, size_t text_len, const uint8_t *bytes, size_t bytes_len,
-			char *about, size_t about_room, struct ebpf_refusal *refusal);
+EBPF_CHECKED uint32_t ebpf_set_values(struct ebpf_handle *handle, const struct ebpf_value_row *rows, size_t rows_len);
 
 /* what a kconfig extern holds */
 enum ebpf_kconfig_kind {
@@ -767,34 +807,31 @@ struct ebpf_kconfig_extern {
  * the order in which the object's types name them, and not by name. Numbers: 1, 2, 3, 900 to 903.
  */
 EBPF_CHECKED uint32_t ebpf_kconfig(const struct ebpf_handle *handle, struct ebpf_kconfig_extern *rows,
-			size_t rows_room, char *text, size_t text_room, struct ebpf_counts *counts, char *about,
-			size_t about_room, struct ebpf_refusal *refusal);
+			size_t rows_room, char *text, size_t text_room, struct ebpf_counts *counts);
 
 /*
- * Writes the value of a kconfig extern by a kernel's configuration. `config` is its text: /proc/config.gz or
+ * Returns the value of a kconfig extern by a kernel's configuration. `config` is its text: /proc/config.gz or
  * /boot/config-RELEASE, unpacked. The first of its lines that begins with the extern's name and `=` counts.
- *  - If there is one, *is_found is 1 and *len is the value's length, as `ebpf_kconfig` lists it.
- *  - If there is none, both are 0. So they are for a name that does not begin with CONFIG_.
- *  - With the number 1 *is_found is 1. With any other than 0 and 1 it is unchanged.
- *  - The bytes are in the byte order of the object.
+ *  - *len is the value's length, as `ebpf_kconfig` lists it.
+ *  - If there is no such line, NULL is returned and nothing is refused: the number of `ebpf_last_error` is 0. So it is
+ *    for a name that does not begin with CONFIG_.
+ *  - The bytes are in the byte order of the object. The handle keeps them, as it keeps lists.
  *  - The first extern of the name counts.
- * Numbers: 1, 2, 3, 8, 900 to 903, 907, 908.
+ * Numbers: 2, 3, 8, 900 to 903, 907, 908.
  */
-EBPF_CHECKED uint32_t ebpf_kconfig_value(const struct ebpf_handle *handle, const char *name, size_t name_len,
-			const char *config, size_t config_len, uint8_t *value, size_t room, size_t *len,
-			uint32_t *is_found, char *about, size_t about_room, struct ebpf_refusal *refusal);
+const uint8_t *ebpf_kconfig_value(const struct ebpf_handle *handle, const char *name, size_t name_len,
+			const char *config, size_t config_len, size_t *len);
 
 /*
- * Writes a number as the value of a kconfig extern: what the loader knows of the kernel. *len is the value's length.
+ * Returns a number as the value of a kconfig extern: what the loader knows of the kernel. *len is the value's length.
  *  - LINUX_KERNEL_VERSION is a << 16 | b << 8 | c for the version a.b.c.
  *  - LINUX_HAS_BPF_COOKIE and LINUX_HAS_SYSCALL_WRAPPER are 1 or 0.
- *  - The bytes are in the byte order of the object.
+ *  - The bytes are in the byte order of the object. The handle keeps them, as it keeps lists.
  *  - The first extern of the name counts.
- * Numbers: 1, 2, 3, 8, 900 to 903, 907, 908.
+ * Numbers: 2, 3, 8, 900 to 903, 907, 908.
  */
-EBPF_CHECKED uint32_t ebpf_kconfig_number(const struct ebpf_handle *handle, const char *name, size_t name_len,
-			uint64_t number, uint8_t *value, size_t room, size_t *len, char *about, size_t about_room,
-			struct ebpf_refusal *refusal);
+const uint8_t *ebpf_kconfig_number(const struct ebpf_handle *handle, const char *name, size_t name_len, uint64_t number,
+			size_t *len);
 
 /*
  * Adds the map `.kconfig`, whose data are the values of the kconfig externs, and makes their symbols variables of it.
@@ -804,13 +841,11 @@ EBPF_CHECKED uint32_t ebpf_kconfig_number(const struct ebpf_handle *handle, cons
  *    name no extern has is skipped.
  *  - A weak extern without a row is zeros.
  *  - An object without such externs is unchanged.
- *  - Faults of rows come first, those of names before those of values. Then come those of the list, then the first of
- *    the values.
- * Numbers: 2, 3, 6, 7, 12, 900 to 906.
+ *  - Names that are no UTF-8 are refused first. Then come the faults of the list, then the first of the values.
+ * Numbers: 2, 3, 6, 12, 900 to 906.
  */
 EBPF_CHECKED uint32_t ebpf_define_kconfig(struct ebpf_handle *handle, const struct ebpf_value_row *rows,
-			size_t rows_len, const char *text, size_t text_len, const uint8_t *bytes, size_t bytes_len,
-			char *about, size_t about_room, struct ebpf_refusal *refusal);
+			size_t rows_len);
 
 struct ebpf_variable {
 	size_t name_at, name_len; /* its name's place in the text */
@@ -850,6 +885,85 @@ EBPF_CHECKED uint32_t ebpf_set_value_size(struct ebpf_handle *handle, const char
 EBPF_CHECKED uint32_t ebpf_sanitize(struct ebpf_handle *handle, uint32_t has_newer);
 
 /*
+ * ---- what a handle keeps for its caller
+ *
+ * These calls return what the handle has, with no buffer of the caller's.
+ *  - What they return is the handle's. It stays until a call that takes the handle without const has returned, or
+ *    `ebpf_close`. So a name may be given to such a call, and is gone behind it: between two passes ask again.
+ *  - NULL is returned for what is refused. `ebpf_last_error` says why: 2, 3, what the call of the same list returns, or
+ *    EBPF_NO_ROW for an index that the list lacks. So a loop may end at NULL:
+ *
+ *	for (size_t at = 0; (name = ebpf_program_at(handle, at, &program)); at++)
+ *
+ *  - A count is 0 for what is refused.
+ *  - A list is taken once, by the first call that asks for it, and dropped with what it returned.
+ *
+ * Each `_at` returns the name of a row, a C string, and writes the row, which may be NULL. `name_len` is the name's
+ * length, and `name_at` is 0: what is returned is the text that the row points into. So the second name of a row is
+ * there too: that of a variable's map is name + row.map_at, that of an initial value's target name + row.target_at.
+ */
+size_t ebpf_program_count(const struct ebpf_handle *handle);
+const char *ebpf_program_at(const struct ebpf_handle *handle, size_t index, struct ebpf_program *row);
+
+size_t ebpf_map_count(const struct ebpf_handle *handle);
+const char *ebpf_map_at(const struct ebpf_handle *handle, size_t index, struct ebpf_map *row);
+
+size_t ebpf_extern_count(const struct ebpf_handle *handle);
+const char *ebpf_extern_at(const struct ebpf_handle *handle, size_t index, struct ebpf_extern *row);
+
+size_t ebpf_section_count(const struct ebpf_handle *handle);
+const char *ebpf_section_at(const struct ebpf_handle *handle, size_t index, struct ebpf_section *row);
+
+size_t ebpf_kconfig_count(const struct ebpf_handle *handle);
+const char *ebpf_kconfig_at(const struct ebpf_handle *handle, size_t index, struct ebpf_kconfig_extern *row);
+
+size_t ebpf_variable_count(const struct ebpf_handle *handle);
+const char *ebpf_variable_at(const struct ebpf_handle *handle, size_t index, struct ebpf_variable *row);
+
+/* Of the program of an index: its slots as they are, its info entries, and the name of its section ("" for none). */
+const struct ebpf_insn *ebpf_program_slots(const struct ebpf_handle *handle, size_t index, size_t *count);
+const struct ebpf_func_info *ebpf_program_func_infos(const struct ebpf_handle *handle, size_t index, size_t *count);
+const struct ebpf_line_info *ebpf_program_line_infos(const struct ebpf_handle *handle, size_t index, size_t *count);
+const char *ebpf_program_section_name(const struct ebpf_handle *handle, size_t index);
+
+/* The initial data of the map of an index. *len is its length. */
+const uint8_t *ebpf_map_contents(const struct ebpf_handle *handle, size_t index, size_t *len);
+
+/* The license as a C string: the default GPL where `ebpf_states_license` says that the file states none. */
+const char *ebpf_license_text(const struct ebpf_handle *handle);
+
+/*
+ * The types of a file for BPF_BTF_LOAD: its section .BTF, completed as the kernel takes it.
+ *  - `file` is what the handle was opened from. The handle is given the types and the error.
+ *  - Data sections get their sizes and offsets.
+ *  - Hidden functions and variables become static.
+ *  - The externs of .ksyms and .kconfig become variables.
+ *  - Ids and offsets of strings stay. So those of func info, line info and maps fit.
+ * *len is the length of the types: 0 if the file has no .BTF. Numbers: 2, 3, 700 to 799.
+ */
+const uint8_t *ebpf_kernel_types(const struct ebpf_handle *handle, const uint8_t *file, size_t file_len, size_t *len);
+
+/* An initial value of a map of maps or of an array of programs. */
+struct ebpf_initial_slot {
+	size_t name_at, name_len;     /* the place of the map's name in the text */
+	size_t target_at, target_len; /* the place of the name of what stands there */
+	uint32_t index;		      /* in the map, and its key, in the byte order of the machine */
+	uint32_t is_program;	      /* 1: the program of this name stands there; 0: the map */
+};
+
+/*
+ * Takes the list of the initial values of the object's maps, by the maps' names in byte order, then by index. *count is
+ * how many rows `ebpf_initial_slot_at` has then: it returns the name of the row's map, and that of its target follows.
+ *  - `file` is what the handle was opened from. Other bytes give their own relocations over this object.
+ *  - An object with an array of programs is opened by lenient parsing.
+ *  - A loader writes the maps once all are made, and the programs once all are loaded.
+ * Numbers: 2, 3, 800 to 899.
+ */
+EBPF_CHECKED uint32_t ebpf_initial_slots(const struct ebpf_handle *handle, const uint8_t *file, size_t file_len,
+			size_t *count);
+const char *ebpf_initial_slot_at(const struct ebpf_handle *handle, size_t index, struct ebpf_initial_slot *row);
+
+/*
  * ---- relocation, a pass at a time, in this order: ebpf_relocate_types, ebpf_relocate_maps, ebpf_resolve_externs,
  * ebpf_relocate_externs, ebpf_relocate_calls; or all of them by ebpf_prepare_handle
  *
@@ -862,7 +976,7 @@ EBPF_CHECKED uint32_t ebpf_sanitize(struct ebpf_handle *handle, uint32_t has_new
  */
 
 /*
- * A map's name, a place in the text that is given beside the rows, and its descriptor.
+ * A map's name and its descriptor.
  *  - Each map that a slot refers to needs a row, a map of variables too. Else `ebpf_prepare` and `ebpf_prepare_handle`
  *    return EBPF_MAPS_MISSING_DESCRIPTOR, about the map. `ebpf_relocate_maps` takes the row of another map in its section.
  *  - Each row needs the name of a map of the object. Else the two return EBPF_MAPS_UNKNOWN_MAP, about the name.
@@ -870,7 +984,8 @@ EBPF_CHECKED uint32_t ebpf_sanitize(struct ebpf_handle *handle, uint32_t has_new
  *  - Of two rows for one name, or for maps of one symbol, the later counts.
  */
 struct ebpf_descriptor {
-	size_t name_at, name_len;
+	const char *name;
+	size_t name_len;
 	int32_t descriptor;
 };
 
@@ -878,8 +993,7 @@ struct ebpf_descriptor {
  * Relocates the functions to a kernel's types (CO-RE). `types` is raw BTF in the byte order that its magic number
  * states. Numbers: 2, 3, 11, 12, 200 to 299.
  */
-EBPF_CHECKED uint32_t ebpf_relocate_types(struct ebpf_handle *handle, const uint8_t *types, size_t types_len,
-			char *about, size_t about_room, struct ebpf_refusal *refusal);
+EBPF_CHECKED uint32_t ebpf_relocate_types(struct ebpf_handle *handle, const uint8_t *types, size_t types_len);
 
 /* the outcome of a CO-RE relocation over a kernel's types; the names of this part call it a record */
 enum ebpf_record_result {
@@ -913,25 +1027,24 @@ struct ebpf_record_outcome {
 };
 
 /*
- * Lists the outcome of each CO-RE relocation, in the order of .BTF.ext: a row each, also behind one that is refused.
- * Call it before `ebpf_relocate_types`. The object is unchanged.
- *  - `text` has the name of each row's section.
+ * Takes the list of the outcomes of all CO-RE relocations, in the order of .BTF.ext, also behind one that is refused.
+ * Call it before `ebpf_relocate_types`. The object is unchanged. *count is how many rows `ebpf_record_outcome_at` has
+ * then: it returns the name of the row's section.
  *  - `ebpf_relocate_types` refuses by the first row that is refused, else it writes the values. A section of .BTF.ext
  *    without relocations and with a name that the file lacks is refused there, and has no row here.
  *  - An object without types or CO-RE relocations has no rows.
- * Numbers: 1, 2, 3, 200 to 219.
+ * Numbers: 2, 3, 200 to 219.
  */
 EBPF_CHECKED uint32_t ebpf_record_outcomes(const struct ebpf_handle *handle, const uint8_t *types, size_t types_len,
-			struct ebpf_record_outcome *rows, size_t rows_room, char *text, size_t text_room,
-			struct ebpf_counts *counts, char *about, size_t about_room, struct ebpf_refusal *refusal);
+			size_t *count);
+const char *ebpf_record_outcome_at(const struct ebpf_handle *handle, size_t index, struct ebpf_record_outcome *row);
 
 /*
- * Writes descriptors of maps into the slots that refer to them. A row whose name is no UTF-8, or not inside the text,
- * is refused before all other faults of the rows. Numbers: 2, 3, 6, 11, 12, 300 to 311.
+ * Writes descriptors of maps into the slots that refer to them. A row whose name is no UTF-8 is refused before all
+ * other faults of the rows. Numbers: 2, 3, 6, 11, 12, 300 to 311.
  */
 EBPF_CHECKED uint32_t ebpf_relocate_maps(struct ebpf_handle *handle, const struct ebpf_descriptor *rows,
-			size_t rows_len, const char *text, size_t text_len, char *about, size_t about_room,
-			struct ebpf_refusal *refusal);
+			size_t rows_len);
 
 /*
  * Finds the externs in a kernel's types and in its symbols, which are given as the text of /proc/kallsyms. Types of
@@ -939,16 +1052,13 @@ EBPF_CHECKED uint32_t ebpf_relocate_maps(struct ebpf_handle *handle, const struc
  * Numbers: 2, 3, 11, 12, 200 to 219, 400 to 499.
  */
 EBPF_CHECKED uint32_t ebpf_resolve_externs(struct ebpf_handle *handle, const uint8_t *types, size_t types_len,
-			const uint8_t *symbols, size_t symbols_len, char *about, size_t about_room,
-			struct ebpf_refusal *refusal);
+			const uint8_t *symbols, size_t symbols_len);
 
 /* Writes what is known of the externs into the slots that refer to them. Numbers: 2, 3, 11, 12, 500 to 599. */
-EBPF_CHECKED uint32_t ebpf_relocate_externs(struct ebpf_handle *handle, char *about, size_t about_room,
-			struct ebpf_refusal *refusal);
+EBPF_CHECKED uint32_t ebpf_relocate_externs(struct ebpf_handle *handle);
 
 /* Links each program with the functions that it reaches. Numbers: 2, 3, 11, 600 to 699. */
-EBPF_CHECKED uint32_t ebpf_relocate_calls(struct ebpf_handle *handle, char *about, size_t about_room,
-			struct ebpf_refusal *refusal);
+EBPF_CHECKED uint32_t ebpf_relocate_calls(struct ebpf_handle *handle);
 
 /* A copy of a function in a linked program. Slots are counted, each 8 bytes. */
 struct ebpf_code_copy {
@@ -960,17 +1070,17 @@ struct ebpf_code_copy {
 };
 
 /*
- * Lists the copies of functions in the linked program of a name: a row each. The first is the program's own, at slot 0.
- * One of each function that it reaches follows, in the order of their slots.
- *  - `text` has the functions' names, one after the other.
+ * Takes the list of the copies of functions in the linked program of a name. The first is the program's own, at slot
+ * 0. One of each function that it reaches follows, in the order of their slots. *count is how many rows
+ * `ebpf_code_copy_at` has then: it returns the function's name.
  *  - Call it before `ebpf_relocate_calls`. Nothing is linked: the object is unchanged.
  *  - A program that can't be linked is refused as `ebpf_relocate_calls` refuses it, about the program. Other programs
  *    are not looked at.
- * Numbers: 1, 2, 3, 4, 600 to 699.
+ * Numbers: 2, 3, 4, 600 to 699.
  */
 EBPF_CHECKED uint32_t ebpf_link_map(const struct ebpf_handle *handle, const char *name, size_t name_len,
-			struct ebpf_code_copy *rows, size_t rows_room, char *text, size_t text_room,
-			struct ebpf_counts *counts, char *about, size_t about_room, struct ebpf_refusal *refusal);
+			size_t *count);
+const char *ebpf_code_copy_at(const struct ebpf_handle *handle, size_t index, struct ebpf_code_copy *row);
 
 /* A slot of a linked program that refers to one of its copies. */
 struct ebpf_code_reference {
@@ -985,31 +1095,44 @@ struct ebpf_code_reference {
  * Numbers: 1, 2, 3, 4, 600 to 699.
  */
 EBPF_CHECKED uint32_t ebpf_link_references(const struct ebpf_handle *handle, const char *name, size_t name_len,
-			struct ebpf_code_reference *rows, size_t room, size_t *count, char *about,
-			size_t about_room, struct ebpf_refusal *refusal);
+			struct ebpf_code_reference *rows, size_t room, size_t *count);
+
+/* What the passes are given. Each array may be NULL. A new input is a new field at the end, and 0 is none. */
+struct ebpf_prepare_inputs {
+	size_t size; /* of this struct, in bytes, as the caller's header has it */
+	const uint8_t *types; /* as for ebpf_relocate_types */
+	size_t types_len; /* 0: functions are not relocated, and externs are looked up in the symbols alone */
+	const struct ebpf_descriptor *descriptors; /* as for ebpf_relocate_maps */
+	size_t descriptors_len;
+	const uint8_t *symbols; /* as for ebpf_resolve_externs */
+	size_t symbols_len;
+};
+
+/* No inputs. Set what there is. */
+EBPF_INLINE struct ebpf_prepare_inputs ebpf_prepare_defaults(void)
+{
+	struct ebpf_prepare_inputs inputs = { sizeof(struct ebpf_prepare_inputs), NULL, 0, NULL, 0, NULL, 0 };
+
+	return inputs;
+}
 
 /*
- * Opens the object of a file by strict parsing, and runs all of these passes over it. If `types_len` is 0, functions
- * are not relocated and externs are looked up in the symbols alone. It gives out a handle: *handle is NULL with other
- * numbers than 0. The rows' names are looked at first, then the types are read, then the file. Each slot's own map has
- * to have a row, else the number is 320, before the first pass.
- * Numbers: 2, 6, 100 to 199, 200 to 299, .., 600 to 699.
+ * Opens the object of a file by strict parsing, and runs all of these passes over it. It gives out a handle as
+ * `ebpf_open` does, also where it refuses. The descriptors' names are looked at first, then the types are read, then
+ * the file. Each slot's own map has to have a descriptor, else the number is 320, before the first pass. `inputs` may
+ * be NULL: then there are none. They are refused as options are (90).
+ * Numbers: 2, 6, 90, 100 to 199, 200 to 299, .., 600 to 699.
  */
-EBPF_CHECKED uint32_t ebpf_prepare(const uint8_t *file, size_t file_len, const uint8_t *types, size_t types_len,
-			const struct ebpf_descriptor *rows, size_t rows_len, const char *text, size_t text_len,
-			const uint8_t *symbols, size_t symbols_len, struct ebpf_handle **handle, char *about,
-			size_t about_room, struct ebpf_refusal *refusal) EBPF_NONNULL(11);
+EBPF_CHECKED uint32_t ebpf_prepare(const uint8_t *file, size_t file_len, const struct ebpf_prepare_inputs *inputs,
+			struct ebpf_handle **handle) EBPF_NONNULL(4);
 
 /*
  * Runs the same passes over the object that the handle holds, of which no pass was made. Its values and sizes may be
- * set before. So make the maps as `ebpf_maps` lists them, and prepare the same object with their descriptors. The rows'
+ * set before. So make the maps as `ebpf_maps` lists them, and prepare the same object with their descriptors. The
  * names are looked at first, then the types are read. After a refusal the object is unchanged, and no pass was made.
- * Numbers: 2, 3, 6, 11, 12, 200 to 299, .., 600 to 699.
+ * Numbers: 2, 3, 6, 11, 12, 90, 200 to 299, .., 600 to 699.
  */
-EBPF_CHECKED uint32_t ebpf_prepare_handle(struct ebpf_handle *handle, const uint8_t *types, size_t types_len,
-			const struct ebpf_descriptor *rows, size_t rows_len, const char *text, size_t text_len,
-			const uint8_t *symbols, size_t symbols_len, char *about, size_t about_room,
-			struct ebpf_refusal *refusal);
+EBPF_CHECKED uint32_t ebpf_prepare_handle(struct ebpf_handle *handle, const struct ebpf_prepare_inputs *inputs);
 
 #ifdef __cplusplus
 }

@@ -16,17 +16,17 @@ fi
 mkdir -p examples/out
 kit=$(dirname "$(rt doc)")
 compiler=${CC:-cc}
-for layer in calls handles strerror; do
-    "$compiler" -std=c11 -O2 -fPIC -Wall -Wextra -Iinclude -c c/$layer.c -o examples/out/$layer.o
+layer=
+for source in c/*.c; do
+    object=examples/out/$(basename "$source" .c).o
+    "$compiler" -std=c11 -O2 -fPIC -Wall -Wextra -Iinclude -c "$source" -o "$object"
+    layer+="ADDMOD $object"$'\n'
 done
 "${AR:-ar}" -M <<END
 CREATE examples/out/libebpf.a
 ADDLIB $archive
 ADDLIB $kit/c/liblibc_c.a
-ADDMOD examples/out/calls.o
-ADDMOD examples/out/handles.o
-ADDMOD examples/out/strerror.o
-SAVE
+${layer}SAVE
 END
 if [ "${1:-}" = --build ]; then
     exit

@@ -1,7 +1,7 @@
 /* Memory, and the bytes of files. */
 #include "loader.h"
 
-/* Zeros. No pointer that the library is given is null, so there is always one more. */
+/* Zeros, one more than are asked for: NULL is the want of memory alone. */
 void *zeros(size_t count, size_t size)
 {
 	void *made = calloc(count + 1, size);

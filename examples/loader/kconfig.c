@@ -73,85 +73,46 @@ static struct bytes read_config(const char *given)
 	return (struct bytes){ zeros(0, 1), 0 };
 }
 
-struct externs {
-	struct ebpf_kconfig_extern *rows;
-	char *names;
-	struct ebpf_counts counts;
-};
-
-static struct externs list_externs(struct ebpf_handle *object)
+/* The value of an extern, or NULL where none is known. */
+static const uint8_t *value_of(const struct loading *of, const char *name, struct bytes config, size_t *len)
 {
-	struct externs of = { 0 };
-	uint32_t number;
-
-	do {
-		free(of.rows);
-		free(of.names);
-		of.rows = zeros(of.counts.rows, sizeof(*of.rows));
-		of.names = zeros(of.counts.text, 1);
-		number = ebpf_kconfig(object, of.rows, of.counts.rows, of.names, of.counts.text, &of.counts, ABOUT);
-	} while (number == EBPF_ROOM);
-	check("externs of .kconfig", number);
-	return of;
-}
-
-/* Writes the value of an extern, and says whether there is one. */
-static int put_value(struct ebpf_handle *object, const char *name, struct bytes config, uint8_t *value, size_t size)
-{
-	uint32_t is_found = 0;
+	const uint8_t *value;
 	uint64_t known;
-	size_t len = 0;
 
-	if (is_known(name, &known)) {
-		check(name, ebpf_kconfig_number(object, name, strlen(name), known, value, size, &len, ABOUT));
-		return 1;
-	}
-	check(name, ebpf_kconfig_value(object, name, strlen(name), (const char *)config.at, config.len, value, size,
-				       &len, &is_found, ABOUT));
-	return is_found;
-}
-
-static size_t size_of_values(const struct externs *externs)
-{
-	size_t size = 0;
-
-	for (size_t at = 0; at < externs->counts.rows; at++)
-		size += externs->rows[at].size;
-	return size;
+	if (is_known(name, &known))
+		value = ebpf_kconfig_number(of->object, name, strlen(name), known, len);
+	else
+		value = ebpf_kconfig_value(of->object, name, strlen(name), (const char *)config.at, config.len, len);
+	if (!value)
+		check(of, name, ebpf_last_error(of->object)->number);
+	return value;
 }
 
 /* Defines externs by the values that are known; the library refuses where one is wanted and isn't known. */
-static void define_externs(struct ebpf_handle *object, const struct externs *externs, struct bytes config)
+static void define_externs(struct loading *of, size_t externs, struct bytes config)
 {
-	struct ebpf_value_row *rows = zeros(externs->counts.rows, sizeof(*rows));
-	struct bytes values = { zeros(size_of_values(externs), 1), 0 };
-	size_t count = 0;
+	struct ebpf_value_row *rows = zeros(externs, sizeof(*rows)), *row = rows;
 
-	for (size_t at = 0; at < externs->counts.rows; at++) {
-		const struct ebpf_kconfig_extern *one = &externs->rows[at];
-
-		if (!put_value(object, externs->names + one->name_at, config, values.at + values.len, one->size))
-			continue;
-		rows[count++] = (struct ebpf_value_row){ one->name_at, one->name_len, values.len, one->size, 1 };
-		values.len += one->size;
+	for (size_t at = 0; at < externs; at++) {
+		row->name = ebpf_kconfig_at(of->object, at, NULL);
+		row->name_len = strlen(row->name);
+		row->value = value_of(of, row->name, config, &row->value_len);
+		row += row->value != NULL;
 	}
-	check("externs of .kconfig", ebpf_define_kconfig(object, rows, count, externs->names, externs->counts.text,
-							 values.at, values.len, ABOUT));
+	check(of, "externs of .kconfig", ebpf_define_kconfig(of->object, rows, row - rows));
 	free(rows);
-	free(values.at);
 }
 
 /* Defines the externs that the kernel's configuration gives; reads it only where there are some. */
 void define_kconfig(struct loading *of, const char *config_path)
 {
-	struct externs externs = list_externs(of->object);
+	size_t externs = ebpf_kconfig_count(of->object);
+	struct bytes config;
 
-	if (externs.counts.rows) {
-		struct bytes config = read_config(config_path);
-
-		define_externs(of->object, &externs, config);
-		free(config.at);
-	}
-	free(externs.rows);
-	free(externs.names);
+	check(of, "externs of .kconfig", ebpf_last_error(of->object)->number);
+	if (!externs)
+		return;
+	config = read_config(config_path);
+	define_externs(of, externs, config);
+	free(config.at);
 }

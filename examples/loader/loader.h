@@ -15,29 +15,6 @@ struct bytes {
 	size_t len;
 };
 
-/* Maps as the library lists them, and the descriptor of each. */
-struct maps {
-	struct ebpf_map *rows;
-	struct ebpf_descriptor *made;
-	char *names;
-	struct ebpf_counts counts;
-};
-
-/* Programs as the library lists them, and the descriptor of each, 0 where it is not loaded. */
-struct programs {
-	struct ebpf_program *rows;
-	int *loaded;
-	char *names;
-	struct ebpf_counts counts;
-};
-
-/* What stands in maps of maps and in arrays of programs before anything runs. */
-struct initial {
-	struct ebpf_initial_slot *rows;
-	char *names;
-	struct ebpf_counts counts;
-};
-
 /* An object that is loaded. */
 struct loading {
 	struct ebpf_handle *object;
@@ -45,15 +22,9 @@ struct loading {
 	struct bytes kernel_types;
 	struct bytes kernel_symbols;
 	int own_types; /* the descriptor of the object's types; 0 where it has none */
-	struct maps maps;
-	struct programs programs;
-	struct initial initial;
+	int *maps;     /* the descriptor of each map, in the order of the library's list */
+	int *programs; /* the descriptor of each program in that order, 0 where it is not loaded */
 };
-
-/* What the library's last refusal is about, and what else is told of it. */
-extern char about[128];
-extern struct ebpf_refusal refusal;
-#define ABOUT about, sizeof(about), &refusal
 
 /* files.c: memory, and the bytes of files */
 void *zeros(size_t count, size_t size);
@@ -61,7 +32,8 @@ struct bytes read_stream(FILE *stream, const char *name);
 struct bytes read_file(const char *path);
 
 /* calls.c: what the library and the kernel answer */
-void check(const char *what, uint32_t number);
+void check(const struct loading *of, const char *what, uint32_t number);
+const void *need(const struct loading *of, const char *what, const void *kept);
 void clear(union bpf_attr *attr);
 void put_name(char *to, const char *name);
 int bpf(enum bpf_cmd command, union bpf_attr *attr);
@@ -73,24 +45,20 @@ void define_kconfig(struct loading *of, const char *config_path);
 
 /* types.c */
 void load_types(struct loading *of);
-uint32_t target_of(struct loading *of, const char *program);
+uint32_t target_of(struct loading *of, size_t program);
 void print_targets(struct loading *of);
 
 /* maps.c */
-void list_maps(struct loading *of);
 void make_maps(struct loading *of);
-int has_map(const struct maps *maps, const char *name);
-size_t find_map(const struct maps *maps, const char *name);
+int has_map(const struct loading *of, const char *name, size_t *at);
+size_t find_map(const struct loading *of, const char *name);
 
 /* initial.c */
-void list_initial(struct loading *of);
-void put_initial_maps(const struct loading *of);
-void put_initial_programs(const struct loading *of);
+void put_initial(const struct loading *of, int are_programs);
 
 /* programs.c */
-void list_programs(struct loading *of);
 void load_programs(struct loading *of, const char *asked);
-size_t find_program(const struct programs *programs, const char *name);
+size_t find_program(const struct loading *of, const char *name);
 
 /* running.c */
 void run(int loaded, const struct ebpf_program *program, struct bytes given, unsigned milliseconds);

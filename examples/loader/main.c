@@ -58,39 +58,58 @@ static struct options parse(int count, char **word)
 
 static void open_object(struct loading *of, const char *path)
 {
+	if (ebpf_check_version())
+		errx(1, "the library has the version %u", ebpf_version_number());
 	of->file = read_file(path);
 	of->kernel_types = read_file("/sys/kernel/btf/vmlinux");
-	check(path, ebpf_open_broad(of->file.at, of->file.len, &of->object, ABOUT));
-	list_programs(of);
+	check(of, path, ebpf_open(of->file.at, of->file.len, NULL, &of->object));
 }
 
-/* Each pass over the object, in the library's order. */
+/* Runs all passes over the object. */
 static void prepare(struct loading *of, const char *path)
 {
-	struct bytes types = of->kernel_types, symbols = of->kernel_symbols;
-	const struct maps *maps = &of->maps;
+	struct ebpf_prepare_inputs inputs = ebpf_prepare_defaults();
+	size_t count = ebpf_map_count(of->object);
+	struct ebpf_descriptor *rows = zeros(count, sizeof(*rows));
+	struct ebpf_map map;
 
-	check(path, ebpf_relocate_types(of->object, types.at, types.len, ABOUT));
-	check(path, ebpf_relocate_maps(of->object, maps->made, maps->counts.rows, maps->names, maps->counts.text,
-				       ABOUT));
-	check(path, ebpf_resolve_externs(of->object, types.at, types.len, symbols.at, symbols.len, ABOUT));
-	check(path, ebpf_relocate_externs(of->object, ABOUT));
-	check(path, ebpf_relocate_calls(of->object, ABOUT));
+	for (size_t at = 0; at < count; at++) {
+		rows[at].name = ebpf_map_at(of->object, at, &map);
+		rows[at].name_len = map.name_len;
+		rows[at].descriptor = of->maps[at];
+	}
+	inputs.types = of->kernel_types.at;
+	inputs.types_len = of->kernel_types.len;
+	inputs.descriptors = rows;
+	inputs.descriptors_len = count;
+	inputs.symbols = of->kernel_symbols.at;
+	inputs.symbols_len = of->kernel_symbols.len;
+	check(of, path, ebpf_prepare_handle(of->object, &inputs));
+	free(rows);
+}
+
+/* Whether an extern is looked up in the kernel's symbols, which take long to read. */
+static int wants_symbols(const struct loading *of)
+{
+	struct ebpf_extern row = { .is_typed = 1 };
+
+	for (size_t at = 0; row.is_typed && ebpf_extern_at(of->object, at, &row); at++)
+		;
+	return !row.is_typed;
 }
 
 /* From the opened object to programs that the kernel has, with all that they refer to. */
 static void load(struct loading *of, const struct options *options)
 {
 	define_kconfig(of, options->config);
-	list_maps(of);
-	list_initial(of);
 	load_types(of);
 	make_maps(of);
-	put_initial_maps(of);
-	of->kernel_symbols = read_file("/proc/kallsyms");
+	put_initial(of, 0);
+	if (wants_symbols(of))
+		of->kernel_symbols = read_file("/proc/kallsyms");
 	prepare(of, options->words[0]);
 	load_programs(of, options->words[1]);
-	put_initial_programs(of);
+	put_initial(of, 1);
 }
 
 static void free_all(struct loading *of)
@@ -99,19 +118,14 @@ static void free_all(struct loading *of)
 	free(of->file.at);
 	free(of->kernel_types.at);
 	free(of->kernel_symbols.at);
-	free(of->maps.rows);
-	free(of->maps.names);
-	free(of->maps.made);
-	free(of->programs.rows);
-	free(of->programs.names);
-	free(of->programs.loaded);
-	free(of->initial.rows);
-	free(of->initial.names);
+	free(of->maps);
+	free(of->programs);
 }
 
 static void load_and_run(struct loading *of, const struct options *options)
 {
-	size_t asked = find_program(&of->programs, options->words[1]);
+	size_t asked = find_program(of, options->words[1]);
+	struct ebpf_program program;
 	struct bytes given = { NULL, 64 };
 
 	if (options->count > 3)
@@ -119,7 +133,8 @@ static void load_and_run(struct loading *of, const struct options *options)
 	else
 		given.at = zeros(given.len, 1);
 	load(of, options);
-	run(of->programs.loaded[asked], &of->programs.rows[asked], given, options->milliseconds);
+	need(of, options->words[1], ebpf_program_at(of->object, asked, &program));
+	run(of->programs[asked], &program, given, options->milliseconds);
 	if (options->count > 2)
 		print_held(of, options->words[2]);
 	free(given.at);

@@ -2,42 +2,24 @@
 #include "loader.h"
 #include <unistd.h>
 
-void list_maps(struct loading *of)
+/* Whether the object has a map of the name, and its place in the list. */
+int has_map(const struct loading *of, const char *name, size_t *at)
 {
-	struct maps *all = &of->maps;
-	uint32_t number;
+	const char *found;
 
-	do {
-		free(all->rows);
-		free(all->names);
-		all->rows = zeros(all->counts.rows, sizeof(*all->rows));
-		all->names = zeros(all->counts.text, 1);
-		number = ebpf_maps(of->object, all->rows, all->counts.rows, all->names, all->counts.text,
-				   &all->counts);
-	} while (number == EBPF_ROOM);
-	check("maps", number);
+	for (*at = 0; (found = ebpf_map_at(of->object, *at, NULL)); ++*at)
+		if (!strcmp(name, found))
+			return 1;
+	return 0;
 }
 
-static size_t place_of(const struct maps *maps, const char *name)
+size_t find_map(const struct loading *of, const char *name)
 {
-	size_t at = 0;
+	size_t at;
 
-	while (at < maps->counts.rows && strcmp(name, maps->names + maps->rows[at].name_at))
-		at++;
-	return at;
-}
-
-int has_map(const struct maps *maps, const char *name)
-{
-	return place_of(maps, name) < maps->counts.rows;
-}
-
-/* The place of a map among all. */
-size_t find_map(const struct maps *maps, const char *name)
-{
-	if (!has_map(maps, name))
+	if (!has_map(of, name, &at))
 		errx(1, "no map %s", name);
-	return place_of(maps, name);
+	return at;
 }
 
 /*
@@ -85,42 +67,38 @@ static int make_map(const struct loading *of, const struct ebpf_map_shape *shape
 }
 
 /* Writes the bytes that a map of variables begins with; what is constant no one writes from then on. */
-static void fill_map(struct loading *of, const struct ebpf_map *map, int made)
+static void fill_map(struct loading *of, size_t at, const char *name, const struct ebpf_map *map)
 {
-	struct bytes data = { zeros(map->data_len, 1), map->data_len };
-	const char *name = of->maps.names + map->name_at;
 	union bpf_attr attr;
 	uint32_t key = 0;
 
 	clear(&attr);
-	attr.map_fd = made;
+	attr.map_fd = of->maps[at];
 	attr.key = (uintptr_t)&key;
-	attr.value = (uintptr_t)data.at;
-	check("data of a map", ebpf_map_data(of->object, name, map->name_len, data.at, data.len, &data.len));
+	attr.value = (uintptr_t)need(of, "data of a map", ebpf_map_contents(of->object, at, NULL));
 	if (bpf(BPF_MAP_UPDATE_ELEM, &attr))
 		err(1, "the kernel refuses the data of %s", name);
 	clear(&attr);
-	attr.map_fd = made;
+	attr.map_fd = of->maps[at];
 	if (map->section_kind == EBPF_SECTION_RODATA && bpf(BPF_MAP_FREEZE, &attr))
 		err(1, "the kernel doesn't freeze %s", name);
-	free(data.at);
 }
 
 /* Makes each map; of a map of maps first one of those that it holds, by which the kernel knows what it takes. */
 void make_maps(struct loading *of)
 {
-	struct maps *all = &of->maps;
+	struct ebpf_map map;
+	const char *name;
 
-	all->made = zeros(all->counts.rows, sizeof(*all->made));
-	for (size_t at = 0; at < all->counts.rows; at++) {
-		const struct ebpf_map *map = &all->rows[at];
-		int inner = map->has_inner ? make_map(of, &map->inner, 0, "inner") : 0;
-		int made = make_map(of, &map->shape, inner, all->names + map->name_at);
+	of->maps = zeros(ebpf_map_count(of->object), sizeof(*of->maps));
+	check(of, "maps", ebpf_last_error(of->object)->number);
+	for (size_t at = 0; (name = ebpf_map_at(of->object, at, &map)); at++) {
+		int inner = map.has_inner ? make_map(of, &map.inner, 0, "inner") : 0;
 
-		all->made[at] = (struct ebpf_descriptor){ map->name_at, map->name_len, made };
+		of->maps[at] = make_map(of, &map.shape, inner, name);
 		if (inner)
 			close(inner);
-		if (map->data_len)
-			fill_map(of, map, made);
+		if (map.data_len)
+			fill_map(of, at, name, &map);
 	}
 }

@@ -16,10 +16,11 @@ static int is_by_processor(uint32_t type)
 }
 
 /* Prints each key of a map with its value. */
-static void print_map(const struct loading *of, const char *name)
+static void print_map(const struct loading *of, size_t at)
 {
-	size_t at = find_map(&of->maps, name);
-	const struct ebpf_map_shape *shape = &of->maps.rows[at].shape;
+	struct ebpf_map map;
+	const char *name = need(of, "maps", ebpf_map_at(of->object, at, &map));
+	const struct ebpf_map_shape *shape = &map.shape;
 	uint8_t *key, *value;
 	union bpf_attr attr;
 
@@ -28,7 +29,7 @@ static void print_map(const struct loading *of, const char *name)
 	clear(&attr);
 	key = zeros(shape->key_size, 1);
 	value = zeros(shape->value_size, 1);
-	attr.map_fd = of->maps.made[at].descriptor;
+	attr.map_fd = of->maps[at];
 	while (attr.next_key = (uintptr_t)key, !bpf(BPF_MAP_GET_NEXT_KEY, &attr)) {
 		attr.key = (uintptr_t)key;
 		attr.value = (uintptr_t)value;
@@ -41,65 +42,47 @@ static void print_map(const struct loading *of, const char *name)
 	free(value);
 }
 
-struct variables {
-	struct ebpf_variable *rows;
-	char *names;
-	struct ebpf_counts counts;
-};
-
-static struct variables list_variables(struct ebpf_handle *object)
-{
-	struct variables all = { 0 };
-	uint32_t number;
-
-	do {
-		free(all.rows);
-		free(all.names);
-		all.rows = zeros(all.counts.rows, sizeof(*all.rows));
-		all.names = zeros(all.counts.text, 1);
-		number = ebpf_variables(object, all.rows, all.counts.rows, all.names, all.counts.text, &all.counts);
-	} while (number == EBPF_ROOM);
-	check("variables", number);
-	return all;
-}
-
 /* Prints the bytes at a place in the one value of a map. */
-static void print_part(const struct loading *of, const char *map, size_t offset, size_t size)
+static void print_part(const struct loading *of, const char *name, size_t offset, size_t size)
 {
-	size_t at = find_map(&of->maps, map);
-	uint8_t *value = zeros(of->maps.rows[at].shape.value_size, 1);
+	size_t at = find_map(of, name);
+	struct ebpf_map map;
+	uint8_t *value;
 	union bpf_attr attr;
 	uint32_t key = 0;
 
+	need(of, name, ebpf_map_at(of->object, at, &map));
+	value = zeros(map.shape.value_size, 1);
 	clear(&attr);
-	attr.map_fd = of->maps.made[at].descriptor;
+	attr.map_fd = of->maps[at];
 	attr.key = (uintptr_t)&key;
 	attr.value = (uintptr_t)value;
 	if (bpf(BPF_MAP_LOOKUP_ELEM, &attr))
-		err(1, "the kernel gives no value of %s", map);
+		err(1, "the kernel gives no value of %s", name);
 	print_bytes(value + offset, size, '\n');
 	free(value);
 }
 
-static void print_variable(struct loading *of, const char *name)
+static void print_variable(const struct loading *of, const char *name)
 {
-	struct variables all = list_variables(of->object);
+	struct ebpf_variable row;
+	const char *found;
 	size_t at = 0;
 
-	while (at < all.counts.rows && strcmp(name, all.names + all.rows[at].name_at))
+	while ((found = ebpf_variable_at(of->object, at, &row)) && strcmp(name, found))
 		at++;
-	if (at == all.counts.rows)
+	if (!found)
 		errx(1, "no map %s, and no variable", name);
-	print_part(of, all.names + all.rows[at].map_at, all.rows[at].offset, all.rows[at].size);
-	free(all.rows);
-	free(all.names);
+	print_part(of, found + row.map_at, row.offset, row.size);
 }
 
 /* Prints what a map of a name holds, or else a variable. */
 void print_held(struct loading *of, const char *name)
 {
-	if (has_map(&of->maps, name))
-		print_map(of, name);
+	size_t at;
+
+	if (has_map(of, name, &at))
+		print_map(of, at);
 	else
 		print_variable(of, name);
 }

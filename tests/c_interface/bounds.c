@@ -25,10 +25,8 @@ void count_check(int holds, const char *of, const char *what, int line)
 struct ebpf_handle *opened(const struct guarded *file)
 {
 	struct ebpf_handle *handle = NULL;
-	struct ebpf_refusal refusal = { 0 };
-	char about = 0;
 
-	if (ebpf_open(file->at, file->size, &handle, &about, 0, &refusal) != EBPF_DONE)
+	if (open_strictly(file->at, file->size, &handle) != EBPF_DONE)
 		errx(3, "a file of the repository can't be opened");
 	return handle;
 }
@@ -283,25 +281,27 @@ static uint32_t first_key(struct ebpf_handle *object)
 static void check_handles(const struct guarded *file)
 {
 	struct ebpf_handle *object = opened(file), *copy = (void *)file, *closed = (void *)file;
-	struct guarded text = guarded(0);
-	struct ebpf_refusal refusal = unwritten();
 
 	/* what is given out is only written */
 	CHECK("ebpf_clone", ebpf_clone(NULL, &copy) == EBPF_CLOSED && copy == NULL);
 	copy = (void *)file;
 	CHECK("ebpf_clone", ebpf_clone(object, &copy) == EBPF_DONE && copy != NULL && copy != object);
-	CHECK("ebpf_relocate_calls",
-	      ebpf_relocate_calls(copy, (char *)text.at, 0, &refusal) == EBPF_DONE && is_unwritten(&refusal));
+	CHECK("ebpf_relocate_calls", ebpf_relocate_calls(copy) == EBPF_DONE && !ebpf_last_error(copy)->number);
 	CHECK("ebpf_clone", first_key(copy) == 1 && first_key(object) == (uint32_t)-1);
 	ebpf_close(copy);
 	CHECK("ebpf_clone", ebpf_clone(object, &copy) == EBPF_DONE && first_key(copy) == (uint32_t)-1);
 	ebpf_close(copy);
-	CHECK("ebpf_relocate_calls", ebpf_relocate_calls(NULL, (char *)text.at, 0, &refusal) == EBPF_CLOSED);
-	CHECK("ebpf_open", ebpf_open(file->at, 63, &closed, (char *)text.at, 0, &refusal) == EBPF_PARSE_TOO_SHORT && !closed);
-	closed = (void *)file;
-	CHECK("ebpf_open", ebpf_open(file->at, 0, &closed, (char *)text.at, 0, &refusal) == EBPF_PARSE_TOO_SHORT && !closed);
+	CHECK("ebpf_relocate_calls", ebpf_relocate_calls(NULL) == EBPF_CLOSED);
+	/* a file that is refused: the handle is there, has the error, and is closed for all else */
+	for (size_t len = 0; len < 64; len += 63) {
+		closed = (void *)file;
+		CHECK("ebpf_open", ebpf_open(file->at, len, NULL, &closed) == EBPF_PARSE_TOO_SHORT && closed);
+		CHECK("ebpf_open", ebpf_last_error(closed)->number == EBPF_PARSE_TOO_SHORT);
+		CHECK("ebpf_info", ebpf_info(closed, NULL) == EBPF_CLOSED);
+		CHECK("ebpf_clone", ebpf_clone(closed, &copy) == EBPF_CLOSED && !copy);
+		ebpf_close(closed);
+	}
 	ebpf_close(object);
-	release(&text);
 }
 
 /* ---- what changes an object */
@@ -323,27 +323,40 @@ static void check_data(struct ebpf_handle *object)
 	release(&data);
 }
 
+static void check_values_of_one(struct ebpf_handle *object)
+{
+	struct exact_handle *exact = EXACT(object);
+	struct guarded none = guarded(0);
+	uint8_t value[8] = { 1, 2, 3, 4, 5, 6, 7, 8 };
+	struct ebpf_refusal refusal = unwritten();
+	void *text = none.at;
+
+	for (size_t room = 0; room < 12; room++)
+		check_about(object, "no_such", room);
+	CHECK("ebpf_set_value", exact_ebpf_set_value(exact, "no_such", 7, value, 1, 0, text, 0, &refusal) == EBPF_DONE);
+	CHECK("ebpf_set_value", exact_ebpf_set_value(exact, "seen", 4, value, 8, 1, text, 0, &refusal) == EBPF_DONE &&
+					is_unwritten(&refusal));
+	CHECK("ebpf_set_value",
+	      exact_ebpf_set_value(exact, "seen", 4, value, 7, 1, text, 0, &refusal) == EBPF_PARSE_GLOBAL_DATA);
+	CHECK("ebpf_set_value",
+	      is_told(&refusal, EBPF_PARSE_GLOBAL_DATA, 0) && refusal.size == 8 && refusal.other_size == 7);
+	CHECK("ebpf_set_value", refusal.has == (EBPF_HAS_SIZE | EBPF_HAS_OTHER_SIZE));
+	CHECK("ebpf_set_value", exact_ebpf_set_value(exact, "\xff", 1, value, 1, 1, text, 0, &refusal) == EBPF_BAD_NAME);
+	CHECK("ebpf_set_value", ebpf_set_value(NULL, "seen", 4, value, 8, 1) == EBPF_CLOSED);
+	release(&none);
+}
+
 static void check_changes(const struct guarded *file)
 {
 	struct ebpf_handle *object = opened(file), *closed = NULL;
 	struct guarded none = guarded(0);
-	struct ebpf_descriptor row = { 1, SIZE_MAX, 3 };
-	uint8_t value[8] = { 1, 2, 3, 4, 5, 6, 7, 8 };
+	struct exact_descriptor row = { 1, SIZE_MAX, 3 };
+	struct ebpf_prepare_inputs inputs = ebpf_prepare_defaults();
 	struct ebpf_refusal refusal = unwritten();
-	char *text = (char *)none.at;
+	uint8_t value[8] = { 1, 2, 3, 4, 5, 6, 7, 8 };
+	void *text = none.at;
 
-	for (size_t room = 0; room < 12; room++)
-		check_about(object, "no_such", room);
-	CHECK("ebpf_set_value", ebpf_set_value(object, "no_such", 7, value, 1, 0, text, 0, &refusal) == EBPF_DONE);
-	CHECK("ebpf_set_value", ebpf_set_value(object, "seen", 4, value, 8, 1, text, 0, &refusal) == EBPF_DONE &&
-					is_unwritten(&refusal));
-	CHECK("ebpf_set_value",
-	      ebpf_set_value(object, "seen", 4, value, 7, 1, text, 0, &refusal) == EBPF_PARSE_GLOBAL_DATA);
-	CHECK("ebpf_set_value",
-	      is_told(&refusal, EBPF_PARSE_GLOBAL_DATA, 0) && refusal.size == 8 && refusal.other_size == 7);
-	CHECK("ebpf_set_value", refusal.has == (EBPF_HAS_SIZE | EBPF_HAS_OTHER_SIZE));
-	CHECK("ebpf_set_value", ebpf_set_value(object, "\xff", 1, value, 1, 1, text, 0, &refusal) == EBPF_BAD_NAME);
-	CHECK("ebpf_set_value", ebpf_set_value(closed, "seen", 4, value, 8, 1, text, 0, &refusal) == EBPF_CLOSED);
+	check_values_of_one(object);
 	check_data(object);
 	check_values(&of_variable, object, "wanted");
 	CHECK("ebpf_set_max_entries", ebpf_set_max_entries(object, "counts", 6, 5) == EBPF_DONE);
@@ -353,19 +366,19 @@ static void check_changes(const struct guarded *file)
 	CHECK("ebpf_set_value_size", ebpf_set_value_size(object, text, 0, 5) == EBPF_NO_MAP);
 	CHECK("ebpf_set_value_size", ebpf_set_value_size(closed, "counts", 6, 5) == EBPF_CLOSED);
 	CHECK("ebpf_sanitize", ebpf_sanitize(object, 0) == EBPF_DONE && ebpf_sanitize(closed, 0) == EBPF_CLOSED);
-	CHECK("ebpf_relocate_maps", ebpf_relocate_maps(object, &row, 1, "a", 1, text, 0, &refusal) == EBPF_BAD_NAME);
-	CHECK("ebpf_relocate_maps", ebpf_relocate_maps(closed, &row, 0, text, 0, text, 0, &refusal) == EBPF_CLOSED);
-	CHECK("ebpf_relocate_types", ebpf_relocate_types(object, none.at, 0, text, 0, &refusal) == EBPF_TYPES_READ_INVALID_HEADER);
-	CHECK("ebpf_relocate_types", ebpf_relocate_types(closed, none.at, 0, text, 0, &refusal) == EBPF_CLOSED);
-	CHECK("ebpf_resolve_externs",
-	      ebpf_resolve_externs(closed, none.at, 0, none.at, 0, text, 0, &refusal) == EBPF_CLOSED);
-	CHECK("ebpf_relocate_externs", ebpf_relocate_externs(closed, text, 0, &refusal) == EBPF_CLOSED);
-	CHECK("ebpf_prepare_handle",
-	      ebpf_prepare_handle(closed, none.at, 0, &row, 1, "a", 1, none.at, 0, text, 0, &refusal) == EBPF_CLOSED);
-	CHECK("ebpf_prepare_handle", ebpf_prepare_handle(object, none.at, 0, &row, 1, "a", 1, none.at, 0, text, 0,
-							 &refusal) == EBPF_BAD_NAME);
-	CHECK("ebpf_prepare_handle", ebpf_prepare_handle(object, value, 8, &row, 0, "a", 1, none.at, 0, text, 0,
-							 &refusal) == EBPF_TYPES_READ_INVALID_HEADER);
+	CHECK("ebpf_relocate_maps",
+	      exact_ebpf_relocate_maps(EXACT(object), &row, 1, "a", 1, text, 0, &refusal) == EBPF_BAD_NAME);
+	CHECK("ebpf_relocate_maps", ebpf_relocate_maps(closed, NULL, 0) == EBPF_CLOSED);
+	CHECK("ebpf_relocate_types", ebpf_relocate_types(object, none.at, 0) == EBPF_TYPES_READ_INVALID_HEADER);
+	CHECK("ebpf_relocate_types", ebpf_relocate_types(closed, none.at, 0) == EBPF_CLOSED);
+	CHECK("ebpf_resolve_externs", ebpf_resolve_externs(closed, none.at, 0, none.at, 0) == EBPF_CLOSED);
+	CHECK("ebpf_relocate_externs", ebpf_relocate_externs(closed) == EBPF_CLOSED);
+	CHECK("ebpf_prepare_handle", ebpf_prepare_handle(closed, &inputs) == EBPF_CLOSED);
+	CHECK("ebpf_prepare_handle", exact_ebpf_prepare_handle(EXACT(object), none.at, 0, &row, 1, "a", 1, none.at, 0,
+							       text, 0, &refusal) == EBPF_BAD_NAME);
+	inputs.types = value;
+	inputs.types_len = 8;
+	CHECK("ebpf_prepare_handle", ebpf_prepare_handle(object, &inputs) == EBPF_TYPES_READ_INVALID_HEADER);
 	ebpf_close(object);
 	release(&none);
 }
@@ -385,7 +398,7 @@ static void check_name(uint32_t number, size_t room, size_t need)
 
 static void check_number_names(void)
 {
-	static const uint32_t numbers[] = { 0, 1, 2, 8, 100, 144, 699, 700, 744, 820, 908, 909, UINT32_MAX - 1, UINT32_MAX };
+	static const uint32_t numbers[] = { 0, 1, 2, 8, 90, 91, 92, 100, 144, 699, 700, 744, 820, 908, 909, UINT32_MAX - 1, UINT32_MAX };
 
 	for (size_t at = 0; at < sizeof(numbers) / sizeof(numbers[0]); at++) {
 		struct guarded none = guarded(0);
@@ -428,28 +441,27 @@ static const struct guarded *given; /* a file, a kernel's types, its symbols */
 static void *prepare(void *to)
 {
 	struct ebpf_handle *object = opened(&given[0]);
-	struct guarded none = guarded(0);
-	struct ebpf_refusal refusal = { 0 };
-	size_t len = 0, found = 0, count;
+	struct ebpf_prepare_inputs inputs = {
+		sizeof(inputs), given[1].at, given[1].size, NULL, 0, given[2].at, given[2].size
+	};
 	struct ebpf_descriptor *rows;
+	size_t found = 0;
 	char *text;
 
-	count = number_maps(object, &rows, &text, &len);
+	inputs.descriptors_len = number_maps(object, &rows, &text);
+	inputs.descriptors = rows;
 	ebpf_close(object);
 	for (int times = 0; times < 20; times++)
-		if (ebpf_prepare(given[0].at, given[0].size, given[1].at, given[1].size, rows, count, text, len,
-				 given[2].at, given[2].size, &object, (char *)none.at, 0, &refusal) != EBPF_DONE)
+		if (ebpf_prepare(given[0].at, given[0].size, &inputs, &object) != EBPF_DONE)
 			return "ebpf_prepare refuses";
 		else
 			ebpf_close(object);
-	if (ebpf_open(given[0].at, given[0].size, &object, (char *)none.at, 0, &refusal) != EBPF_DONE ||
-	    ebpf_prepare_handle(object, given[1].at, given[1].size, rows, count, text, len, given[2].at, given[2].size,
-				(char *)none.at, 0, &refusal) != EBPF_DONE)
+	object = opened(&given[0]);
+	if (ebpf_prepare_handle(object, &inputs) != EBPF_DONE)
 		return "ebpf_prepare_handle refuses";
 	if (ebpf_slots(object, "on_enter", 8, to, 1024, &found) != EBPF_DONE || !found)
 		return "no slots";
 	ebpf_close(object);
-	release(&none);
 	free(rows);
 	free(text);
 	return NULL;
@@ -495,7 +507,7 @@ int main(int words, char **word)
 	check_number_names();
 	check_license(&files[0], 0);
 	check_license(&files[1], 1);
-	CHECK("ebpf_version_number", ebpf_version_number() == EBPF_VERSION_NUMBER);
+	CHECK("ebpf_version_number", ebpf_version_number() == EBPF_VERSION_NUMBER && !ebpf_check_version());
 	given = &files[2];
 	check_threads();
 	printf("%zu passed, %zu failed\n", passed, failed);

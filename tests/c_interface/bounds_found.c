@@ -71,7 +71,7 @@ static void check_found(const struct guarded *file, const char *program, const c
 static uint32_t link_map(struct ebpf_handle *of, void *rows, size_t room, char *text, size_t text_room,
 			 struct ebpf_counts *counts, char *about, size_t about_room, struct ebpf_refusal *refusal)
 {
-	return ebpf_link_map(of, "p", 1, rows, room, text, text_room, counts, about, about_room, refusal);
+	return exact_ebpf_link_map(EXACT(of), "p", 1, rows, room, text, text_room, counts, about, about_room, refusal);
 }
 
 static const struct told_list copies = { "ebpf_link_map", link_map, sizeof(struct ebpf_code_copy), 1 };
@@ -82,7 +82,8 @@ static void check_references(struct ebpf_handle *of, size_t room)
 	struct guarded rows = guarded(room * sizeof(struct ebpf_code_reference)), about = guarded(8);
 	struct ebpf_refusal refusal = unwritten();
 	size_t count = 77;
-	uint32_t number = ebpf_link_references(of, "p", 1, (void *)rows.at, room, &count, (char *)about.at, 8, &refusal);
+	uint32_t number = exact_ebpf_link_references(EXACT(of), "p", 1, (void *)rows.at, room, &count, about.at, 8,
+						     &refusal);
 	struct ebpf_code_reference row = { 0 };
 
 	CHECK("ebpf_link_references", number == (room ? EBPF_DONE : EBPF_ROOM));
@@ -106,12 +107,12 @@ static void check_link_refused(struct ebpf_handle *of, const char *name, size_t 
 	size_t count = 77;
 	char *told = (char *)about.at;
 
-	CHECK("ebpf_link_map", ebpf_link_map(of, (char *)held.at, len, (void *)rows.at, 2, (char *)text.at, 8, &counts, told, 8,
-					     &refusal) == wanted);
+	CHECK("ebpf_link_map", exact_ebpf_link_map(EXACT(of), held.at, len, (void *)rows.at, 2, text.at, 8, &counts, told, 8,
+						   &refusal) == wanted);
 	CHECK("ebpf_link_map", counts.rows == 77 && counts.text == 78 && is_told(&refusal, wanted, 0));
 	refusal = unwritten();
 	CHECK("ebpf_link_references",
-	      ebpf_link_references(of, (char *)held.at, len, (void *)rows.at, 4, &count, told, 8, &refusal) == wanted);
+	      exact_ebpf_link_references(EXACT(of), held.at, len, (void *)rows.at, 4, &count, told, 8, &refusal) == wanted);
 	CHECK("ebpf_link_references", count == 77 && is_told(&refusal, wanted, 0));
 	CHECK("ebpf_link_map", is_untouched(&rows, 0) && is_untouched(&text, 0) && is_untouched(&about, 0));
 	release(&held);
@@ -144,7 +145,7 @@ static const struct guarded *given; /* a kernel's types */
 static uint32_t outcomes(struct ebpf_handle *of, void *rows, size_t room, char *text, size_t text_room,
 			 struct ebpf_counts *counts, char *about, size_t about_room, struct ebpf_refusal *refusal)
 {
-	return ebpf_record_outcomes(of, given->at, given->size, rows, room, text, text_room, counts, about, about_room,
+	return exact_ebpf_record_outcomes(EXACT(of), given->at, given->size, rows, room, text, text_room, counts, about, about_room,
 				    refusal);
 }
 
@@ -159,8 +160,9 @@ static void check_outcomes(const struct guarded *file, const struct guarded *typ
 
 	given = types;
 	check_told_list(&records, object);
-	CHECK("ebpf_record_outcomes", ebpf_record_outcomes(object, none.at, 0, (void *)none.at, 0, (char *)none.at, 0, &counts,
-							   (char *)about.at, 8, &refusal) == EBPF_TYPES_READ_INVALID_HEADER);
+	CHECK("ebpf_record_outcomes",
+	      exact_ebpf_record_outcomes(EXACT(object), none.at, 0, (void *)none.at, 0, none.at, 0, &counts, about.at, 8,
+					 &refusal) == EBPF_TYPES_READ_INVALID_HEADER);
 	CHECK("ebpf_record_outcomes", is_told(&refusal, EBPF_TYPES_READ_INVALID_HEADER, 0));
 	CHECK("ebpf_record_outcomes", counts.rows == 77 && counts.text == 78 && is_untouched(&about, 0));
 	ebpf_close(object);

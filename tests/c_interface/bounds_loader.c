@@ -14,14 +14,14 @@ static uint32_t types(struct ebpf_handle *of, uint8_t *to, size_t room, size_t *
 		      struct ebpf_refusal *refusal)
 {
 	(void)of;
-	return ebpf_kernel_types(given->at, given->size, to, room, len, about, about_room, refusal);
+	return exact_ebpf_kernel_types(given->at, given->size, to, room, len, about, about_room, refusal);
 }
 
 static uint32_t configured(struct ebpf_handle *of, uint8_t *to, size_t room, size_t *len, char *about,
 			   size_t about_room, struct ebpf_refusal *refusal)
 {
 	uint32_t is_found = 77;
-	uint32_t number = ebpf_kconfig_value(of, "CONFIG_NAME", 11, config, strlen(config), to, room, len, &is_found,
+	uint32_t number = exact_ebpf_kconfig_value(EXACT(of), "CONFIG_NAME", 11, config, strlen(config), to, room, len, &is_found,
 					     about, about_room, refusal);
 
 	CHECK("ebpf_kconfig_value", is_found == (number == EBPF_DONE || number == EBPF_ROOM ? 1 : 77));
@@ -31,7 +31,7 @@ static uint32_t configured(struct ebpf_handle *of, uint8_t *to, size_t room, siz
 static uint32_t numbered(struct ebpf_handle *of, uint8_t *to, size_t room, size_t *len, char *about, size_t about_room,
 			 struct ebpf_refusal *refusal)
 {
-	return ebpf_kconfig_number(of, "CONFIG_COUNT", 12, 7, to, room, len, about, about_room, refusal);
+	return exact_ebpf_kconfig_number(EXACT(of), "CONFIG_COUNT", 12, 7, to, room, len, about, about_room, refusal);
 }
 
 static void check_bytes_room(const char *name, bytes_call *call, struct ebpf_handle *of, size_t room, size_t need)
@@ -75,13 +75,13 @@ static void check_bytes(const char *name, bytes_call *call, struct ebpf_handle *
 static uint32_t settings(struct ebpf_handle *of, void *rows, size_t room, char *text, size_t text_room,
 			 struct ebpf_counts *counts, char *about, size_t about_room, struct ebpf_refusal *refusal)
 {
-	return ebpf_kconfig(of, rows, room, text, text_room, counts, about, about_room, refusal);
+	return exact_ebpf_kconfig(EXACT(of), rows, room, text, text_room, counts, about, about_room, refusal);
 }
 
 static uint32_t initial(struct ebpf_handle *of, void *rows, size_t room, char *text, size_t text_room,
 			struct ebpf_counts *counts, char *about, size_t about_room, struct ebpf_refusal *refusal)
 {
-	return ebpf_initial_slots(given->at, given->size, of, rows, room, text, text_room, counts, about, about_room,
+	return exact_ebpf_initial_slots(given->at, given->size, EXACT(of), rows, room, text, text_room, counts, about, about_room,
 				  refusal);
 }
 
@@ -182,14 +182,14 @@ static void check_targets(struct ebpf_handle *of)
 /* ---- definitions */
 
 /* What is answered for rows, names and values that end where their memory does. */
-static uint32_t define(struct ebpf_handle *object, const struct ebpf_value_row *rows, size_t count, const char *text,
+static uint32_t define(struct ebpf_handle *object, const struct exact_value *rows, size_t count, const char *text,
 		       const uint8_t *bytes, size_t bytes_len)
 {
 	struct guarded held = guarded_copy(rows, count * sizeof(*rows)), names = guarded_copy(text, strlen(text));
 	struct guarded values = guarded_copy(bytes, bytes_len), about = guarded(0);
 	struct ebpf_refusal refusal = unwritten();
-	uint32_t number = ebpf_define_kconfig(object, (void *)held.at, count, (char *)names.at, names.size, values.at,
-					      values.size, (char *)about.at, 0, &refusal);
+	uint32_t number = exact_ebpf_define_kconfig(EXACT(object), (void *)held.at, count, names.at, names.size,
+						    values.at, values.size, about.at, 0, &refusal);
 
 	CHECK("ebpf_define_kconfig",
 	      number == EBPF_DONE ? is_unwritten(&refusal) : is_told(&refusal, number, refusal.name_len));
@@ -211,7 +211,7 @@ static uint32_t count_of(struct ebpf_handle *object)
 static void check_definitions(const struct guarded *file)
 {
 	struct ebpf_handle *object = opened(file), *closed = NULL;
-	struct ebpf_value_row rows[] = { { 0, 12, 0, 4, 0 }, { 12, 5, 0, 0, 1 }, { 0, 12, 4, 4, 0 } }, bad[2];
+	struct exact_value rows[] = { { 0, 12, 0, 4, 0 }, { 12, 5, 0, 0, 1 }, { 0, 12, 4, 4, 0 } }, bad[2];
 	const char *text = "CONFIG_COUNTOTHER";
 	const uint8_t bytes[8] = { 1, [4] = 42 };
 
@@ -220,14 +220,14 @@ static void check_definitions(const struct guarded *file)
 	CHECK("ebpf_define_kconfig", define(object, rows, 2, text, bytes, 8) == EBPF_DONE && count_of(object) == 1);
 	CHECK("ebpf_define_kconfig", define(object, rows, 3, text, bytes, 8) == EBPF_DONE && count_of(object) == 42);
 	bad[0] = rows[0];
-	bad[1] = (struct ebpf_value_row){ 6, 12, 0, 4, 0 };
+	bad[1] = (struct exact_value){ 6, 12, 0, 4, 0 };
 	CHECK("ebpf_define_kconfig", define(object, bad, 2, text, bytes, 8) == EBPF_BAD_NAME);
 	bad[0].value_at = 5; /* names first */
 	CHECK("ebpf_define_kconfig", define(object, bad, 2, text, bytes, 8) == EBPF_BAD_NAME);
 	CHECK("ebpf_define_kconfig", define(object, bad, 1, text, bytes, 8) == EBPF_BAD_VALUE);
 	bad[0].value_at = SIZE_MAX;
 	CHECK("ebpf_define_kconfig", define(object, bad, 1, text, bytes, 8) == EBPF_BAD_VALUE);
-	bad[0] = (struct ebpf_value_row){ 0, 12, 0, 3, 0 };
+	bad[0] = (struct exact_value){ 0, 12, 0, 3, 0 };
 	CHECK("ebpf_define_kconfig", define(object, bad, 1, text, bytes, 8) == EBPF_KCONFIG_WRONG_SIZE);
 	CHECK("ebpf_define_kconfig", count_of(object) == 42);
 	ebpf_close(object);
@@ -244,7 +244,7 @@ void check_loader_calls(const struct guarded *file)
 	check_bytes("ebpf_kernel_types", types, object, 0);
 	check_bytes("ebpf_kconfig_value", configured, object, 1);
 	check_bytes("ebpf_kconfig_number", numbered, object, 1);
-	CHECK("ebpf_kernel_types", ebpf_kernel_types(file->at, 63, none.at, 0, &len, (char *)none.at, 0, &refusal) ==
+	CHECK("ebpf_kernel_types", exact_ebpf_kernel_types(file->at, 63, none.at, 0, &len, none.at, 0, &refusal) ==
 					   EBPF_KERNEL_TYPES_FILE_TOO_SHORT);
 	CHECK("ebpf_kernel_types", len == 77 && is_told(&refusal, EBPF_KERNEL_TYPES_FILE_TOO_SHORT, 0));
 	for (size_t at = 0; at < sizeof(lists) / sizeof(lists[0]); at++)

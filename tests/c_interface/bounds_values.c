@@ -3,14 +3,14 @@
 #include "told.h"
 
 /* What is answered for rows, names and values that end where their memory does. */
-static uint32_t set_rows(struct ebpf_handle *object, const struct ebpf_value_row *rows, size_t count, const char *text,
+static uint32_t set_rows(struct ebpf_handle *object, const struct exact_value *rows, size_t count, const char *text,
 			 const char *bytes, size_t bytes_len)
 {
 	struct guarded held = guarded_copy(rows, count * sizeof(*rows)), names = guarded_copy(text, strlen(text));
 	struct guarded values = guarded_copy(bytes, bytes_len), about = guarded(0);
 	struct ebpf_refusal refusal = unwritten();
-	uint32_t number = ebpf_set_values(object, (void *)held.at, count, (char *)names.at, names.size, values.at,
-					  values.size, (char *)about.at, 0, &refusal);
+	uint32_t number = exact_ebpf_set_values(EXACT(object), (void *)held.at, count, names.at, names.size, values.at,
+						values.size, about.at, 0, &refusal);
 
 	CHECK("ebpf_set_values", number == EBPF_DONE ? is_unwritten(&refusal) : is_told(&refusal, number, 0));
 	release(&held);
@@ -31,12 +31,12 @@ static uint32_t wanted_of(struct ebpf_handle *object)
 void check_values_by_rows(const struct guarded *file)
 {
 	struct ebpf_handle *object = opened(file), *closed = NULL;
-	struct ebpf_value_row rows[] = { { 0, 6, 0, 4, 1 }, { 6, 4, 4, 8, 1 }, { 0, 6, 12, 4, 7 } }, bad[2];
+	struct exact_value rows[] = { { 0, 6, 0, 4, 1 }, { 6, 4, 4, 8, 1 }, { 0, 6, 12, 4, 7 } }, bad[2];
 	const char *text = "wantedseen", bytes[16] = { 1, [12] = 42 };
-	static const struct ebpf_value_row bad_names[] = {
+	static const struct exact_value bad_names[] = {
 		{ 5, 6, 0, 4, 1 }, { 11, 0, 0, 4, 0 }, { 1, SIZE_MAX, 0, 4, 1 }, { SIZE_MAX, 1, 0, 4, 1 }
 	};
-	static const struct ebpf_value_row bad_values[] = {
+	static const struct exact_value bad_values[] = {
 		{ 0, 6, 13, 4, 1 }, { 6, 4, 17, 0, 0 }, { 0, 6, 1, SIZE_MAX, 1 }, { 0, 6, SIZE_MAX, 1, 1 }
 	};
 
@@ -70,7 +70,7 @@ void check_about(struct ebpf_handle *object, const char *variable, size_t room)
 	size_t whole = strlen(variable), kept = room < whole ? room : whole;
 	uint8_t value = 0;
 
-	CHECK("about", ebpf_set_value(object, variable, whole, &value, 1, 1, (char *)about.at, room, refusal) ==
+	CHECK("about", exact_ebpf_set_value(EXACT(object), variable, whole, &value, 1, 1, about.at, room, refusal) ==
 			       EBPF_PARSE_SYMBOL_NOT_FOUND);
 	CHECK("about", is_told(refusal, EBPF_PARSE_SYMBOL_NOT_FOUND, kept) && !refusal->has);
 	CHECK("about", is_untouched(&held, held.size));

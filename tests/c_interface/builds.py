@@ -8,7 +8,7 @@ TOP = Path(__file__).parents[2]
 HERE = Path(__file__).parent
 EXAMPLES = TOP / "examples"
 
-STRICT = ["-std=c11", "-Wall", "-Wextra", "-Werror", f"-I{TOP / 'include'}"]
+STRICT = ["-std=c11", "-Wall", "-Wextra", "-Wshadow", "-Wswitch", "-Werror", f"-I{TOP / 'include'}", f"-I{TOP / 'c'}"]
 
 # The library is not built with the sanitizers, so they see the test programs, and each block that the library takes.
 SANITIZED = ["-g", "-fsanitize=address,undefined", "-fno-sanitize-recover=all"]
@@ -63,7 +63,7 @@ def layer_fault(tool):
 def header_faults():
     """What is wrong with the header alone, as C99, as C11 and as C++."""
     header = TOP / "include/ebpf.h"
-    readings = [("c", "c99"), ("c", "c11"), ("c++", "c++11"), ("c++", "c++20")]
+    readings = [("c", "c99"), ("c", "c11"), ("c++", "c++11"), ("c++", "c++20"), ("c++", "c++2b")]
     for compiler in compilers():
         for language, standard in readings:
             words = [compiler, "-x", language, f"-std={standard}", "-Wall", "-Wextra", "-Wshadow", "-pedantic", "-Werror"]

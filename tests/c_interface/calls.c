@@ -26,13 +26,10 @@
 
 static struct bytes file, types, symbols;
 static struct ebpf_handle *object = NULL;
-static char about[128];
-static struct ebpf_refusal refusal;
-#define ABOUT about, sizeof(about), &refusal
 
 static struct made_on made_on(void)
 {
-	return (struct made_on){ object, file, types, symbols, ABOUT };
+	return (struct made_on){ object, file, types, symbols };
 }
 
 /* The part of a word in front of a separator; the rest begins behind it. */
@@ -50,21 +47,18 @@ static char *cut(char **rest, char separator)
 static struct {
 	struct ebpf_descriptor *rows;
 	char *text;
-	size_t count, text_len;
+	size_t count;
 } given;
 
-/* The maps NAME:N,.. as rows; no text is none. */
+/* The maps NAME:N,.. as rows, which point into the word; no text is none. */
 static void read_map_fds(char *rest)
 {
 	given.rows = zeros(strlen(rest), sizeof(*given.rows));
-	given.text = zeros(strlen(rest), 1);
 	while (rest && *rest) {
 		char *pair = cut(&rest, ','), *name = cut(&pair, ':');
 
 		given.rows[given.count++] =
-			(struct ebpf_descriptor){ given.text_len, strlen(name), (int32_t)strtol(pair, NULL, 0) };
-		memcpy(given.text + given.text_len, name, strlen(name));
-		given.text_len += strlen(name);
+			(struct ebpf_descriptor){ name, strlen(name), (int32_t)strtol(pair, NULL, 0) };
 	}
 }
 
@@ -77,18 +71,14 @@ static void give_map_fds(const char *name, char *rest)
 	free(given.rows);
 	free(given.text);
 	memset(&given, 0, sizeof(given));
-	if (prepares && ebpf_open(file.at, file.len, &held, ABOUT) != EBPF_DONE)
-		held = NULL;
+	if (prepares)
+		open_strictly(file.at, file.len, &held);
 	if (!prepares && rest)
 		read_map_fds(rest);
 	else if (prepares && held)
-		given.count = number_maps(held, &given.rows, &given.text, &given.text_len);
+		given.count = number_maps(held, &given.rows, &given.text);
 	else if (!prepares && object)
-		given.count = number_maps(object, &given.rows, &given.text, &given.text_len);
-	if (!given.rows) {
-		given.rows = zeros(0, sizeof(*given.rows));
-		given.text = zeros(0, 1);
-	}
+		given.count = number_maps(object, &given.rows, &given.text);
 	ebpf_close(held);
 }
 
@@ -108,44 +98,54 @@ static uint32_t set_value(char *rest)
 	uint8_t value[64] = { 0 };
 	size_t len = read_digits(rest, value, sizeof(value));
 
-	return ebpf_set_value(object, name, strlen(name), value, len, !strcmp(must, "must"), ABOUT);
+	return ebpf_set_value(object, name, strlen(name), value, len, !strcmp(must, "must"));
 }
 
 /* The values NAME:must|may:DIGITS,.. as rows. Nothing is allocated here, where growths may be refused. */
 static uint32_t set_values(char *rest)
 {
 	static struct ebpf_value_row rows[64];
-	static char text[4096];
 	static uint8_t bytes[4096];
-	size_t count = 0, text_len = 0, bytes_len = 0;
+	size_t count = 0, bytes_len = 0;
 
-	if (rest && strlen(rest) > sizeof(text))
+	if (rest && strlen(rest) > sizeof(bytes))
 		errx(3, "values are too long");
 	while (rest && count < sizeof(rows) / sizeof(*rows)) {
 		char *row = cut(&rest, ','), *name = cut(&row, ':'), *must = cut(&row, ':');
 		size_t len = read_digits(row, bytes + bytes_len, sizeof(bytes) - bytes_len);
 
-		rows[count++] = (struct ebpf_value_row){ text_len, strlen(name), bytes_len, len, !strcmp(must, "must") };
-		memcpy(text + text_len, name, strlen(name));
-		text_len += strlen(name);
+		rows[count++] = (struct ebpf_value_row){ name, strlen(name), bytes + bytes_len, len, !strcmp(must, "must") };
 		bytes_len += len;
 	}
-	return ebpf_set_values(object, rows, count, text, text_len, bytes, bytes_len, ABOUT);
+	return ebpf_set_values(object, rows, count);
 }
 
-/* What the last call gave out that gives out a handle. */
-static struct ebpf_handle *made;
+/* What the last call gave out that gives out a handle, and it where the file was refused. */
+static struct ebpf_handle *made, *not_opened;
 
-/* Puts that in the place of the object, where it is a handle. */
+/* Puts what was given out in the place of the object, where it holds one. */
 static uint32_t put(uint32_t number)
 {
-	if ((number == EBPF_DONE) != (made != NULL))
-		errx(3, "%u is returned, and %s is given out", number, made ? "a handle" : "none");
-	if (made) {
+	if (number == EBPF_DONE && !made)
+		errx(3, "0 is returned, and no handle is given out");
+	if (number != EBPF_DONE) {
+		not_opened = made;
+	} else {
 		ebpf_close(object);
 		object = made;
 	}
 	return number;
+}
+
+/* Opens the file. WITHIN: =BYTES, strictly; =BYTES:broad */
+static uint32_t open_with(enum ebpf_parsing parsing, const char *within)
+{
+	struct ebpf_open_options options = ebpf_open_defaults();
+
+	options.parsing = within && strchr(within, ':') ? EBPF_LENIENT : parsing;
+	if (within)
+		options.max_bytes = strtoull(within, NULL, 10);
+	return put(ebpf_open(file.at, file.len, &options, &made));
 }
 
 static uint32_t copy(void)
@@ -157,6 +157,8 @@ static uint32_t copy(void)
 static uint32_t change(const char *name, char *rest, int counted)
 {
 	struct made_on on = made_on();
+	struct ebpf_prepare_inputs inputs = { sizeof(inputs), types.at,	  types.len,  given.rows,
+					      given.count,    symbols.at, symbols.len };
 	int64_t number = loader_call(&on, name, rest);
 	char *map;
 
@@ -171,30 +173,27 @@ static uint32_t change(const char *name, char *rest, int counted)
 	if (!strcmp(name, "types") && !counted)
 		return relocate_as_told(&on);
 	if (!strcmp(name, "open"))
-		return put(ebpf_open(file.at, file.len, &made, ABOUT));
+		return open_with(EBPF_STRICT, NULL);
 	if (!strcmp(name, "open_broad"))
-		return put(ebpf_open_broad(file.at, file.len, &made, ABOUT));
-	if (!strcmp(name, "open_within")) /* =BYTES, read as stated; =BYTES:broad */
-		return put(ebpf_open_within(file.at, file.len, strchr(rest, ':') != NULL, strtoull(rest, NULL, 10), &made,
-					ABOUT));
+		return put(ebpf_open(file.at, file.len, NULL, &made));
+	if (!strcmp(name, "open_within"))
+		return open_with(EBPF_STRICT, rest);
 	if (!strcmp(name, "prepare"))
-		return put(ebpf_prepare(file.at, file.len, types.at, types.len, given.rows, given.count, given.text,
-				    given.text_len, symbols.at, symbols.len, &made, ABOUT));
+		return put(ebpf_prepare(file.at, file.len, &inputs, &made));
 	if (!strcmp(name, "prepare_handle"))
-		return ebpf_prepare_handle(object, types.at, types.len, given.rows, given.count, given.text,
-					   given.text_len, symbols.at, symbols.len, ABOUT);
+		return ebpf_prepare_handle(object, &inputs);
 	if (!strcmp(name, "clone"))
 		return copy();
 	if (!strcmp(name, "types"))
-		return ebpf_relocate_types(object, types.at, types.len, ABOUT);
+		return ebpf_relocate_types(object, types.at, types.len);
 	if (!strcmp(name, "maps"))
-		return ebpf_relocate_maps(object, given.rows, given.count, given.text, given.text_len, ABOUT);
+		return ebpf_relocate_maps(object, given.rows, given.count);
 	if (!strcmp(name, "resolve"))
-		return ebpf_resolve_externs(object, types.at, types.len, symbols.at, symbols.len, ABOUT);
+		return ebpf_resolve_externs(object, types.at, types.len, symbols.at, symbols.len);
 	if (!strcmp(name, "externs"))
-		return ebpf_relocate_externs(object, ABOUT);
+		return ebpf_relocate_externs(object);
 	if (!strcmp(name, "calls"))
-		return ebpf_relocate_calls(object, ABOUT);
+		return ebpf_relocate_calls(object);
 	if (!strcmp(name, "value"))
 		return set_value(rest);
 	if (!strcmp(name, "values"))
@@ -229,7 +228,7 @@ static uint32_t ask(char *rest)
 	if (of_loader < 0)
 		of_loader = ask_found_call(&on, call, name, &room);
 	if (of_loader < 0)
-		of_loader = ask_record_call(&on, call, &room);
+		of_loader = ask_record_call(&on, call);
 	if (of_loader >= 0) {
 		number = (uint32_t)of_loader;
 		counts = room.counts;
@@ -323,16 +322,20 @@ static void mark(const char *line, int is_marked)
 		err(3, "cannot write");
 }
 
-/* The name and the numbers that a refusal tells; a call that tells of none leaves them as they were. */
+/* The name and the numbers of the last error, where it is that of the number: a call without a handle has none. */
 static void put_told(uint32_t number)
 {
-	if (is_unwritten(&refusal))
-		return;
-	if (number == EBPF_DONE || !is_told(&refusal, number, refusal.name_len) || refusal.name_len > sizeof(about))
-		errx(3, "another refusal than %u is told", number);
-	if (refusal.name_len)
-		printf(" %.*s", (int)refusal.name_len, about);
-	put_details(&refusal);
+	const struct ebpf_error *error = ebpf_last_error(not_opened ? not_opened : object);
+
+	if (number != EBPF_DONE && error->number == number) {
+		if (!is_told(&error->refusal, number, error->name_len) || error->is_cut || strlen(error->name) != error->name_len)
+			errx(3, "another refusal than %u is told", number);
+		if (error->name_len)
+			printf(" %s", error->name);
+		put_details(&error->refusal);
+	}
+	ebpf_close(not_opened);
+	not_opened = NULL;
 }
 
 static void act(char *word, int is_marked)
@@ -348,7 +351,6 @@ static void act(char *word, int is_marked)
 		printf("before:\n");
 		put_all();
 	}
-	refusal = unwritten();
 	mark("== begin\n", is_marked);
 	number = strcmp(name, "ask") ? change(name, rest, is_marked) : ask(rest);
 	mark("== end\n", is_marked);

@@ -3,7 +3,6 @@
 
 /* How many rows a list has at most here. */
 #define FEW 256
-#define MANY 65536
 
 /* ---- one map or program by its name */
 
@@ -45,18 +44,19 @@ static int64_t put_program(const struct made_on *on, const char *name)
 
 static int64_t put_copies(const struct made_on *on, const char *name)
 {
-	static struct ebpf_code_copy rows[FEW];
-	static char text[MANY];
-	struct ebpf_counts counts = { 0, 0 };
-	uint32_t number = ebpf_link_map(on->object, name, strlen(name), rows, FEW, text, sizeof(text), &counts, on->about,
-					on->about_room, on->refusal);
+	struct ebpf_code_copy row;
+	size_t count = 0, at = 0;
+	uint32_t number = ebpf_link_map(on->object, name, strlen(name), &count);
+	const char *function;
 
-	for (size_t at = 0; at < counts.rows; at++) {
-		if (strlen(text + rows[at].name_at) != rows[at].name_len)
+	for (; number == EBPF_DONE && (function = ebpf_code_copy_at(on->object, at, &row)); at++) {
+		if (strlen(function) != row.name_len)
 			errx(3, "a name that does not end where its row says");
-		printf("copy %s at %zu slots %zu section %zu address %llu\n", text + rows[at].name_at, rows[at].base,
-		       rows[at].slots, rows[at].section, (unsigned long long)rows[at].address);
+		printf("copy %s at %zu slots %zu section %zu address %llu\n", function, row.base, row.slots, row.section,
+		       (unsigned long long)row.address);
 	}
+	if (at != count)
+		errx(3, "%zu copies in place of %zu", at, count);
 	return number;
 }
 
@@ -64,8 +64,7 @@ static int64_t put_references(const struct made_on *on, const char *name)
 {
 	static struct ebpf_code_reference rows[FEW];
 	size_t count = 0;
-	uint32_t number = ebpf_link_references(on->object, name, strlen(name), rows, FEW, &count, on->about, on->about_room,
-					       on->refusal);
+	uint32_t number = ebpf_link_references(on->object, name, strlen(name), rows, FEW, &count);
 
 	for (size_t at = 0; at < count; at++)
 		printf("reference %zu to %zu call %u\n", rows[at].slot, rows[at].base, rows[at].is_call);
@@ -83,34 +82,34 @@ struct told {
 	struct ebpf_refusal refusal;
 };
 
+/* Keeps the error of a call on a handle. */
+static void keep_error(struct told *told, const struct ebpf_handle *object)
+{
+	const struct ebpf_error *error = ebpf_last_error(object);
+
+	told->refusal = error->refusal;
+	snprintf(told->about, sizeof(told->about), "%s", error->name);
+}
+
 static struct told told_of(const struct made_on *on, const char *name, size_t len)
 {
-	struct told told = { zeros(0, 1), zeros(0, 1), 0, 0, 0, { 0 }, unwritten() };
-	struct ebpf_counts counts = { 0, 0 };
-	char *text = zeros(0, 1);
+	struct told told = { NULL, zeros(0, 1), 0, 0, 0, { 0 }, { 0 } };
 	uint32_t number;
 
-	told.number = ebpf_link_map(on->object, name, len, told.copies, 0, text, 0, &counts, told.about,
-				    sizeof(told.about), &told.refusal);
-	if (told.number != EBPF_ROOM) {
-		free(text);
+	told.number = ebpf_link_map(on->object, name, len, &told.copies_len);
+	keep_error(&told, on->object);
+	if (told.number != EBPF_DONE)
 		return told;
-	}
-	free(told.copies);
-	free(text);
-	told.copies = zeros(counts.rows, sizeof(*told.copies));
-	text = zeros(counts.text, 1);
-	told.number = ebpf_link_map(on->object, name, len, told.copies, counts.rows, text, counts.text, &counts,
-				    told.about, sizeof(told.about), &told.refusal);
-	told.copies_len = counts.rows;
-	free(text);
-	number = ebpf_link_references(on->object, name, len, told.references, 0, &told.references_len, told.about,
-				      sizeof(told.about), &told.refusal);
+	told.copies = zeros(told.copies_len, sizeof(*told.copies));
+	for (size_t at = 0; at < told.copies_len; at++)
+		if (!ebpf_code_copy_at(on->object, at, &told.copies[at]))
+			errx(3, "a copy is not there");
+	number = ebpf_link_references(on->object, name, len, told.references, 0, &told.references_len);
 	if (number == EBPF_ROOM) {
 		free(told.references);
 		told.references = zeros(told.references_len, sizeof(*told.references));
 		number = ebpf_link_references(on->object, name, len, told.references, told.references_len,
-					      &told.references_len, told.about, sizeof(told.about), &told.refusal);
+					      &told.references_len);
 	}
 	if (number != told.number)
 		errx(3, "ebpf_link_map answers %u, and ebpf_link_references %u", told.number, number);
@@ -149,14 +148,16 @@ static void need_as_told(const struct made_on *on, const struct told *told, cons
 /* The refusal of linking is that of the first program whose link map is refused. */
 static void need_same_refusal(const struct made_on *on, const struct told *told, size_t count, uint32_t number)
 {
+	const struct ebpf_error *error;
 	size_t first = 0;
 
 	while (first < count && told[first].number == EBPF_DONE)
 		first++;
 	if (first == count && number == EBPF_DONE)
 		return;
-	if (first == count || memcmp(on->refusal, &told[first].refusal, sizeof(*on->refusal)) ||
-	    memcmp(on->about, told[first].about, on->refusal->name_len))
+	error = ebpf_last_error(on->object);
+	if (first == count || memcmp(&error->refusal, &told[first].refusal, sizeof(error->refusal)) ||
+	    strcmp(error->name, told[first].about))
 		errx(3, "linking answers %u, and link maps do not", number);
 }
 
@@ -179,8 +180,7 @@ uint32_t link_as_told(const struct made_on *on)
 	told = zeros(counts.rows, sizeof(*told));
 	for (size_t at = 0; at < counts.rows; at++)
 		told[at] = told_of(on, text + rows[at].name_at, rows[at].name_len);
-	*on->refusal = unwritten();
-	number = ebpf_relocate_calls(on->object, on->about, on->about_room, on->refusal);
+	number = ebpf_relocate_calls(on->object);
 	if (on->object && number != EBPF_PASS_MADE)
 		need_same_refusal(on, told, counts.rows, number);
 	for (size_t at = 0; at < counts.rows; at++) {
@@ -221,10 +221,8 @@ int64_t ask_found_call(const struct made_on *on, const char *call, const char *n
 	if (!strcmp(call, "find_program"))
 		return ebpf_find_program(on->object, name, len, (void *)room->rows);
 	if (!strcmp(call, "link_map"))
-		return ebpf_link_map(on->object, name, len, (void *)room->rows, rows, (char *)room->text, room->bytes,
-				     &room->counts, on->about, on->about_room, on->refusal);
+		return ebpf_link_map(on->object, name, len, NULL);
 	if (!strcmp(call, "link_references"))
-		return ebpf_link_references(on->object, name, len, (void *)room->rows, rows, &room->count, on->about,
-					    on->about_room, on->refusal);
+		return ebpf_link_references(on->object, name, len, (void *)room->rows, rows, &room->count);
 	return -1;
 }

@@ -240,7 +240,7 @@ void put_records(struct ebpf_handle *object)
 	each_program(object, put_records_of);
 }
 
-size_t number_maps(struct ebpf_handle *object, struct ebpf_descriptor **rows, char **text, size_t *text_len)
+size_t number_maps(struct ebpf_handle *object, struct ebpf_descriptor **rows, char **text)
 {
 	struct ebpf_map *maps = NULL;
 	struct ebpf_counts sizes = { 0, 0 };
@@ -249,9 +249,8 @@ size_t number_maps(struct ebpf_handle *object, struct ebpf_descriptor **rows, ch
 	LISTED(ebpf_maps, maps, names, sizes);
 	*rows = zeros(sizes.rows, sizeof(**rows));
 	for (size_t at = 0; at < sizes.rows; at++)
-		(*rows)[at] = (struct ebpf_descriptor){ maps[at].name_at, maps[at].name_len, (int32_t)at + 1 };
+		(*rows)[at] = (struct ebpf_descriptor){ names + maps[at].name_at, maps[at].name_len, (int32_t)at + 1 };
 	*text = names;
-	*text_len = sizes.text;
 	free(maps);
 	return sizes.rows;
 }

@@ -14,6 +14,6 @@ void put_slots(struct ebpf_handle *object);
 void put_records(struct ebpf_handle *object);
 
 /* Makes a descriptor for each map: 1, 2, .. in the order of the list. The caller frees both. */
-size_t number_maps(struct ebpf_handle *object, struct ebpf_descriptor **rows, char **text, size_t *text_len);
+size_t number_maps(struct ebpf_handle *object, struct ebpf_descriptor **rows, char **text);
 
 #endif

@@ -4,12 +4,35 @@
 #define FEW 64
 #define MANY 65536
 
+uint32_t number_of(const struct made_on *on, const void *kept)
+{
+	uint32_t number = on->object ? ebpf_last_error(on->object)->number : EBPF_CLOSED;
+
+	if (kept && number)
+		errx(3, "%u is the number of what is kept", number);
+	return number;
+}
+
+/* The types for the kernel, which a handle keeps. Without one the proved call is made, as the layer makes it. */
+static int64_t take_types(const struct made_on *on, const uint8_t **types, size_t *len)
+{
+	static uint8_t room[MANY];
+	static char about[128];
+	static struct ebpf_refusal refusal;
+
+	*types = room;
+	if (!on->object)
+		return exact_ebpf_kernel_types(on->file.at, on->file.len, room, sizeof(room), len, about, sizeof(about),
+					       &refusal);
+	*types = ebpf_kernel_types(on->object, on->file.at, on->file.len, len);
+	return number_of(on, *types);
+}
+
 static int64_t put_types(const struct made_on *on)
 {
-	static uint8_t types[MANY];
+	const uint8_t *types;
 	size_t len = 0;
-	uint32_t number = ebpf_kernel_types(on->file.at, on->file.len, types, sizeof(types), &len, on->about,
-					    on->about_room, on->refusal);
+	int64_t number = take_types(on, &types, &len);
 
 	if (number == EBPF_DONE) {
 		printf("bytes ");
@@ -36,8 +59,7 @@ static int64_t put_settings(const struct made_on *on)
 	static struct ebpf_kconfig_extern rows[FEW];
 	static char text[MANY];
 	struct ebpf_counts counts = { 0, 0 };
-	uint32_t number = ebpf_kconfig(on->object, rows, FEW, text, sizeof(text), &counts, on->about, on->about_room,
-				       on->refusal);
+	uint32_t number = ebpf_kconfig(on->object, rows, FEW, text, sizeof(text), &counts);
 
 	for (size_t at = 0; at < counts.rows; at++)
 		printf("setting %s size %u kind %u signed %u weak %u\n", text + rows[at].name_at, rows[at].size,
@@ -47,37 +69,35 @@ static int64_t put_settings(const struct made_on *on)
 
 static int64_t put_configured(const struct made_on *on, const char *name)
 {
-	static uint8_t value[MANY];
-	uint32_t is_found = 77;
 	size_t len = 78;
-	uint32_t number =
-		ebpf_kconfig_value(on->object, name, strlen(name), (char *)on->config.at, on->config.len, value,
-				   sizeof(value), &len, &is_found, on->about, on->about_room, on->refusal);
+	const uint8_t *value =
+		ebpf_kconfig_value(on->object, name, strlen(name), (char *)on->config.at, on->config.len, &len);
+	uint32_t number = number_of(on, value);
 
-	if (number == EBPF_DONE) {
-		printf("found %u ", is_found);
-		print_hex(value, len);
-		printf("\n");
-	} else if (is_found != 77 || len != 78) {
+	if (!value && len != 78)
 		errx(3, "ebpf_kconfig_value counts and refuses");
+	if (number == EBPF_DONE) {
+		printf("found %d ", value != NULL);
+		print_hex(value, value ? len : 0);
+		printf("\n");
 	}
 	return number;
 }
 
 static int64_t put_number(const struct made_on *on, char *rest)
 {
-	static uint8_t value[MANY];
 	char *end = strchr(rest, ':');
 	size_t len = 78;
-	uint32_t number = ebpf_kconfig_number(on->object, rest, (size_t)(end - rest), strtoull(end + 1, NULL, 0), value,
-					      sizeof(value), &len, on->about, on->about_room, on->refusal);
+	const uint8_t *value =
+		ebpf_kconfig_number(on->object, rest, (size_t)(end - rest), strtoull(end + 1, NULL, 0), &len);
+	uint32_t number = number_of(on, value);
 
-	if (number == EBPF_DONE) {
+	if (!value != (number != EBPF_DONE) || (!value && len != 78))
+		errx(3, "ebpf_kconfig_number counts and refuses");
+	if (value) {
 		printf("value ");
 		print_hex(value, len);
 		printf("\n");
-	} else if (len != 78) {
-		errx(3, "ebpf_kconfig_number counts and refuses");
 	}
 	return number;
 }
@@ -96,9 +116,8 @@ static size_t read_digits(const char *digits, uint8_t *to)
 static int64_t define(const struct made_on *on, char *rest)
 {
 	static struct ebpf_value_row rows[FEW];
-	static char text[MANY];
 	static uint8_t bytes[MANY];
-	size_t count = 0, text_len = 0, bytes_len = 0;
+	size_t count = 0, bytes_len = 0;
 
 	if (rest && strlen(rest) >= MANY / 2)
 		errx(3, "values are too long");
@@ -106,31 +125,26 @@ static int64_t define(const struct made_on *on, char *rest)
 		char *digits = strchr(row, ':') + 1;
 		size_t name_len = (size_t)(digits - row) - 1, len = read_digits(digits, bytes + bytes_len);
 
-		rows[count++] = (struct ebpf_value_row){ text_len, name_len, bytes_len, len, 1 };
-		memcpy(text + text_len, row, name_len);
-		text_len += name_len;
+		rows[count++] = (struct ebpf_value_row){ row, name_len, bytes + bytes_len, len, 1 };
 		bytes_len += len;
 	}
-	return ebpf_define_kconfig(on->object, rows, count, text, text_len, bytes, bytes_len, on->about, on->about_room,
-				   on->refusal);
+	return ebpf_define_kconfig(on->object, rows, count);
 }
 
 static int64_t put_initial_slots(const struct made_on *on)
 {
-	static struct ebpf_initial_slot rows[FEW];
-	static char text[MANY];
-	struct ebpf_counts counts = { 0, 0 };
-	uint32_t number = ebpf_initial_slots(on->file.at, on->file.len, on->object, rows, FEW, text, sizeof(text),
-					     &counts, on->about, on->about_room, on->refusal);
+	struct ebpf_initial_slot row;
+	size_t count = 0, at = 0;
+	uint32_t number = ebpf_initial_slots(on->object, on->file.at, on->file.len, &count);
+	const char *map;
 
-	for (size_t at = 0; at < counts.rows; at++) {
-		const struct ebpf_initial_slot *row = &rows[at];
-
-		if (strlen(text + row->name_at) != row->name_len || strlen(text + row->target_at) != row->target_len)
+	for (; number == EBPF_DONE && (map = ebpf_initial_slot_at(on->object, at, &row)); at++) {
+		if (strlen(map) != row.name_len || strlen(map + row.target_at) != row.target_len)
 			errx(3, "a name that does not end where its row says");
-		printf("slot %s %u %s %s\n", text + row->name_at, row->index, row->is_program ? "program" : "map",
-		       text + row->target_at);
+		printf("slot %s %u %s %s\n", map, row.index, row.is_program ? "program" : "map", map + row.target_at);
 	}
+	if (at != count || (number == EBPF_DONE && ebpf_last_error(on->object)->number != EBPF_NO_ROW))
+		errx(3, "%zu rows in place of %zu", at, count);
 	return number;
 }
 
@@ -201,27 +215,24 @@ int64_t ask_loader_call(const struct made_on *on, const char *call, const char *
 	size_t len = strlen(name), rows = room->bytes / 128;
 	char *text = (char *)room->text;
 	uint32_t is_found = 0, type_id = 0;
+	const uint8_t *value;
+	size_t none;
 
 	if (!strcmp(call, "kernel_types"))
-		return ebpf_kernel_types(on->file.at, on->file.len, room->text, room->bytes, &room->count, on->about,
-					 on->about_room, on->refusal);
+		return take_types(on, &value, &none);
 	if (!strcmp(call, "target"))
 		return ebpf_attach_target(name, len, on->types.at, on->types.len, &is_found, &type_id);
 	if (!strcmp(call, "settings"))
-		return ebpf_kconfig(on->object, (void *)room->rows, rows, text, room->bytes, &room->counts, on->about,
-				    on->about_room, on->refusal);
+		return ebpf_kconfig(on->object, (void *)room->rows, rows, text, room->bytes, &room->counts);
 	if (!strcmp(call, "config"))
-		return ebpf_kconfig_value(on->object, name, len, (char *)on->config.at, on->config.len, room->text,
-					  room->bytes, &room->count, &is_found, on->about, on->about_room, on->refusal);
+		return number_of(on, ebpf_kconfig_value(on->object, name, len, (char *)on->config.at, on->config.len, NULL));
 	if (!strcmp(call, "number"))
-		return ebpf_kconfig_number(on->object, name, len, 1, room->text, room->bytes, &room->count, on->about,
-					   on->about_room, on->refusal);
+		return number_of(on, ebpf_kconfig_number(on->object, name, len, 1, NULL));
 	if (!strcmp(call, "variables"))
 		return ebpf_variables(on->object, (void *)room->rows, rows, text, room->bytes, &room->counts);
 	if (!strcmp(call, "read"))
 		return ebpf_value(on->object, name, len, room->text, room->bytes, &room->count);
 	if (!strcmp(call, "initial"))
-		return ebpf_initial_slots(on->file.at, on->file.len, on->object, (void *)room->rows, rows, text,
-					  room->bytes, &room->counts, on->about, on->about_room, on->refusal);
+		return ebpf_initial_slots(on->object, on->file.at, on->file.len, NULL);
 	return -1;
 }

@@ -4,14 +4,14 @@
 
 #include "shared.h"
 
-/* What the calls are made on, and where they say what a refusal is about. */
+/* What the calls are made on. */
 struct made_on {
 	struct ebpf_handle *object;
 	struct bytes file, types, config;
-	char *about;
-	size_t about_room;
-	struct ebpf_refusal *refusal;
 };
+
+/* The number of the last call, of which something that the handle keeps is `kept`. */
+uint32_t number_of(const struct made_on *on, const void *kept);
 
 /* Makes the call of an action, and prints what it lists; its number. -1 where no call has the name. */
 int64_t loader_call(const struct made_on *on, const char *name, char *rest);

@@ -3,7 +3,7 @@
 #define SHARED_H
 
 #define _GNU_SOURCE
-#include "ebpf.h"
+#include "exact.h"
 #include <err.h>
 #include <stdio.h>
 #include <stdlib.h>
@@ -14,7 +14,7 @@ struct bytes {
 	size_t len;
 };
 
-/* Zeros. No pointer that the library is given is null, so there is always one more. */
+/* Zeros, one more than are asked for: the proved calls take no null pointer. */
 static inline void *zeros(size_t count, size_t size)
 {
 	void *made = calloc(count + 1, size);
@@ -41,6 +41,24 @@ static inline struct bytes read_file(const char *path)
 	} while (read.len == room);
 	fclose(file);
 	return read;
+}
+
+/* What the proved calls take: a public handle begins with it. */
+#define EXACT(handle) ((handle) ? (struct exact_handle *)(handle) : &(struct exact_handle){ NULL })
+
+/* Opens a file by strict parsing; NULL behind a refusal. */
+static inline uint32_t open_strictly(const uint8_t *file, size_t file_len, struct ebpf_handle **handle)
+{
+	struct ebpf_open_options options = ebpf_open_defaults();
+	uint32_t number;
+
+	options.parsing = EBPF_STRICT;
+	number = ebpf_open(file, file_len, &options, handle);
+	if (number != EBPF_DONE) {
+		ebpf_close(*handle);
+		*handle = NULL;
+	}
+	return number;
 }
 
 static inline void print_hex(const void *bytes, size_t len)

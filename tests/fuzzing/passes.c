@@ -40,7 +40,7 @@ struct part {
 	uint8_t *end;
 };
 
-static struct part object_part, types_part, symbols_part, rows_part, text_part, about_part;
+static struct part object_part, types_part, symbols_part, rows_part, text_part;
 
 /* What is wrong with an input first; and whether a call found no memory, behind which nothing is asked of it. */
 static char wrong[200];
@@ -273,21 +273,49 @@ static uint64_t list_all(struct ebpf_handle *object)
 	return mixed;
 }
 
-/* A buffer for what a refusal is about, and what else is told of it. */
-#define ABOUT room(about_part, about_room), about_room, &told
-
-static size_t about_room;
-static struct ebpf_refusal told;
-
-/* An answer of a call that changes the object, in two ranges. What is told of a refusal has its number, and what it is
- * about has to be inside its room. */
-static uint32_t judged(const char *call, uint32_t number, uint32_t first, uint32_t last, uint32_t other, uint32_t end)
+/* What the handle keeps is what the calls with buffers list: the names and the slots of programs, and the data of maps. */
+static void list_kept(struct ebpf_handle *object)
 {
-	if (told.number != number)
-		say("%s answers %u and tells of %u", call, number, told.number);
-	if (told.name_len > about_room)
-		say("%s is about %zu bytes in a room of %zu", call, told.name_len, about_room);
-	told = (struct ebpf_refusal){ 0 };
+	struct ebpf_program program;
+	struct ebpf_map map;
+	const char *name;
+	size_t count = 0, at = 0;
+
+	for (; (name = ebpf_program_at(object, at, &program)) && !lacked; at++) {
+		const struct ebpf_insn *slots = ebpf_program_slots(object, at, &count);
+
+		if (noted(ebpf_last_error(object)->number) != EBPF_DONE && !lacked)
+			say("ebpf_program_slots answers %u", ebpf_last_error(object)->number);
+		if (strlen(name) != program.name_len || (slots && count != program.slots))
+			say("a program is kept with another name or other slots");
+	}
+	if (noted(ebpf_last_error(object)->number) != EBPF_NO_ROW || at != ebpf_program_count(object))
+		say("programs end by %u", ebpf_last_error(object)->number);
+	for (at = 0; (name = ebpf_map_at(object, at, &map)) && !lacked; at++)
+		if (!ebpf_map_contents(object, at, &count) ? noted(ebpf_last_error(object)->number) != EBPF_MEMORY :
+							      count != map.data_len)
+			say("a map is kept with other data");
+	for (at = 0; ebpf_extern_at(object, at, NULL) && !lacked; at++)
+		;
+	for (at = 0; ebpf_section_at(object, at, NULL) && !lacked; at++)
+		;
+	for (at = 0; ebpf_variable_at(object, at, NULL) && !lacked; at++)
+		;
+	for (at = 0; ebpf_kconfig_at(object, at, NULL) && !lacked; at++)
+		;
+	lacked |= ebpf_last_error(object)->number == EBPF_MEMORY;
+}
+
+/* An answer of a call on a handle, in two ranges. The handle has it as its error, with the whole name. */
+static uint32_t judged(const struct ebpf_handle *object, const char *call, uint32_t number, uint32_t first,
+		       uint32_t last, uint32_t other, uint32_t end)
+{
+	const struct ebpf_error *error = ebpf_last_error(object);
+
+	if (error->number != number || error->refusal.number != number)
+		say("%s answers %u and the handle has %u", call, number, error->number);
+	if (error->is_cut || strlen(error->name) != error->name_len || !ebpf_explain(object)[0])
+		say("%s is about a name of %zu bytes that is cut", call, error->name_len);
 	return in_ranges(call, number, first, last, other, end);
 }
 
@@ -305,8 +333,8 @@ static uint32_t write_map_fds(struct ebpf_handle *object)
 	if (!rows)
 		stop("memory");
 	for (size_t at = 0; at < counts.rows; at++)
-		rows[at] = (struct ebpf_descriptor){ maps[at].name_at, maps[at].name_len, (int32_t)at + 1 };
-	number = ebpf_relocate_maps(object, rows, counts.rows, text, counts.text, ABOUT);
+		rows[at] = (struct ebpf_descriptor){ text + maps[at].name_at, maps[at].name_len, (int32_t)at + 1 };
+	number = ebpf_relocate_maps(object, rows, counts.rows);
 	free(rows);
 	return number;
 }
@@ -341,8 +369,8 @@ static void settings(struct ebpf_handle **opened)
 	uint32_t number;
 
 	if (how & 1) {
-		number = ebpf_set_value(object, variable, 4, file.at, how >> 16 & 15, how & 8, ABOUT);
-		judged("ebpf_set_value", number, 150, 152, 150, 152);
+		number = ebpf_set_value(object, variable, 4, file.at, how >> 16 & 15, how & 8);
+		judged(object, "ebpf_set_value", number, 150, 152, 150, 152);
 	}
 	if (how & 16)
 		of_map("ebpf_set_max_entries", ebpf_set_max_entries(object, map, strlen(map), how));
@@ -358,10 +386,14 @@ static void settings(struct ebpf_handle **opened)
 static int refused(struct ebpf_handle *object, const char *call, uint32_t number, uint32_t first, uint32_t last)
 {
 	static uint64_t before;
-	uint64_t now = list_all(object);
 	int reads_types = first == 400;
+	uint32_t answer = number;
+	uint64_t now;
 
-	if (judged(call, number, first, last, reads_types ? 200 : first, reads_types ? 219 : last) && now != before)
+	if (first)
+		answer = judged(object, call, number, first, last, reads_types ? 200 : first, reads_types ? 219 : last);
+	now = list_all(object);
+	if (answer && now != before)
 		say("%s refuses and leaves another object", call);
 	before = now;
 	return number != EBPF_DONE;
@@ -374,17 +406,17 @@ static const char *passes(struct ebpf_handle *object)
 
 	refused(object, "", number, 0, 0);
 	if (types.given)
-		number = ebpf_relocate_types(object, types.at, types.len, ABOUT);
-	if (refused(object, "ebpf_relocate_types", number, 200, 299))
+		number = ebpf_relocate_types(object, types.at, types.len);
+	if (types.given && refused(object, "ebpf_relocate_types", number, 200, 299))
 		return number < 220 ? "btf" : "types";
 	if (refused(object, "ebpf_relocate_maps", write_map_fds(object), 300, 399))
 		return "maps";
-	number = ebpf_resolve_externs(object, types.at, types.len, symbols.at, symbols.len, ABOUT);
+	number = ebpf_resolve_externs(object, types.at, types.len, symbols.at, symbols.len);
 	if (refused(object, "ebpf_resolve_externs", number, 400, 499))
 		return number < 220 ? "btf" : "ksyms";
-	if (refused(object, "ebpf_relocate_externs", ebpf_relocate_externs(object, ABOUT), 500, 599))
+	if (refused(object, "ebpf_relocate_externs", ebpf_relocate_externs(object), 500, 599))
 		return "externs";
-	if (refused(object, "ebpf_relocate_calls", ebpf_relocate_calls(object, ABOUT), 600, 699))
+	if (refused(object, "ebpf_relocate_calls", ebpf_relocate_calls(object), 600, 699))
 		return "calls";
 	return "done";
 }
@@ -394,17 +426,18 @@ static const char *passes(struct ebpf_handle *object)
 static const char *broadly(uint64_t *first)
 {
 	struct ebpf_handle *object = NULL;
-	uint32_t number = ebpf_open_broad(file.at, file.len, &object, ABOUT);
-	const char *stage;
+	uint32_t number = ebpf_open(file.at, file.len, NULL, &object);
+	const char *stage = "parse";
 
-	if (judged("ebpf_open_broad", number, 100, 199, 100, 199)) {
-		if (object)
-			say("a handle is open behind a refusal");
-		return "parse";
+	if (!judged(object, "ebpf_open", number, 100, 199, 100, 199)) {
+		*first = list_all(object);
+		list_kept(object);
+		settings(&object);
+		stage = passes(object);
+		list_kept(object);
+	} else if (object && ebpf_info(object, NULL) != EBPF_CLOSED) {
+		say("a handle is open behind a refusal");
 	}
-	*first = list_all(object);
-	settings(&object);
-	stage = passes(object);
 	ebpf_close(object);
 	return stage;
 }
@@ -420,10 +453,16 @@ static int modes_agree(void)
 /* Reads the object as stated: of what it takes, lenient parsing gives the same. */
 static void as_stated(const char *stage, uint64_t first)
 {
+	struct ebpf_open_options options = ebpf_open_defaults();
+	struct ebpf_prepare_inputs inputs = {
+		sizeof(inputs), types.at, types.len, NULL, 0, symbols.at, symbols.len
+	};
 	struct ebpf_handle *object = NULL;
-	uint32_t number = ebpf_open(file.at, file.len, &object, ABOUT);
+	uint32_t number;
 
-	if (!judged("ebpf_open", number, 100, 199, 100, 199) && modes_agree()) {
+	options.parsing = EBPF_STRICT;
+	number = ebpf_open(file.at, file.len, &options, &object);
+	if (!judged(object, "ebpf_open", number, 100, 199, 100, 199) && modes_agree()) {
 		if (!strcmp(stage, "parse"))
 			say("lenient parsing refuses what the stated one takes");
 		else if (list_all(object) != first)
@@ -431,11 +470,10 @@ static void as_stated(const char *stage, uint64_t first)
 	}
 	ebpf_close(object);
 	object = NULL;
-	if (how & 64)
-		judged("ebpf_prepare",
-		       ebpf_prepare(file.at, file.len, types.at, types.len, room(rows_part, 0), 0, room(text_part, 0), 0,
-				    symbols.at, symbols.len, &object, ABOUT),
-		       100, 299, 300, 699);
+	if (how & 64) {
+		number = ebpf_prepare(file.at, file.len, &inputs, &object);
+		judged(object, "ebpf_prepare", number, 100, 299, 300, 699);
+	}
 	ebpf_close(object);
 }
 
@@ -457,7 +495,7 @@ int main(void)
 	uint32_t head[4];
 
 	object_part = made(), types_part = made(), symbols_part = made();
-	rows_part = made(), text_part = made(), about_part = made();
+	rows_part = made(), text_part = made();
 	while (fread(head, sizeof(head), 1, stdin) == 1) {
 		const char *stage;
 		uint64_t first = 0;
@@ -467,7 +505,6 @@ int main(void)
 		types = given(types_part, head[1]);
 		symbols = given(symbols_part, head[2]);
 		how = head[3];
-		about_room = how >> 8 & 63;
 		wrong[0] = lacked = 0;
 		before = taken();
 		alarm(SECONDS);
