@@ -23,13 +23,16 @@ TYPES = {
     "void": "c_void",
 }
 
+# Structs that begin with their size: src/lib.rs has their defaults.
+WITH_SIZE = {"ebpf_open_options", "ebpf_prepare_inputs"}
+
 ITEM = re.compile(
     r"""(?:^/\*(?P<doc>(?:(?!\*/).)*)\*/\n)?
     (?:^enum\ (?P<enum>\w+)\ \{\n(?P<numbers>.*?)^\};
     |^struct\ (?P<struct>\w+)\ \{\n(?P<fields>.*?)^\};
     |^struct\ (?P<hidden>\w+);
     |^\#define\ (?P<constant>EBPF_\w+)\ (?P<value>\d+|0x[0-9a-f]+u)$
-    |^(?:EBPF_CHECKED\ )?(?P<result>uint32_t|void|const\ char\ \*)\ ?(?P<call>ebpf_\w+)\((?P<given>[^()]*)\)[^;]*;)""",
+    |^(?:EBPF_CHECKED\ )?(?P<result>(?:const\ )?(?:struct\ )?\w+\ \*?)(?P<call>ebpf_\w+)\((?P<given>[^()]*)\)[^;{}]*;)""",
     re.DOTALL | re.MULTILINE | re.VERBOSE,
 )
 
@@ -110,7 +113,7 @@ def numbers_of(items):
 
 def fields_of(body):
     """The fields of a struct: the name, the type in C and the comment of each."""
-    for declaration, comment in re.findall(r"([\w ]+(?:, \w+)*);(?:[ \t]*/\*(.*?)\*/)?", body, re.DOTALL):
+    for declaration, comment in re.findall(r"([\w *]+(?:, \w+)*);(?:[ \t]*/\*(.*?)\*/)?", body, re.DOTALL):
         for name, kind in declared(declaration.strip()):
             yield name, kind, comment
 
@@ -119,7 +122,9 @@ def struct(item):
     """A struct that the caller lays out."""
     fields = list(fields_of(item["fields"]))
     text = documented(item["doc"], f"`struct {item['struct']}` of the header.")
-    text += f"#[repr(C)]\n#[derive(Clone, Copy, Debug, Default, PartialEq, Eq)]\npub struct {item['struct']} {{\n"
+    # what has a pointer has no default, but for what the crate says
+    default = "" if any("*" in kind for _, kind, _ in fields) or item["struct"] in WITH_SIZE else "Default, "
+    text += f"#[repr(C)]\n#[derive(Clone, Copy, Debug, {default}PartialEq, Eq)]\npub struct {item['struct']} {{\n"
     for name, kind, comment in fields:
         if not comment:
             comment = next((other for _, _, other in fields if other and name.endswith("_at")), "")
@@ -146,7 +151,7 @@ def calls_of(items):
     for item in filter(lambda it: it["call"], items):
         words = [word.strip() for word in item["given"].split(",") if word.strip() != "void"]
         given = [declared(word)[0] for word in words]
-        result = "" if item["result"] == "void" else f" -> {rust_type(item['result'])}"
+        result = "" if item["result"].strip() == "void" else f" -> {rust_type(item['result'].strip())}"
         text = documented(item["doc"], f"`{item['call']}` of the header.", "    ")
         texts.append(f"{text}    pub fn {item['call']}({', '.join(f'{name}: {rust_type(kind)}' for name, kind in given)}){result};\n")
     yield 'extern "C" {\n' + "\n".join(texts) + "}\n"
@@ -163,7 +168,7 @@ def layouts_of(items):
 
 
 USES = {
-    "src/structs.rs": "use std::marker::PhantomData;\n",
+    "src/structs.rs": "use std::ffi::c_char;\nuse std::marker::PhantomData;\n",
     "src/calls.rs": "use crate::structs::*;\nuse std::ffi::c_char;\n",
     "tests/layout/table.rs": "use super::Layout;\nuse ebpf_sys::*;\nuse std::mem::{offset_of, size_of};\n",
 }

@@ -1,18 +1,8 @@
-//! Calls with room for what they write: names, rows, bytes, and why they refuse.
+//! Calls with room for what they write: rows, texts and bytes.
+use crate::contents::Contents;
 use crate::error::Error;
 use ebpf_sys as sys;
-use std::ffi::c_char;
-use std::ptr;
-
-/// The room for the name that a refusal is about; a longer one is asked for again.
-const NAME: usize = 256;
-
-/// Where a call reports why it refuses.
-pub(crate) struct Report {
-    pub about: *mut c_char,
-    pub room: usize,
-    pub refusal: *mut sys::ebpf_refusal,
-}
+use std::ffi::{c_char, CStr};
 
 /// Where a call lists rows.
 pub(crate) struct Room<R> {
@@ -30,86 +20,62 @@ pub(crate) struct Space<T> {
     pub count: *mut usize,
 }
 
-/// Makes a call that can report a refusal. Returns 0 or `EBPF_ROOM`. A refused call changes nothing, so it is made again
-/// where its name may be cut.
-fn reported(mut call: impl FnMut(Report) -> u32) -> Result<u32, Error> {
-    let mut about = vec![0u8; NAME];
-    loop {
-        let mut refusal = sys::ebpf_refusal::default();
-        let number = call(Report { about: about.as_mut_ptr().cast(), room: about.len(), refusal: &mut refusal });
-        if matches!(number, sys::EBPF_DONE | sys::EBPF_ROOM) {
-            return Ok(number);
-        }
-        if refusal.name_len < about.len() {
-            about.truncate(refusal.name_len);
-            return Err(Error::reported(number, &about, &refusal));
-        }
-        about.resize(2 * about.len(), 0);
-    }
-}
-
-/// Makes a call that can report a refusal and writes no list.
-pub(crate) fn told(call: impl FnMut(Report) -> u32) -> Result<(), Error> {
-    match reported(call)? {
-        sys::EBPF_DONE => Ok(()),
-        number => Err(Error::of(number, "")),
-    }
-}
-
-/// The outcome of a call that was given a name, and reports a number alone.
-pub(crate) fn plain(number: u32, name: &str) -> Result<(), Error> {
-    match number {
-        sys::EBPF_DONE => Ok(()),
-        number => Err(Error::of(number, name)),
-    }
-}
-
-/// The values that a call writes, which is asked again until there is room.
-pub(crate) fn filled_telling<T: Copy + Default>(
-    mut call: impl FnMut(&Space<T>, Report) -> u32,
-) -> Result<Vec<T>, Error> {
-    let mut values = Vec::new();
-    loop {
-        let mut count = 0;
-        let space = Space { at: values.as_mut_ptr(), room: values.len(), count: &mut count };
-        let number = reported(|report| call(&space, report))?;
-        values.resize(count, T::default());
-        if number == sys::EBPF_DONE {
-            return Ok(values);
-        }
-    }
-}
-
-/// The same of a call that reports a number alone; `name` is what it was given.
-pub(crate) fn filled<T: Copy + Default>(name: &str, mut call: impl FnMut(&Space<T>) -> u32) -> Result<Vec<T>, Error> {
-    let mut values = Vec::new();
-    loop {
-        let mut count = 0;
-        let number = call(&Space { at: values.as_mut_ptr(), room: values.len(), count: &mut count });
-        if number != sys::EBPF_ROOM {
-            plain(number, name)?;
-        }
-        values.resize(count, T::default());
-        if number == sys::EBPF_DONE {
-            return Ok(values);
-        }
-    }
-}
-
 /// Rows, and the text that they point into.
 pub(crate) struct List<R> {
     rows: Vec<R>,
     text: Vec<u8>,
 }
 
-impl<R: Copy + Default> List<R> {
+/// Gives the row of an index, and returns its name, which the handle keeps.
+pub(crate) type At<R> = unsafe extern "C" fn(*const sys::ebpf_handle, usize, *mut R) -> *const c_char;
+
+impl Contents {
+    /// The outcome of a call that was given this handle and a name.
+    pub(crate) fn outcome(&self, number: u32, name: &str) -> Result<(), Error> {
+        match number {
+            sys::EBPF_DONE => Ok(()),
+            number => Err(self.last_error(number, name)),
+        }
+    }
+
+    /// The error of the last call; `name` is what that was given.
+    pub(crate) fn last_error(&self, number: u32, name: &str) -> Error {
+        // SAFETY: the handle is open, and what it keeps of the error stays until the next call.
+        let error = unsafe { &*sys::ebpf_last_error(self.as_raw()) };
+        // SAFETY: as above; a zero byte is behind the name.
+        let about = unsafe { CStr::from_ptr(error.name) }.to_string_lossy();
+        Error::of(number, if about.is_empty() { name } else { &about }, &error.refusal)
+    }
+
+    /// The values that a call writes, which is asked again until there is room.
+    pub(crate) fn filled<T: Copy + Default>(
+        &self,
+        name: &str,
+        mut call: impl FnMut(&Space<T>) -> u32,
+    ) -> Result<Vec<T>, Error> {
+        let mut values = Vec::new();
+        loop {
+            let mut count = 0;
+            let number = call(&Space { at: values.as_mut_ptr(), room: values.len(), count: &mut count });
+            if number != sys::EBPF_ROOM {
+                self.outcome(number, name)?;
+            }
+            values.resize(count, T::default());
+            if number == sys::EBPF_DONE {
+                return Ok(values);
+            }
+        }
+    }
+
     /// The rows that a call lists, which is asked again until there is room.
-    pub fn telling(mut call: impl FnMut(&Room<R>, Report) -> u32) -> Result<List<R>, Error> {
+    pub(crate) fn listed<R: Copy + Default>(&self, mut call: impl FnMut(&Room<R>) -> u32) -> Result<List<R>, Error> {
         let mut list = List { rows: Vec::new(), text: Vec::new() };
         loop {
             let mut counts = sys::ebpf_counts::default();
-            let room = list.room(&mut counts);
-            let number = reported(|report| call(&room, report))?;
+            let number = call(&list.room(&mut counts));
+            if number != sys::EBPF_ROOM {
+                self.outcome(number, "")?;
+            }
             list.rows.resize(counts.rows, R::default());
             list.text.resize(counts.text, 0);
             if number == sys::EBPF_DONE {
@@ -118,16 +84,41 @@ impl<R: Copy + Default> List<R> {
         }
     }
 
-    /// The same of a call that reports a number alone.
-    pub fn of(mut call: impl FnMut(&Room<R>) -> u32) -> Result<List<R>, Error> {
-        List::telling(|room, report| {
-            let number = call(room);
-            // SAFETY: the report is this call's own, and no other reference to it is there.
-            unsafe { ptr::write(report.refusal, sys::ebpf_refusal { number, ..Default::default() }) };
-            number
-        })
+    /// The bytes that a call returned, which the handle keeps; none where it returned null and refused nothing.
+    pub(crate) fn kept(&self, name: &str, at: *const u8, len: usize) -> Result<Option<Vec<u8>>, Error> {
+        if at.is_null() {
+            // SAFETY: the handle is open, and what it keeps of the error stays until the next call.
+            let number = unsafe { (*sys::ebpf_last_error(self.as_raw())).number };
+            return self.outcome(number, name).map(|()| None);
+        }
+        // SAFETY: the handle keeps so many bytes there until a call that changes the object.
+        Ok(Some(unsafe { std::slice::from_raw_parts(at, len) }.to_vec()))
     }
 
+    /// A value of each of so many rows, which the handle keeps; `value` is given the row, its name, and where this is.
+    pub(crate) fn rows<R: Default, V>(
+        &self,
+        count: usize,
+        at: At<R>,
+        value: impl Fn(&R, String, *const c_char) -> V,
+    ) -> Result<Vec<V>, Error> {
+        let mut values = Vec::new();
+        for index in 0..count {
+            let mut row = R::default();
+            // SAFETY: the handle is open, and the row is ours.
+            let name = unsafe { at(self.as_raw(), index, &mut row) };
+            if name.is_null() {
+                return Err(self.last_error(sys::EBPF_NO_ROW, ""));
+            }
+            // SAFETY: the name ends in a zero byte, and the handle keeps it until a call that changes the object.
+            let text = unsafe { CStr::from_ptr(name) }.to_string_lossy().into_owned();
+            values.push(value(&row, text, name));
+        }
+        Ok(values)
+    }
+}
+
+impl<R> List<R> {
     fn room(&mut self, counts: &mut sys::ebpf_counts) -> Room<R> {
         Room {
             rows: self.rows.as_mut_ptr(),

@@ -1,5 +1,4 @@
 //! The code of programs, laid out as the kernel's own structs.
-use crate::call::filled;
 use crate::contents::Contents;
 use crate::error::Error;
 use ebpf_sys as sys;
@@ -17,7 +16,7 @@ impl Contents {
     /// - [`Error::NoProgram`]: no program has the name.
     pub fn slots(&self, program: &str) -> Result<Vec<Insn>, Error> {
         // SAFETY: the handle is open, the name is borrowed for the call, and the buffer is ours.
-        filled(program, |it| unsafe {
+        self.filled(program, |it| unsafe {
             sys::ebpf_slots(self.as_raw(), program.as_ptr().cast(), program.len(), it.at, it.room, it.count)
         })
     }
@@ -29,7 +28,7 @@ impl Contents {
     /// - [`Error::NoProgram`]: no program has the name.
     pub fn func_infos(&self, program: &str) -> Result<Vec<FuncInfo>, Error> {
         // SAFETY: the handle is open, the name is borrowed for the call, and the buffer is ours.
-        filled(program, |it| unsafe {
+        self.filled(program, |it| unsafe {
             sys::ebpf_func_infos(self.as_raw(), program.as_ptr().cast(), program.len(), it.at, it.room, it.count)
         })
     }
@@ -41,7 +40,7 @@ impl Contents {
     /// - [`Error::NoProgram`]: no program has the name.
     pub fn line_infos(&self, program: &str) -> Result<Vec<LineInfo>, Error> {
         // SAFETY: the handle is open, the name is borrowed for the call, and the buffer is ours.
-        filled(program, |it| unsafe {
+        self.filled(program, |it| unsafe {
             sys::ebpf_line_infos(self.as_raw(), program.as_ptr().cast(), program.len(), it.at, it.room, it.count)
         })
     }
@@ -53,7 +52,7 @@ impl Contents {
     /// - [`Error::NoProgram`]: no program has the name.
     pub fn program_section(&self, program: &str) -> Result<Option<String>, Error> {
         // SAFETY: the handle is open, the name is borrowed for the call, and the buffer is ours.
-        let text = filled::<u8>(program, |it| unsafe {
+        let text = self.filled::<u8>(program, |it| unsafe {
             let (name, text) = (program.as_ptr().cast(), it.at.cast());
             sys::ebpf_program_section(self.as_raw(), name, program.len(), text, it.room, it.count)
         })?;

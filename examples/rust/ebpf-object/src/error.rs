@@ -171,8 +171,8 @@ impl Refusal {
 }
 
 impl Error {
-    /// The error of a call that was given a name, and reports a number alone.
-    pub(crate) fn of(number: u32, name: &str) -> Error {
+    /// The error of a number, with the name that is concerned or was given, and the details.
+    pub(crate) fn of(number: u32, name: &str, refusal: &sys::ebpf_refusal) -> Error {
         match number {
             sys::EBPF_MEMORY => Error::OutOfMemory,
             sys::EBPF_NO_PROGRAM => Error::NoProgram(name.into()),
@@ -182,27 +182,9 @@ impl Error {
             sys::EBPF_WRONG_LENGTH => Error::WrongLength(name.into()),
             _ => {
                 let about = (!name.is_empty()).then(|| name.to_owned());
-                Error::by_stage(Refusal::of(number, about, Details::default()))
+                Error::by_stage(Refusal::of(number, about, Details::of(refusal)))
             }
         }
-    }
-
-    /// This error with a name, where it is of a name and lacks it.
-    pub(crate) fn named(self, name: &str) -> Error {
-        match &self {
-            Error::NoProgram(it) | Error::NoExtern(it) if it.is_empty() => Error::of(self.number(), name),
-            _ => self,
-        }
-    }
-
-    /// The error of a call that reports a refusal.
-    pub(crate) fn reported(number: u32, about: &[u8], refusal: &sys::ebpf_refusal) -> Error {
-        let name = String::from_utf8_lossy(about);
-        if number < 100 {
-            return Error::of(number, &name);
-        }
-        let about = (!name.is_empty()).then(|| name.into_owned());
-        Error::by_stage(Refusal::of(number, about, Details::of(refusal)))
     }
 
     fn by_stage(refusal: Refusal) -> Error {

@@ -1,5 +1,4 @@
 //! A kernel, and what is asked of types alone.
-use crate::call::{filled_telling, plain};
 use crate::error::Error;
 use ebpf_sys as sys;
 use std::borrow::Cow;
@@ -71,35 +70,10 @@ pub fn library_version() -> u32 {
 
 /// Refuses a library whose structs and numbers may be others.
 pub(crate) fn checked_version() -> Result<(), Error> {
-    match library_version() {
-        found if found / 1_000 == sys::EBPF_VERSION_NUMBER / 1_000 => Ok(()),
-        found => Err(Error::OtherVersion(found)),
+    match sys::ebpf_check_version() {
+        sys::EBPF_DONE => Ok(()),
+        _ => Err(Error::OtherVersion(library_version())),
     }
-}
-
-/// The types of a file as `BPF_BTF_LOAD` takes them; empty where it has no section .BTF.
-///
-/// # Errors
-///
-/// - [`Error::KernelTypes`]: the file can't be read, or its types can't be completed.
-/// - [`Error::OtherVersion`]: the library has another interface than this crate.
-///
-/// # Examples
-///
-/// ```
-/// # fn main() -> Result<(), Box<dyn std::error::Error>> {
-/// let types = ebpf_object::kernel_types(&std::fs::read("tests/data/counter.o")?)?;
-/// assert_eq!(types[..2], [0x9f, 0xeb]);
-/// # Ok(())
-/// # }
-/// ```
-pub fn kernel_types(file: &[u8]) -> Result<Vec<u8>, Error> {
-    checked_version()?;
-    filled_telling(|it, why| {
-        let (about, room, refusal) = (why.about, why.room, why.refusal);
-        // SAFETY: the file is borrowed for the call, and the buffers are ours.
-        unsafe { sys::ebpf_kernel_types(file.as_ptr(), file.len(), it.at, it.room, it.count, about, room, refusal) }
-    })
 }
 
 /// The type that the programs of a section of this name are attached to (`attach_btf_id`). `types` is the kernel's, or for
@@ -115,7 +89,9 @@ pub fn attach_target(section: &str, types: &[u8]) -> Result<AttachTarget, Error>
     let (name, len) = (section.as_ptr().cast(), section.len());
     // SAFETY: the slices are borrowed for the call, and the numbers are ours.
     let number = unsafe { sys::ebpf_attach_target(name, len, types.as_ptr(), types.len(), &mut answer, &mut type_id) };
-    plain(number, section)?;
+    if number != sys::EBPF_DONE {
+        return Err(Error::of(number, section, &sys::ebpf_refusal { number, ..Default::default() }));
+    }
     Ok(match answer {
         sys::EBPF_TARGET_NOT_WANTED => AttachTarget::NotWanted,
         sys::EBPF_TARGET_UNNAMED => AttachTarget::Unnamed,

@@ -51,7 +51,7 @@ pub use code::{FuncInfo, Insn, LineInfo};
 pub use contents::Contents;
 pub use ebpf_sys as sys;
 pub use error::{Details, Error, Failed, Refusal};
-pub use kernel::{attach_target, kernel_types, library_version, AttachTarget, Kernel};
+pub use kernel::{attach_target, library_version, AttachTarget, Kernel};
 pub use kinds::{Absence, KconfigKind, ProgramKind, SectionKind};
 pub use object::{Object, OpenOptions, PrepareFailed, Setting};
 pub use outcomes::{Outcome, OutcomeResult, OutcomeSlot};

@@ -1,5 +1,4 @@
 //! An object before its passes.
-use crate::call::{plain, told};
 use crate::contents::Contents;
 use crate::error::{Error, Failed};
 use crate::kernel::{checked_version, Kernel};
@@ -24,12 +23,12 @@ impl OpenOptions {
     }
 
     /// Lenient parsing, as libbpf's: each code section is a program's, whatever its name, and an array of programs may be
-    /// declared with its programs. `ebpf_open_broad` in `ebpf.h` has all differences.
+    /// declared with its programs. `ebpf_open` in `ebpf.h` has all differences.
     pub fn lenient() -> OpenOptions {
         OpenOptions { is_lenient: true, ..OpenOptions::strict() }
     }
 
-    /// Refuses a file whose object would own more bytes (157), before it is made: for files from strangers.
+    /// Refuses a file whose object would own more bytes (157), before it is made: for files from strangers. 0 is no limit.
     pub fn within(self, most_bytes: u64) -> OpenOptions {
         OpenOptions { most_bytes: Some(most_bytes), ..self }
     }
@@ -55,32 +54,26 @@ impl<'a> Setting<'a> {
     }
 }
 
-/// Names and values one after the other, and a row for each.
-fn value_rows(settings: &[Setting<'_>]) -> (Vec<sys::ebpf_value_row>, String, Vec<u8>) {
-    let (mut rows, mut text, mut bytes) = (Vec::new(), String::new(), Vec::new());
-    for it in settings {
-        rows.push(sys::ebpf_value_row {
-            name_at: text.len(),
-            name_len: it.name.len(),
-            value_at: bytes.len(),
-            value_len: it.value.len(),
-            must_exist: it.must_exist.into(),
-        });
-        text.push_str(it.name);
-        bytes.extend_from_slice(it.value);
-    }
-    (rows, text, bytes)
+/// A row for each value.
+fn value_rows(settings: &[Setting<'_>]) -> Vec<sys::ebpf_value_row> {
+    let row = |it: &Setting<'_>| sys::ebpf_value_row {
+        name: it.name.as_ptr().cast(),
+        name_len: it.name.len(),
+        value: it.value.as_ptr(),
+        value_len: it.value.len(),
+        must_exist: it.must_exist.into(),
+    };
+    settings.iter().map(row).collect()
 }
 
-/// Names one after the other, and a row for each.
-pub(crate) fn descriptor_rows<S: AsRef<str>>(maps: &[(S, i32)]) -> (Vec<sys::ebpf_descriptor>, String) {
-    let (mut rows, mut text) = (Vec::new(), String::new());
-    for (name, descriptor) in maps {
-        let name = name.as_ref();
-        rows.push(sys::ebpf_descriptor { name_at: text.len(), name_len: name.len(), descriptor: *descriptor });
-        text.push_str(name);
-    }
-    (rows, text)
+/// A row for each map.
+pub(crate) fn descriptor_rows<S: AsRef<str>>(maps: &[(S, i32)]) -> Vec<sys::ebpf_descriptor> {
+    let row = |(name, descriptor): &(S, i32)| sys::ebpf_descriptor {
+        name: name.as_ref().as_ptr().cast(),
+        name_len: name.as_ref().len(),
+        descriptor: *descriptor,
+    };
+    maps.iter().map(row).collect()
 }
 
 /// An object that was opened, and of which no pass was made. Its values and sizes may be set.
@@ -126,20 +119,14 @@ impl Object {
     pub fn open(file: &[u8], options: OpenOptions) -> Result<Object, Error> {
         checked_version()?;
         let mut handle = ptr::null_mut();
-        let (at, len, is_lenient) = (file.as_ptr(), file.len(), options.is_lenient.into());
-        told(|why| {
-            let (about, room, refusal) = (why.about, why.room, why.refusal);
-            // SAFETY: the file is borrowed for the call, and the handle's place is written alone.
-            unsafe {
-                match options.most_bytes {
-                    Some(most) => sys::ebpf_open_within(at, len, is_lenient, most, &mut handle, about, room, refusal),
-                    None if options.is_lenient => sys::ebpf_open_broad(at, len, &mut handle, about, room, refusal),
-                    None => sys::ebpf_open(at, len, &mut handle, about, room, refusal),
-                }
-            }
-        })?;
-        // SAFETY: the call gave out this handle just now.
+        let parsing = if options.is_lenient { sys::EBPF_LENIENT } else { sys::EBPF_STRICT };
+        let max_bytes = options.most_bytes.unwrap_or(0);
+        let options = sys::ebpf_open_options { parsing, max_bytes, ..Default::default() };
+        // SAFETY: the file is borrowed for the call, and the handle's place is written alone.
+        let number = unsafe { sys::ebpf_open(file.as_ptr(), file.len(), &options, &mut handle) };
+        // SAFETY: the call gave out this handle just now, also where it refuses.
         let contents = unsafe { Contents::own(handle) }?;
+        contents.outcome(number, "")?;
         Ok(Object { contents })
     }
 
@@ -188,28 +175,20 @@ impl Object {
     /// ```
     pub fn prepare<S: AsRef<str>>(self, kernel: &Kernel<'_>, maps: &[(S, i32)]) -> Result<Prepared, PrepareFailed> {
         let mut contents = self.contents;
-        let (rows, text) = descriptor_rows(maps);
-        let (types, symbols, handle) = (kernel.types(), kernel.symbols(), contents.handle());
-        let outcome = told(|why| {
-            // SAFETY: the handle is open, and the slices are borrowed for the call.
-            unsafe {
-                sys::ebpf_prepare_handle(
-                    handle,
-                    types.as_ptr(),
-                    types.len(),
-                    rows.as_ptr(),
-                    rows.len(),
-                    text.as_ptr().cast(),
-                    text.len(),
-                    symbols.as_ptr(),
-                    symbols.len(),
-                    why.about,
-                    why.room,
-                    why.refusal,
-                )
-            }
-        });
-        match outcome {
+        let rows = descriptor_rows(maps);
+        let (types, symbols) = (kernel.types(), kernel.symbols());
+        let inputs = sys::ebpf_prepare_inputs {
+            types: types.as_ptr(),
+            types_len: types.len(),
+            descriptors: rows.as_ptr(),
+            descriptors_len: rows.len(),
+            symbols: symbols.as_ptr(),
+            symbols_len: symbols.len(),
+            ..Default::default()
+        };
+        // SAFETY: the handle is open, and the slices and the names of rows are borrowed for the call.
+        let number = unsafe { sys::ebpf_prepare_handle(contents.handle(), &inputs) };
+        match contents.outcome(number, "") {
             Ok(()) => Ok(Prepared::of(contents)),
             Err(error) => Err(Failed::new(error, Object { contents })),
         }
@@ -251,23 +230,10 @@ impl Object {
     ///
     /// - [`Error::Parse`]: no variable has the name (151), it has another size (150), or no map has it (152).
     pub fn set_value(&mut self, variable: &str, value: &[u8]) -> Result<(), Error> {
-        let handle = self.contents.handle();
-        told(|why| {
-            // SAFETY: the handle is open, and the slices are borrowed for the call.
-            unsafe {
-                sys::ebpf_set_value(
-                    handle,
-                    variable.as_ptr().cast(),
-                    variable.len(),
-                    value.as_ptr(),
-                    value.len(),
-                    1,
-                    why.about,
-                    why.room,
-                    why.refusal,
-                )
-            }
-        })
+        let (handle, name) = (self.contents.handle(), variable.as_ptr().cast());
+        // SAFETY: the handle is open, and the slices are borrowed for the call.
+        let number = unsafe { sys::ebpf_set_value(handle, name, variable.len(), value.as_ptr(), value.len(), 1) };
+        self.outcome(number, variable)
     }
 
     /// Writes the values of many variables, all or none. Of rows of one name the last counts. One call takes less time
@@ -277,25 +243,10 @@ impl Object {
     ///
     /// As for [`set_value`](Object::set_value): the first fault in byte order of the names.
     pub fn set_values(&mut self, settings: &[Setting<'_>]) -> Result<(), Error> {
-        let handle = self.contents.handle();
-        let (rows, text, bytes) = value_rows(settings);
-        told(|why| {
-            // SAFETY: the handle is open, and the slices are borrowed for the call.
-            unsafe {
-                sys::ebpf_set_values(
-                    handle,
-                    rows.as_ptr(),
-                    rows.len(),
-                    text.as_ptr().cast(),
-                    text.len(),
-                    bytes.as_ptr(),
-                    bytes.len(),
-                    why.about,
-                    why.room,
-                    why.refusal,
-                )
-            }
-        })
+        let rows = value_rows(settings);
+        // SAFETY: the handle is open, and the names and values of rows are borrowed for the call.
+        let number = unsafe { sys::ebpf_set_values(self.contents.handle(), rows.as_ptr(), rows.len()) };
+        self.outcome(number, "")
     }
 
     /// Adds the map `.kconfig`, whose data are the values of the kconfig externs. Of rows of one name the last counts; a
@@ -306,25 +257,10 @@ impl Object {
     /// - [`Error::Kconfig`]: an extern has no value (904) or one of another size (905), or can't be read.
     pub fn define_kconfig(&mut self, values: &[(&str, &[u8])]) -> Result<(), Error> {
         let settings: Vec<Setting<'_>> = values.iter().map(|(name, value)| Setting::optional(name, value)).collect();
-        let handle = self.contents.handle();
-        let (rows, text, bytes) = value_rows(&settings);
-        told(|why| {
-            // SAFETY: the handle is open, and the slices are borrowed for the call.
-            unsafe {
-                sys::ebpf_define_kconfig(
-                    handle,
-                    rows.as_ptr(),
-                    rows.len(),
-                    text.as_ptr().cast(),
-                    text.len(),
-                    bytes.as_ptr(),
-                    bytes.len(),
-                    why.about,
-                    why.room,
-                    why.refusal,
-                )
-            }
-        })
+        let rows = value_rows(&settings);
+        // SAFETY: the handle is open, and the names and values of rows are borrowed for the call.
+        let number = unsafe { sys::ebpf_define_kconfig(self.contents.handle(), rows.as_ptr(), rows.len()) };
+        self.outcome(number, "")
     }
 
     /// Sets all of the initial data of a map, which has as many bytes as before.
@@ -336,7 +272,8 @@ impl Object {
     pub fn set_map_data(&mut self, map: &str, data: &[u8]) -> Result<(), Error> {
         let (handle, name) = (self.contents.handle(), map.as_ptr().cast());
         // SAFETY: the handle is open, and the slices are borrowed for the call.
-        plain(unsafe { sys::ebpf_set_map_data(handle, name, map.len(), data.as_ptr(), data.len()) }, map)
+        let number = unsafe { sys::ebpf_set_map_data(handle, name, map.len(), data.as_ptr(), data.len()) };
+        self.outcome(number, map)
     }
 
     /// Sets how many entries a map holds at most.
@@ -347,7 +284,8 @@ impl Object {
     pub fn set_max_entries(&mut self, map: &str, entries: u32) -> Result<(), Error> {
         let handle = self.contents.handle();
         // SAFETY: the handle is open, and the name is borrowed for the call.
-        plain(unsafe { sys::ebpf_set_max_entries(handle, map.as_ptr().cast(), map.len(), entries) }, map)
+        let number = unsafe { sys::ebpf_set_max_entries(handle, map.as_ptr().cast(), map.len(), entries) };
+        self.outcome(number, map)
     }
 
     /// Sets the size of a map's values, in bytes.
@@ -358,7 +296,8 @@ impl Object {
     pub fn set_value_size(&mut self, map: &str, size: u32) -> Result<(), Error> {
         let handle = self.contents.handle();
         // SAFETY: the handle is open, and the name is borrowed for the call.
-        plain(unsafe { sys::ebpf_set_value_size(handle, map.as_ptr().cast(), map.len(), size) }, map)
+        let number = unsafe { sys::ebpf_set_value_size(handle, map.as_ptr().cast(), map.len(), size) };
+        self.outcome(number, map)
     }
 
     /// Replaces the helper functions 112 to 115 by the older 4 and 45, for a kernel that lacks them.
@@ -369,7 +308,8 @@ impl Object {
     pub fn use_older_helpers(&mut self) -> Result<(), Error> {
         let handle = self.contents.handle();
         // SAFETY: the handle is open.
-        plain(unsafe { sys::ebpf_sanitize(handle, 0) }, "")
+        let number = unsafe { sys::ebpf_sanitize(handle, 0) };
+        self.outcome(number, "")
     }
 }
 

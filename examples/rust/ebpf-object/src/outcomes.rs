@@ -1,5 +1,4 @@
 //! The outcomes of CO-RE relocations.
-use crate::call::List;
 use crate::error::{Details, Error, Refusal};
 use crate::kinds::Absence;
 use crate::object::Object;
@@ -64,22 +63,10 @@ impl Object {
     ///
     /// - [`Error::Types`]: the types can't be read (200 to 219).
     pub fn outcomes(&self, types: &[u8]) -> Result<Vec<Outcome>, Error> {
-        // SAFETY: the handle is open, the types are borrowed for the call, and the buffers are ours.
-        let list = List::telling(|it, why| unsafe {
-            sys::ebpf_record_outcomes(
-                self.as_raw(),
-                types.as_ptr(),
-                types.len(),
-                it.rows,
-                it.rows_room,
-                it.text,
-                it.text_room,
-                it.counts,
-                why.about,
-                why.room,
-                why.refusal,
-            )
-        })?;
-        Ok(list.values(|row: &sys::ebpf_record_outcome, text| outcome(row, text(row.name_at, row.name_len))))
+        let mut count = 0;
+        // SAFETY: the handle is open, the types are borrowed for the call, and the count is ours.
+        let number = unsafe { sys::ebpf_record_outcomes(self.as_raw(), types.as_ptr(), types.len(), &mut count) };
+        self.outcome(number, "")?;
+        self.rows(count, sys::ebpf_record_outcome_at, |row, section, _| outcome(row, section))
     }
 }

@@ -50,7 +50,7 @@ pub struct MapShape {
     pub flags: u32,
     /// Whether it is to be pinned by its name.
     pub is_pinned: bool,
-    /// The id of the key's type in [`kernel_types`](crate::kernel_types); 0: none.
+    /// The id of the key's type in [`Contents::kernel_types`](crate::Contents::kernel_types); 0: none.
     pub key_type_id: u32,
     /// The id of the value's type there; 0: none.
     pub value_type_id: u32,

@@ -1,5 +1,4 @@
 //! The passes one by one.
-use crate::call::told;
 use crate::contents::Contents;
 use crate::error::{Error, Failed};
 use crate::object::{descriptor_rows, Object};
@@ -109,10 +108,10 @@ impl<Last> Steps<Last> {
     /// Makes a pass.
     fn pass<Next>(
         mut self,
-        mut call: impl FnMut(*mut sys::ebpf_handle, crate::call::Report) -> u32,
+        call: impl FnOnce(*mut sys::ebpf_handle) -> u32,
     ) -> Result<Steps<Next>, Failed<Steps<Last>>> {
-        let handle = self.contents.handle();
-        match told(|why| call(handle, why)) {
+        let number = call(self.contents.handle());
+        match self.contents.outcome(number, "") {
             Ok(()) => Ok(Steps::of(self.contents)),
             Err(error) => Err(Failed::new(error, self)),
         }
@@ -155,9 +154,7 @@ impl<Last> Steps<Last> {
     /// - [`Error::Calls`]: a program can't be linked.
     pub fn relocate_calls(self) -> Result<Prepared, Failed<Steps<Last>>> {
         // SAFETY: the handle is open.
-        let linked = self.pass::<Last>(|handle, why| unsafe {
-            sys::ebpf_relocate_calls(handle, why.about, why.room, why.refusal)
-        })?;
+        let linked = self.pass::<Last>(|handle| unsafe { sys::ebpf_relocate_calls(handle) })?;
         Ok(linked.finish())
     }
 
@@ -175,9 +172,7 @@ impl<Last: order::Before<TypesRelocated>> Steps<Last> {
     /// - [`Error::Types`]: the types can't be read, or a relocation can't be applied.
     pub fn relocate_types(self, types: &[u8]) -> Result<Steps<TypesRelocated>, Failed<Steps<Last>>> {
         // SAFETY: the handle is open, and the types are borrowed for the call.
-        self.pass(|handle, why| unsafe {
-            sys::ebpf_relocate_types(handle, types.as_ptr(), types.len(), why.about, why.room, why.refusal)
-        })
+        self.pass(|handle| unsafe { sys::ebpf_relocate_types(handle, types.as_ptr(), types.len()) })
     }
 }
 
@@ -189,13 +184,9 @@ impl<Last: order::Before<MapsRelocated>> Steps<Last> {
     ///
     /// - [`Error::Maps`]: no map of a symbol's section has a row (301), or a descriptor can't be written.
     pub fn relocate_maps<S: AsRef<str>>(self, maps: &[(S, i32)]) -> Result<Steps<MapsRelocated>, Failed<Steps<Last>>> {
-        let (rows, text) = descriptor_rows(maps);
-        self.pass(|handle, why| {
-            let (about, room, refusal) = (why.about, why.room, why.refusal);
-            let (names, len) = (text.as_ptr().cast(), text.len());
-            // SAFETY: the handle is open, and the slices are borrowed for the call.
-            unsafe { sys::ebpf_relocate_maps(handle, rows.as_ptr(), rows.len(), names, len, about, room, refusal) }
-        })
+        let rows = descriptor_rows(maps);
+        // SAFETY: the handle is open, and the names of rows are borrowed for the call.
+        self.pass(|handle| unsafe { sys::ebpf_relocate_maps(handle, rows.as_ptr(), rows.len()) })
     }
 }
 
@@ -207,12 +198,9 @@ impl<Last: order::Before<ExternsResolved>> Steps<Last> {
     /// - [`Error::Types`]: the types can't be read.
     /// - [`Error::Ksyms`]: an extern can't be found, or a line of the symbols can't be read.
     pub fn resolve_externs(self, types: &[u8], symbols: &[u8]) -> Result<Steps<ExternsResolved>, Failed<Steps<Last>>> {
-        self.pass(|handle, why| {
-            let (about, room, refusal) = (why.about, why.room, why.refusal);
-            let (lines, len) = (symbols.as_ptr(), symbols.len());
-            // SAFETY: the handle is open, and the slices are borrowed for the call.
-            unsafe { sys::ebpf_resolve_externs(handle, types.as_ptr(), types.len(), lines, len, about, room, refusal) }
-        })
+        let (lines, len) = (symbols.as_ptr(), symbols.len());
+        // SAFETY: the handle is open, and the slices are borrowed for the call.
+        self.pass(|handle| unsafe { sys::ebpf_resolve_externs(handle, types.as_ptr(), types.len(), lines, len) })
     }
 }
 
@@ -224,6 +212,6 @@ impl<Last: order::Before<ExternsRelocated>> Steps<Last> {
     /// - [`Error::Externs`]: one can't be written.
     pub fn relocate_externs(self) -> Result<Steps<ExternsRelocated>, Failed<Steps<Last>>> {
         // SAFETY: the handle is open.
-        self.pass(|handle, why| unsafe { sys::ebpf_relocate_externs(handle, why.about, why.room, why.refusal) })
+        self.pass(|handle| unsafe { sys::ebpf_relocate_externs(handle) })
     }
 }

@@ -1,5 +1,5 @@
 //! What a loader asks for beside the passes.
-use ebpf_object::{attach_target, kernel_types, AttachTarget, Error, KconfigKind, Object, OpenOptions};
+use ebpf_object::{attach_target, AttachTarget, Error, KconfigKind, Object, OpenOptions};
 use std::path::Path;
 
 fn file(name: &str) -> Vec<u8> {
@@ -31,9 +31,10 @@ fn kconfig_externs_are_defined() {
 
 #[test]
 fn types_are_made_for_the_kernel() {
-    let types = kernel_types(&file("kconfig.o")).expect("types");
+    let object = Object::open(&file("kconfig.o"), OpenOptions::lenient()).expect("an object");
+    let types = object.kernel_types(&file("kconfig.o")).expect("types");
     assert_eq!(types[..2], [0x9f, 0xeb]);
-    assert_eq!(kernel_types(b"no file").expect_err("no file").number(), 700);
+    assert_eq!(object.kernel_types(b"no file").expect_err("no file").number(), 700);
     for (section, answer) in [
         ("xdp", AttachTarget::NotWanted),
         ("fentry", AttachTarget::Unnamed),

@@ -17,7 +17,7 @@ pub const EBPF_ROOM: u32 = 1;
 /// Out of memory.
 pub const EBPF_MEMORY: u32 = 2;
 
-/// The handle is closed: it is NULL.
+/// The handle has no object: it is NULL, or its file was refused.
 pub const EBPF_CLOSED: u32 = 3;
 
 /// No program has the name.
@@ -26,10 +26,10 @@ pub const EBPF_NO_PROGRAM: u32 = 4;
 /// No map has the name.
 pub const EBPF_NO_MAP: u32 = 5;
 
-/// A name that is given is no UTF-8, or a row's name is not inside the text beside it.
+/// A name that is given is no UTF-8.
 pub const EBPF_BAD_NAME: u32 = 6;
 
-/// A row's value is not inside the bytes beside it.
+/// A row's value is not inside the bytes beside it; the lower layer alone.
 pub const EBPF_BAD_VALUE: u32 = 7;
 
 /// No kconfig extern has the name.
@@ -46,6 +46,15 @@ pub const EBPF_PASS_MADE: u32 = 11;
 
 /// A later pass was made of the object; for what sets something, any pass was made.
 pub const EBPF_PASS_ORDER: u32 = 12;
+
+/// A struct of options has a size or a value that this library does not know.
+pub const EBPF_BAD_OPTIONS: u32 = 90;
+
+/// No row has the index, or the list was not taken.
+pub const EBPF_NO_ROW: u32 = 91;
+
+/// The library has another version than the header.
+pub const EBPF_OTHER_VERSION: u32 = 92;
 
 /// The file is too short for its header.
 pub const EBPF_PARSE_TOO_SHORT: u32 = 100;
@@ -740,6 +749,15 @@ pub const EBPF_HAS_COUNT: u32 = 2048;
 /// `EBPF_HAS_KIND` of \[`ebpf_detail`\].
 pub const EBPF_HAS_KIND: u32 = 4096;
 
+/// A number of `enum ebpf_parsing`.
+pub type ebpf_parsing = u32;
+
+/// `EBPF_LENIENT` of \[`ebpf_parsing`\].
+pub const EBPF_LENIENT: u32 = 0;
+
+/// `EBPF_STRICT` of \[`ebpf_parsing`\].
+pub const EBPF_STRICT: u32 = 1;
+
 /// What a program's section name says, in the order of the library's list.
 pub type ebpf_program_kind = u32;
 
@@ -833,7 +851,7 @@ pub const EBPF_KIND_CGROUP_DEVICE: u32 = 28;
 /// `EBPF_KIND_ITER` of \[`ebpf_program_kind`\].
 pub const EBPF_KIND_ITER: u32 = 29;
 
-/// A name that says none of these: lenient parsing (`ebpf_open_broad`) alone.
+/// A name that says none of these: lenient parsing alone.
 pub const EBPF_KIND_OTHER: u32 = 30;
 
 /// Flags of a program.

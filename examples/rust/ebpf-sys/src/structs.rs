@@ -1,9 +1,9 @@
 //! The structs of the header.
 // Made by tools/rust_sys.py of include/ebpf.h.
+use std::ffi::c_char;
 use std::marker::PhantomData;
 
-/// A refusal. If a call returns another number than 0, it writes every field. Fields that `has` does not name are 0.
-/// docs/C.md, 'Refusals', says which numbers have which fields.
+/// A refusal. Fields that `has` does not name are 0. docs/C.md, 'Refusals', says which numbers have which fields.
 #[repr(C)]
 #[derive(Clone, Copy, Debug, Default, PartialEq, Eq)]
 pub struct ebpf_refusal {
@@ -37,16 +37,46 @@ pub struct ebpf_refusal {
     pub count: u64,
     /// A map type (enum bpf_map_type), a kind of CO-RE relocation, or a machine (e_machine).
     pub kind: u64,
-    /// How many bytes of the name are in `about`.
+    /// How many bytes the name has: ebpf_error.name.
     pub name_len: usize,
 }
 
-/// An object that was opened, and the last pass that was made of it.
+/// An object that was opened, the last pass that was made of it, its last error, and its lists.
 #[repr(C)]
 #[derive(Debug)]
 pub struct ebpf_handle {
     _hidden: [u8; 0],
     _stays: PhantomData<*mut u8>,
+}
+
+/// The refusal of a call. The library makes it: later versions have more fields at its end.
+#[repr(C)]
+#[derive(Clone, Copy, Debug, PartialEq, Eq)]
+pub struct ebpf_error {
+    /// What the refusal is about: of a function, a map, a section, for example; "" for none.
+    pub name: *const c_char,
+    /// How many bytes it has; a zero byte is behind them.
+    pub name_len: usize,
+    /// What the call returned; 0 where nothing was refused.
+    pub number: u32,
+    /// 1: there was no memory for all of the name; else 0.
+    pub is_cut: u32,
+    /// The same number, and the details; all 0 where nothing was refused.
+    pub refusal: ebpf_refusal,
+}
+
+/// How a file is opened. A new option is a new field at the end, and 0 stands for what was done before.
+#[repr(C)]
+#[derive(Clone, Copy, Debug, PartialEq, Eq)]
+pub struct ebpf_open_options {
+    /// Of this struct, in bytes, as the caller's header has it.
+    pub size: usize,
+    /// How many bytes the object may own; 0: no limit.
+    pub max_bytes: u64,
+    /// Enum ebpf_parsing.
+    pub parsing: u32,
+    /// 0.
+    pub reserved: u32,
 }
 
 /// `struct ebpf_object_info` of the header.
@@ -185,24 +215,6 @@ pub struct ebpf_section {
     pub number: usize,
 }
 
-/// An initial value of a map of maps or of an array of programs.
-#[repr(C)]
-#[derive(Clone, Copy, Debug, Default, PartialEq, Eq)]
-pub struct ebpf_initial_slot {
-    /// The place of the map's name in the text.
-    pub name_at: usize,
-    /// The place of the map's name in the text.
-    pub name_len: usize,
-    /// The place of the name of what stands there.
-    pub target_at: usize,
-    /// The place of the name of what stands there.
-    pub target_len: usize,
-    /// In the map, and its key, in the byte order of the machine.
-    pub index: u32,
-    /// 1: the program of this name stands there; 0: the map.
-    pub is_program: u32,
-}
-
 /// Struct bpf_insn.
 #[repr(C)]
 #[derive(Clone, Copy, Debug, Default, PartialEq, Eq)]
@@ -241,16 +253,16 @@ pub struct ebpf_line_info {
     pub line_col: u32,
 }
 
-/// A variable's name and its value: places in the text and in the bytes that are given beside the rows.
+/// A variable's name and its value. Each may be NULL with the length 0.
 #[repr(C)]
-#[derive(Clone, Copy, Debug, Default, PartialEq, Eq)]
+#[derive(Clone, Copy, Debug, PartialEq, Eq)]
 pub struct ebpf_value_row {
-    /// 0: the row is passed over where no symbol has the name.
-    pub name_at: usize,
+    /// The field `name`.
+    pub name: *const c_char,
     /// The length in bytes of the text that begins at `name_at`.
     pub name_len: usize,
-    /// 0: the row is passed over where no symbol has the name.
-    pub value_at: usize,
+    /// The field `value`.
+    pub value: *const u8,
     /// The length in bytes of the text that begins at `value_at`.
     pub value_len: usize,
     /// 0: the row is passed over where no symbol has the name.
@@ -293,7 +305,25 @@ pub struct ebpf_variable {
     pub size: u64,
 }
 
-/// A map's name, a place in the text that is given beside the rows, and its descriptor.
+/// An initial value of a map of maps or of an array of programs.
+#[repr(C)]
+#[derive(Clone, Copy, Debug, Default, PartialEq, Eq)]
+pub struct ebpf_initial_slot {
+    /// The place of the map's name in the text.
+    pub name_at: usize,
+    /// The place of the map's name in the text.
+    pub name_len: usize,
+    /// The place of the name of what stands there.
+    pub target_at: usize,
+    /// The place of the name of what stands there.
+    pub target_len: usize,
+    /// In the map, and its key, in the byte order of the machine.
+    pub index: u32,
+    /// 1: the program of this name stands there; 0: the map.
+    pub is_program: u32,
+}
+
+/// A map's name and its descriptor.
 ///
 /// - Each map that a slot refers to needs a row, a map of variables too. Else `ebpf_prepare` and `ebpf_prepare_handle`
 ///   return EBPF_MAPS_MISSING_DESCRIPTOR, about the map. `ebpf_relocate_maps` takes the row of another map in its
@@ -302,10 +332,10 @@ pub struct ebpf_variable {
 ///   `ebpf_relocate_maps` passes the row over.
 /// - Of two rows for one name, or for maps of one symbol, the later counts.
 #[repr(C)]
-#[derive(Clone, Copy, Debug, Default, PartialEq, Eq)]
+#[derive(Clone, Copy, Debug, PartialEq, Eq)]
 pub struct ebpf_descriptor {
-    /// The field `name_at`.
-    pub name_at: usize,
+    /// The field `name`.
+    pub name: *const c_char,
     /// The length in bytes of the text that begins at `name_at`.
     pub name_len: usize,
     /// The field `descriptor`.
@@ -368,4 +398,24 @@ pub struct ebpf_code_reference {
     pub base: usize,
     /// 1: it calls the function; 0: it loads its address.
     pub is_call: u32,
+}
+
+/// What the passes are given. Each array may be NULL. A new input is a new field at the end, and 0 is none.
+#[repr(C)]
+#[derive(Clone, Copy, Debug, PartialEq, Eq)]
+pub struct ebpf_prepare_inputs {
+    /// Of this struct, in bytes, as the caller's header has it.
+    pub size: usize,
+    /// As for ebpf_relocate_types.
+    pub types: *const u8,
+    /// 0: functions are not relocated, and externs are looked up in the symbols alone.
+    pub types_len: usize,
+    /// As for ebpf_relocate_maps.
+    pub descriptors: *const ebpf_descriptor,
+    /// The length in bytes of the text that begins at `descriptors_at`.
+    pub descriptors_len: usize,
+    /// As for ebpf_resolve_externs.
+    pub symbols: *const u8,
+    /// The length in bytes of the text that begins at `symbols_at`.
+    pub symbols_len: usize,
 }

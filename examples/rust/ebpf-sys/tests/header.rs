@@ -89,7 +89,7 @@ fn declarations_are_those_of_the_header() {
 fn the_library_has_the_version_of_the_header() {
     // SAFETY: the call is given nothing.
     let version = unsafe { ebpf_sys::ebpf_version_number() };
-    assert_eq!(version, ebpf_sys::EBPF_VERSION_NUMBER);
+    assert_eq!((version, ebpf_sys::ebpf_check_version()), (ebpf_sys::EBPF_VERSION_NUMBER, ebpf_sys::EBPF_DONE));
     let text = format!("{}.{}.{}", version / 1_000_000, version / 1_000 % 1_000, version % 1_000);
     assert_eq!(text, env!("CARGO_PKG_VERSION"));
 }

@@ -14,7 +14,7 @@ mod kconfig;
 mod maps;
 mod programs;
 
-use ebpf_object::{kernel_types, Kernel, Object, OpenOptions};
+use ebpf_object::{Kernel, Object, OpenOptions};
 use maps::Maps;
 use programs::Programs;
 use std::error::Error;
@@ -59,7 +59,7 @@ fn load(options: &Options) -> Result<(Maps, Programs), Fault> {
     asked.map_or(Ok(()), |name| object.program(name).map(drop))?;
     let kernel = Kernel::running().map_err(|error| format!("the kernel's types and symbols: {error}"))?;
     kconfig::define(&mut object, options.config.as_deref())?;
-    let types = bpf::load_types(&kernel_types(&file)?)?;
+    let types = bpf::load_types(&object.kernel_types(&file)?)?;
     let maps = Maps::make(&object, types.as_ref())?;
     let initial = object.initial_slots(&file)?;
     for it in initial.iter().filter(|it| !it.is_program) {

@@ -9,6 +9,8 @@ pub const LAYOUTS: &[Layout] = &[
         ebpf_refusal: number, has, slot, offset, symbol, address, other_address, section, size, other_size,
         type_id, relocation, index, count, kind, name_len
     ),
+    layout!(ebpf_error: name, name_len, number, is_cut, refusal),
+    layout!(ebpf_open_options: size, max_bytes, parsing, reserved),
     layout!(
         ebpf_object_info: is_big_endian, has_kernel_version, kernel_version, has_types, has_relocations,
         has_typed_externs
@@ -25,18 +27,19 @@ pub const LAYOUTS: &[Layout] = &[
         has_address
     ),
     layout!(ebpf_section: name_at, name_len, number),
-    layout!(ebpf_initial_slot: name_at, name_len, target_at, target_len, index, is_program),
     layout!(ebpf_insn: code, regs, off, imm),
     layout!(ebpf_func_info: insn_off, type_id),
     layout!(ebpf_line_info: insn_off, file_name_off, line_off, line_col),
-    layout!(ebpf_value_row: name_at, name_len, value_at, value_len, must_exist),
+    layout!(ebpf_value_row: name, name_len, value, value_len, must_exist),
     layout!(ebpf_kconfig_extern: name_at, name_len, size, kind, is_signed, is_weak),
     layout!(ebpf_variable: name_at, name_len, map_at, map_len, offset, size),
-    layout!(ebpf_descriptor: name_at, name_len, descriptor),
+    layout!(ebpf_initial_slot: name_at, name_len, target_at, target_len, index, is_program),
+    layout!(ebpf_descriptor: name, name_len, descriptor),
     layout!(
         ebpf_record_outcome: name_at, name_len, number, section, address, slot, value, has_slot, result,
         absence, fault
     ),
     layout!(ebpf_code_copy: name_at, name_len, base, slots, section, address),
     layout!(ebpf_code_reference: slot, base, is_call),
+    layout!(ebpf_prepare_inputs: size, types, types_len, descriptors, descriptors_len, symbols, symbols_len),
 ];
