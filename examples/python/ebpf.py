@@ -2,7 +2,7 @@
 
     import ebpf
 
-    with ebpf.open(open("counter.o", "rb").read()) as object:
+    with ebpf.open_path("counter.o") as object:
         print([program.name for program in object.programs()])
         prepared = object.prepare(maps={"counts": 5, ".bss": 6, ".rodata": 7, "tables": 8})
         print(len(prepared.slots("on_packet")))
@@ -37,6 +37,14 @@ class _Refusal(c.Structure):
         )
     ]
     _fields_ += [("name_len", _size)]
+
+
+class _Error(c.Structure):
+    _fields_ = [("name", c.c_void_p), ("name_len", _size), ("number", _u32), ("is_cut", _u32), ("refusal", _Refusal)]
+
+
+class _OpenOptions(c.Structure):
+    _fields_ = [("size", _size), ("max_bytes", _u64), ("parsing", _u32), ("reserved", _u32)]
 
 
 class _Info(c.Structure):
@@ -100,7 +108,7 @@ class LineInfo(c.Structure):
 
 
 class _ValueRow(c.Structure):
-    _fields_ = [("name_at", _size), ("name_len", _size), ("value_at", _size), ("value_len", _size), ("must_exist", _u32)]
+    _fields_ = [("name", _byte_p), ("name_len", _size), ("value", _byte_p), ("value_len", _size), ("must_exist", _u32)]
 
 
 class _KconfigExtern(c.Structure):
@@ -112,7 +120,12 @@ class _Variable(c.Structure):
 
 
 class _Descriptor(c.Structure):
-    _fields_ = [("name_at", _size), ("name_len", _size), ("descriptor", c.c_int32)]
+    _fields_ = [("name", _byte_p), ("name_len", _size), ("descriptor", c.c_int32)]
+
+
+class _PrepareInputs(c.Structure):
+    _fields_ = [("size", _size), ("types", _byte_p), ("types_len", _size), ("descriptors", c.POINTER(_Descriptor))]
+    _fields_ += [("descriptors_len", _size), ("symbols", _byte_p), ("symbols_len", _size)]
 
 
 class _RecordOutcome(c.Structure):
@@ -132,8 +145,7 @@ class _CodeReference(c.Structure):
 # ---- the calls of the header, each with its parameters
 
 _p = c.POINTER
-_handle, _about = c.c_void_p, (c.c_void_p, _size, _p(_Refusal))
-_bytes, _room = (_byte_p, _size), (c.c_void_p, _size)
+_handle, _bytes, _room = c.c_void_p, (_byte_p, _size), (c.c_void_p, _size)
 _named = (_handle, *_bytes)
 
 
@@ -145,9 +157,9 @@ CALLS = {
     "ebpf_version_number": (),
     "ebpf_number_name": (_u32, *_room, _p(_size)),
     "ebpf_strerror": (_u32,),
-    "ebpf_open": (*_bytes, _p(_handle), *_about),
-    "ebpf_open_broad": (*_bytes, _p(_handle), *_about),
-    "ebpf_open_within": (*_bytes, _u32, _u64, _p(_handle), *_about),
+    "ebpf_last_error": (_handle,),
+    "ebpf_explain": (_handle,),
+    "ebpf_open": (*_bytes, _p(_OpenOptions), _p(_handle)),
     "ebpf_clone": (_handle, _p(_handle)),
     "ebpf_close": (_handle,),
     "ebpf_info": (_handle, _p(_Info)),
@@ -161,39 +173,72 @@ CALLS = {
     "ebpf_externs": (_handle, *_list(_Extern)),
     "ebpf_program_section": (*_named, *_room, _p(_size)),
     "ebpf_sections": (_handle, *_list(_Section)),
-    "ebpf_kernel_types": (*_bytes, *_room, _p(_size), *_about),
     "ebpf_attach_target": (*_bytes, *_bytes, _p(_u32), _p(_u32)),
-    "ebpf_initial_slots": (*_bytes, _handle, *_list(_InitialSlot), *_about),
     "ebpf_slots": (*_named, _p(Insn), _size, _p(_size)),
     "ebpf_func_infos": (*_named, _p(FuncInfo), _size, _p(_size)),
     "ebpf_line_infos": (*_named, _p(LineInfo), _size, _p(_size)),
-    "ebpf_set_value": (*_named, *_bytes, _u32, *_about),
-    "ebpf_set_values": (_handle, _p(_ValueRow), _size, *_bytes, *_bytes, *_about),
-    "ebpf_kconfig": (_handle, *_list(_KconfigExtern), *_about),
-    "ebpf_kconfig_value": (*_named, *_bytes, *_room, _p(_size), _p(_u32), *_about),
-    "ebpf_kconfig_number": (*_named, _u64, *_room, _p(_size), *_about),
-    "ebpf_define_kconfig": (_handle, _p(_ValueRow), _size, *_bytes, *_bytes, *_about),
+    "ebpf_set_value": (*_named, *_bytes, _u32),
+    "ebpf_set_values": (_handle, _p(_ValueRow), _size),
+    "ebpf_kconfig": (_handle, *_list(_KconfigExtern)),
+    "ebpf_kconfig_value": (*_named, *_bytes, _p(_size)),
+    "ebpf_kconfig_number": (*_named, _u64, _p(_size)),
+    "ebpf_define_kconfig": (_handle, _p(_ValueRow), _size),
     "ebpf_variables": (_handle, *_list(_Variable)),
     "ebpf_value": (*_named, *_room, _p(_size)),
     "ebpf_set_map_data": (*_named, *_bytes),
     "ebpf_set_max_entries": (*_named, _u32),
     "ebpf_set_value_size": (*_named, _u32),
     "ebpf_sanitize": (_handle, _u32),
-    "ebpf_relocate_types": (_handle, *_bytes, *_about),
-    "ebpf_record_outcomes": (_handle, *_bytes, *_list(_RecordOutcome), *_about),
-    "ebpf_relocate_maps": (_handle, _p(_Descriptor), _size, *_bytes, *_about),
-    "ebpf_resolve_externs": (_handle, *_bytes, *_bytes, *_about),
-    "ebpf_relocate_externs": (_handle, *_about),
-    "ebpf_relocate_calls": (_handle, *_about),
-    "ebpf_link_map": (*_named, *_list(_CodeCopy), *_about),
-    "ebpf_link_references": (*_named, _p(_CodeReference), _size, _p(_size), *_about),
-    "ebpf_prepare": (*_bytes, *_bytes, _p(_Descriptor), _size, *_bytes, *_bytes, _p(_handle), *_about),
-    "ebpf_prepare_handle": (_handle, *_bytes, _p(_Descriptor), _size, *_bytes, *_bytes, *_about),
+    "ebpf_program_count": (_handle,),
+    "ebpf_program_at": (_handle, _size, _p(_Program)),
+    "ebpf_map_count": (_handle,),
+    "ebpf_map_at": (_handle, _size, _p(_Map)),
+    "ebpf_extern_count": (_handle,),
+    "ebpf_extern_at": (_handle, _size, _p(_Extern)),
+    "ebpf_section_count": (_handle,),
+    "ebpf_section_at": (_handle, _size, _p(_Section)),
+    "ebpf_kconfig_count": (_handle,),
+    "ebpf_kconfig_at": (_handle, _size, _p(_KconfigExtern)),
+    "ebpf_variable_count": (_handle,),
+    "ebpf_variable_at": (_handle, _size, _p(_Variable)),
+    "ebpf_program_slots": (_handle, _size, _p(_size)),
+    "ebpf_program_func_infos": (_handle, _size, _p(_size)),
+    "ebpf_program_line_infos": (_handle, _size, _p(_size)),
+    "ebpf_program_section_name": (_handle, _size),
+    "ebpf_map_contents": (_handle, _size, _p(_size)),
+    "ebpf_license_text": (_handle,),
+    "ebpf_kernel_types": (_handle, *_bytes, _p(_size)),
+    "ebpf_initial_slots": (_handle, *_bytes, _p(_size)),
+    "ebpf_initial_slot_at": (_handle, _size, _p(_InitialSlot)),
+    "ebpf_relocate_types": (_handle, *_bytes),
+    "ebpf_record_outcomes": (_handle, *_bytes, _p(_size)),
+    "ebpf_record_outcome_at": (_handle, _size, _p(_RecordOutcome)),
+    "ebpf_relocate_maps": (_handle, _p(_Descriptor), _size),
+    "ebpf_resolve_externs": (_handle, *_bytes, *_bytes),
+    "ebpf_relocate_externs": (_handle,),
+    "ebpf_relocate_calls": (_handle,),
+    "ebpf_link_map": (*_named, _p(_size)),
+    "ebpf_code_copy_at": (_handle, _size, _p(_CodeCopy)),
+    "ebpf_link_references": (*_named, _p(_CodeReference), _size, _p(_size)),
+    "ebpf_prepare": (*_bytes, _p(_PrepareInputs), _p(_handle)),
+    "ebpf_prepare_handle": (_handle, _p(_PrepareInputs)),
 }
-# Those that return something else than a number.
-RESULTS = {"ebpf_close": None, "ebpf_strerror": c.c_char_p}
+# What those return that return no number. A text that a handle keeps is an address.
+RESULTS = {
+    "ebpf_close": None,
+    "ebpf_strerror": _byte_p,
+    "ebpf_explain": _byte_p,
+    "ebpf_last_error": _p(_Error),
+    "ebpf_program_slots": _p(Insn),
+    "ebpf_program_func_infos": _p(FuncInfo),
+    "ebpf_program_line_infos": _p(LineInfo),
+    **{name: _size for name in CALLS if name.endswith("_count")},
+    **{name: c.c_void_p for name in CALLS if name.endswith(("_at", "_section_name", "_contents", "_license_text"))},
+    **{name: c.c_void_p for name in ("ebpf_kernel_types", "ebpf_kconfig_value", "ebpf_kconfig_number")},
+}
 
-DONE, ROOM, MEMORY, CLOSED = 0, 1, 2, 3
+DONE, ROOM, MEMORY = 0, 1, 2
+LENIENT, STRICT = 0, 1
 
 
 def _loaded():
@@ -244,72 +289,27 @@ def _raised(number, about=None, details=None):
     return MemoryError("out of memory") if number == MEMORY else Refused(number, about, details)
 
 
-def _plain(number, about=None):
-    """Raises what a call says that was given a name, and reports a number alone."""
-    if number != DONE:
-        raise _raised(number, about)
-
-
-def _told(call):
-    """Makes a call that can report a refusal: `call` is given where. Returns 0 or 1. A refused call changes nothing, so it is
-    made again where its name may be cut."""
-    room = 256
-    while True:
-        about, refusal = c.create_string_buffer(room), _Refusal()
-        number = call(about, room, c.byref(refusal))
-        if number in (DONE, ROOM):
-            return number
-        if refusal.name_len < room:
-            names = [name for name, _ in _Refusal._fields_[2:-1]]
-            stated = {name: getattr(refusal, name) for bit, name in enumerate(names) if refusal.has >> bit & 1}
-            raise _raised(number, about.raw[: refusal.name_len].decode("utf-8", "replace") or None, stated)
-        room *= 2
-
-
-def _filled(call, kind=c.c_char, about=None):
-    """The values that a call writes: `call` is given a buffer, its room and the count. It is asked until there is room."""
-    room = 0
-    while True:
-        values, count = (kind * room)(), _size()
-        number = call(values, room, c.byref(count))
-        if number != ROOM:
-            _plain(number, about)
-            return values[: count.value]
-        room = count.value
-
-
-def _listed(row, call):
-    """The rows that a call lists, and the function that gives a text of theirs."""
-    counts = _Counts()
-    while True:
-        rows, text, room = (row * counts.rows)(), c.create_string_buffer(counts.text or 1), (counts.rows, counts.text)
-        number = call(rows, room[0], text, room[1], c.byref(counts))
-        if number != ROOM:
-            _plain(number)
-            held = text.raw
-            return rows[: counts.rows], lambda at, length: held[at : at + length].decode("utf-8", "replace")
-
-
-def _rows(kind, names, **columns):
-    """Rows with the places of names, and the text of these."""
-    rows, text = (kind * len(names))(), b""
-    for number, name in enumerate(names):
-        rows[number].name_at, rows[number].name_len = len(text), len(name.encode())
-        for column, values in columns.items():
-            setattr(rows[number], column, values[number])
-        text += name.encode()
-    return rows, text
+def _outcome(handle, number, about=None):
+    """Raises what a call says that was given a handle and a name."""
+    if number == DONE:
+        return
+    error = library.ebpf_last_error(handle)[0]
+    name = c.string_at(error.name, error.name_len).decode("utf-8", "replace") or about
+    names = [name for name, _ in _Refusal._fields_[2:-1]]
+    stated = {it: getattr(error.refusal, it) for bit, it in enumerate(names) if error.refusal.has >> bit & 1}
+    raise _raised(number, name, stated)
 
 
 def _value_rows(values, must_exist):
-    """Rows with names and values, their text and their bytes."""
-    bytes_ = b"".join(bytes(it) for it in values.values())
-    ends = [0]
-    for it in values.values():
-        ends.append(ends[-1] + len(it))
-    lengths = [len(it) for it in values.values()]
-    rows, text = _rows(_ValueRow, list(values), value_at=ends[:-1], value_len=lengths, must_exist=[must_exist] * len(values))
-    return rows, text, bytes_
+    """A row for each value, {name: bytes}."""
+    pairs = [(name.encode(), bytes(value)) for name, value in values.items()]
+    return (_ValueRow * len(pairs))(*((name, len(name), value, len(value), must_exist) for name, value in pairs))
+
+
+def _descriptor_rows(maps):
+    """A row for each map, {name: descriptor}."""
+    pairs = [(name.encode(), descriptor) for name, descriptor in maps.items()]
+    return (_Descriptor * len(pairs))(*((name, len(name), descriptor) for name, descriptor in pairs))
 
 
 # ---- what an object has
@@ -468,7 +468,7 @@ def _extern(row, name):
     return Extern(name, address, row.type_id, row.kernel_type_id, *flags)
 
 
-def _outcome(row, name):
+def _result(row, name):
     numbers = [row.value, row.absence, row.fault]
     given = [number if row.result == place else None for place, number in enumerate(numbers)]
     return Outcome(name, row.number, row.section, row.address, row.slot if row.has_slot else None, *given)
@@ -506,120 +506,164 @@ class Contents:
         handle, self._at = self._handle, None
         return kind(handle)
 
+    def _made(self, number, about=None):
+        _outcome(self._handle, number, about)
+
+    def _filled(self, call, *given, kind=c.c_char, about=None):
+        """The values that a call writes. It is asked until there is room."""
+        room = 0
+        while True:
+            values, count = (kind * room)(), _size()
+            number = call(self._handle, *given, values, room, c.byref(count))
+            if number != ROOM:
+                self._made(number, about)
+                return values[: count.value]
+            room = count.value
+
+    def _listed(self, row, call):
+        """The rows that a call lists, each with the function that gives a text of theirs."""
+        counts = _Counts()
+        while True:
+            rows, text, room = (row * counts.rows)(), c.create_string_buffer(counts.text or 1), (counts.rows, counts.text)
+            number = call(self._handle, rows, room[0], text, room[1], c.byref(counts))
+            if number != ROOM:
+                self._made(number)
+                held = text.raw
+                return rows[: counts.rows], lambda at, length: held[at : at + length].decode("utf-8", "replace")
+
+    def _rows(self, row, at, count):
+        """So many rows that the handle keeps, each with its name and where this is."""
+        for index in range(count.value):
+            one = row()
+            place = at(self._handle, index, c.byref(one))
+            if not place:
+                self._made(library.ebpf_last_error(self._handle)[0].number)
+            yield one, c.string_at(place).decode("utf-8", "replace"), place
+
+    def _kept(self, at, length, about=None):
+        """The bytes that a call returned, which the handle keeps; None where it returned null and refused nothing."""
+        if not at:
+            return self._made(library.ebpf_last_error(self._handle)[0].number, about)
+        return c.string_at(at, length.value)
+
     def copy(self):
         """A copy, so that one parse serves several kernels or values."""
         handle = c.c_void_p()
-        _plain(library.ebpf_clone(self._handle, c.byref(handle)))
+        self._made(library.ebpf_clone(self._handle, c.byref(handle)))
         return type(self)(handle.value)
 
     def info(self):
         """What the object says of itself."""
         info = _Info()
-        _plain(library.ebpf_info(self._handle, c.byref(info)))
+        self._made(library.ebpf_info(self._handle, c.byref(info)))
         version = info.kernel_version if info.has_kernel_version else None
         flags = bool(info.has_types), bool(info.has_relocations), bool(info.has_typed_externs)
         return Info(bool(info.is_big_endian), version, *flags)
 
     def license(self):
         """The license as bytes, without a zero byte: b"GPL" where the file states none."""
-        return _filled(lambda *room: library.ebpf_license(self._handle, *room))
+        return self._filled(library.ebpf_license)
 
     def states_license(self):
         """Whether the file states the license."""
         states = _u32()
-        _plain(library.ebpf_states_license(self._handle, c.byref(states)))
+        self._made(library.ebpf_states_license(self._handle, c.byref(states)))
         return bool(states)
 
     def programs(self):
         """The programs, in byte order of their names."""
-        rows, text = _listed(_Program, lambda *room: library.ebpf_programs(self._handle, *room))
+        rows, text = self._listed(_Program, library.ebpf_programs)
         return [_program(row, text(row.name_at, row.name_len)) for row in rows]
 
     def program(self, name):
         """The program of a name. Refused 4: none has it."""
         row = _Program()
-        _plain(library.ebpf_find_program(self._handle, *_text(name), c.byref(row)), name)
+        self._made(library.ebpf_find_program(self._handle, *_text(name), c.byref(row)), name)
         return _program(row, name)
 
     def maps(self):
         """The maps, in byte order of their names."""
-        rows, text = _listed(_Map, lambda *room: library.ebpf_maps(self._handle, *room))
+        rows, text = self._listed(_Map, library.ebpf_maps)
         return [_map(row, text(row.name_at, row.name_len)) for row in rows]
 
     def map(self, name):
         """The map of a name. Refused 5: none has it."""
         row = _Map()
-        _plain(library.ebpf_find_map(self._handle, *_text(name), c.byref(row)), name)
+        self._made(library.ebpf_find_map(self._handle, *_text(name), c.byref(row)), name)
         return _map(row, name)
 
     def map_data(self, name):
         """The initial data of a map. Refused 5: none has the name."""
-        return _filled(lambda *room: library.ebpf_map_data(self._handle, *_text(name), *room), about=name)
+        return self._filled(library.ebpf_map_data, *_text(name), about=name)
 
     def externs(self):
         """The externs of .ksyms, in byte order of their names."""
-        rows, text = _listed(_Extern, lambda *room: library.ebpf_externs(self._handle, *room))
+        rows, text = self._listed(_Extern, library.ebpf_externs)
         return [_extern(row, text(row.name_at, row.name_len)) for row in rows]
 
     def sections(self):
         """The named sections of the file, in byte order of their names."""
-        rows, text = _listed(_Section, lambda *room: library.ebpf_sections(self._handle, *room))
+        rows, text = self._listed(_Section, library.ebpf_sections)
         return [Section(text(row.name_at, row.name_len), row.number) for row in rows]
 
     def variables(self):
         """The variables in the data of maps, in byte order of their names."""
-        rows, text = _listed(_Variable, lambda *room: library.ebpf_variables(self._handle, *room))
+        rows, text = self._listed(_Variable, library.ebpf_variables)
         names = ((text(row.name_at, row.name_len), text(row.map_at, row.map_len)) for row in rows)
         return [Variable(*pair, row.offset, row.size) for pair, row in zip(names, rows)]
 
     def value(self, name):
         """The bytes of a variable as they are now. Refused 10: none has the name."""
-        return _filled(lambda *room: library.ebpf_value(self._handle, *_text(name), *room), about=name)
+        return self._filled(library.ebpf_value, *_text(name), about=name)
 
     def kconfig(self):
         """The kconfig externs, in the order in which the object's types name them. Refused 900 to 903."""
-        rows, text = _listed(_KconfigExtern, lambda *room: _told(lambda *why: library.ebpf_kconfig(self._handle, *room, *why)))
+        rows, text = self._listed(_KconfigExtern, library.ebpf_kconfig)
         names = (text(row.name_at, row.name_len) for row in rows)
         return [KconfigExtern(name, row.size, row.kind, bool(row.is_signed), bool(row.is_weak)) for name, row in zip(names, rows)]
 
     def kconfig_value(self, name, config):
         """The value of a kconfig extern by a configuration's text (bytes), or None where that has none. Refused 8: no extern
         has the name."""
-        found = _u32()
-        call = library.ebpf_kconfig_value
-        value = _filled(
-            lambda *room: _told(lambda *why: call(self._handle, *_text(name), *_data(config), *room, c.byref(found), *why))
-        )
-        return value if found else None
+        length = _size()
+        value = library.ebpf_kconfig_value(self._handle, *_text(name), *_data(config), c.byref(length))
+        return self._kept(value, length, name)
 
     def kconfig_number(self, name, number):
         """A number as the value of a kconfig extern. Refused 8: no extern has the name."""
-        call = library.ebpf_kconfig_number
-        return _filled(lambda *room: _told(lambda *why: call(self._handle, *_text(name), number, *room, *why)))
+        length = _size()
+        return self._kept(library.ebpf_kconfig_number(self._handle, *_text(name), number, c.byref(length)), length, name)
+
+    def kernel_types(self, file):
+        """The types of the object's file as BPF_BTF_LOAD takes them; empty where it has none. `file` (bytes) is what the
+        object was opened from. Refused 700 to 799."""
+        length = _size()
+        return self._kept(library.ebpf_kernel_types(self._handle, *_data(file), c.byref(length)), length) or b""
 
     def initial_slots(self, file):
         """The initial values of maps of maps and of arrays of programs. `file` is what the object was opened from. Refused
         800 to 899."""
-        call = library.ebpf_initial_slots
-        rows, text = _listed(_InitialSlot, lambda *room: _told(lambda *why: call(*_data(file), self._handle, *room, *why)))
-        names = ((text(row.name_at, row.name_len), text(row.target_at, row.target_len)) for row in rows)
-        return [InitialSlot(name, row.index, target, bool(row.is_program)) for (name, target), row in zip(names, rows)]
+        count = _size()
+        self._made(library.ebpf_initial_slots(self._handle, *_data(file), c.byref(count)))
+        rows = self._rows(_InitialSlot, library.ebpf_initial_slot_at, count)
+        target = lambda row, place: c.string_at(place + row.target_at, row.target_len).decode("utf-8", "replace")
+        return [InitialSlot(name, row.index, target(row, place), bool(row.is_program)) for row, name, place in rows]
 
     def slots(self, program):
         """The slots of a program as they stand. Refused 4: none has the name."""
-        return _filled(lambda *room: library.ebpf_slots(self._handle, *_text(program), *room), Insn, program)
+        return self._filled(library.ebpf_slots, *_text(program), kind=Insn, about=program)
 
     def func_infos(self, program):
         """A program's func info, by slot. Refused 4: none has the name."""
-        return _filled(lambda *room: library.ebpf_func_infos(self._handle, *_text(program), *room), FuncInfo, program)
+        return self._filled(library.ebpf_func_infos, *_text(program), kind=FuncInfo, about=program)
 
     def line_infos(self, program):
         """A program's line info, by slot. Refused 4: none has the name."""
-        return _filled(lambda *room: library.ebpf_line_infos(self._handle, *_text(program), *room), LineInfo, program)
+        return self._filled(library.ebpf_line_infos, *_text(program), kind=LineInfo, about=program)
 
     def program_section(self, program):
         """The name of a program's section, or None where it is not listed. Refused 4: none has the name."""
-        name = _filled(lambda *room: library.ebpf_program_section(self._handle, *_text(program), *room), about=program)
+        name = self._filled(library.ebpf_program_section, *_text(program), about=program)
         return name.decode("utf-8", "replace") or None
 
 
@@ -629,14 +673,14 @@ class _Linkable(Contents):
     def link_map(self, program):
         """The copies of functions that a program is made of once it is linked, its own first. Where the program calls
         externs it is asked behind `Steps.relocate_externs`. Refused 4, 600 to 699."""
-        call = library.ebpf_link_map
-        rows, text = _listed(_CodeCopy, lambda *room: _told(lambda *why: call(self._handle, *_text(program), *room, *why)))
-        return [CodeCopy(text(row.name_at, row.name_len), row.base, row.slots, row.section, row.address) for row in rows]
+        count = _size()
+        self._made(library.ebpf_link_map(self._handle, *_text(program), c.byref(count)), program)
+        rows = self._rows(_CodeCopy, library.ebpf_code_copy_at, count)
+        return [CodeCopy(name, row.base, row.slots, row.section, row.address) for row, name, _ in rows]
 
     def link_references(self, program):
         """The slots of that linked program that refer to its copies. Refused 4, 600 to 699."""
-        call = library.ebpf_link_references
-        rows = _filled(lambda *room: _told(lambda *why: call(self._handle, *_text(program), *room, *why)), _CodeReference)
+        rows = self._filled(library.ebpf_link_references, *_text(program), kind=_CodeReference, about=program)
         return [CodeReference(row.slot, row.base, bool(row.is_call)) for row in rows]
 
 
@@ -645,42 +689,40 @@ class Object(_Linkable):
 
     def set_value(self, name, value, must_exist=True):
         """Writes the value (bytes) of a variable. Refused 150 to 152."""
-        call = library.ebpf_set_value
-        _told(lambda *why: call(self._handle, *_text(name), *_data(value), must_exist, *why))
+        self._made(library.ebpf_set_value(self._handle, *_text(name), *_data(value), must_exist), name)
 
     def set_values(self, values, must_exist=True):
         """Writes the values of many variables, {name: bytes}, all or none. Refused 150 to 152."""
-        rows, text, held = _value_rows(values, must_exist)
-        call = library.ebpf_set_values
-        _told(lambda *why: call(self._handle, rows, len(rows), *_data(text), *_data(held), *why))
+        rows = _value_rows(values, must_exist)
+        self._made(library.ebpf_set_values(self._handle, rows, len(rows)))
 
     def define_kconfig(self, values):
         """Adds the map .kconfig with the values of the kconfig externs, {name: bytes}. Refused 900 to 906."""
-        rows, text, held = _value_rows(values, False)
-        call = library.ebpf_define_kconfig
-        _told(lambda *why: call(self._handle, rows, len(rows), *_data(text), *_data(held), *why))
+        rows = _value_rows(values, False)
+        self._made(library.ebpf_define_kconfig(self._handle, rows, len(rows)))
 
     def set_map_data(self, name, data):
         """Sets all of the initial data of a map. Refused 5: no map has the name; 9: the data has another length."""
-        _plain(library.ebpf_set_map_data(self._handle, *_text(name), *_data(data)), name)
+        self._made(library.ebpf_set_map_data(self._handle, *_text(name), *_data(data)), name)
 
     def set_max_entries(self, name, entries):
         """Sets how many entries a map holds at most. Refused 5."""
-        _plain(library.ebpf_set_max_entries(self._handle, *_text(name), entries), name)
+        self._made(library.ebpf_set_max_entries(self._handle, *_text(name), entries), name)
 
     def set_value_size(self, name, size):
         """Sets the size of a map's values, in bytes. Refused 5."""
-        _plain(library.ebpf_set_value_size(self._handle, *_text(name), size), name)
+        self._made(library.ebpf_set_value_size(self._handle, *_text(name), size), name)
 
     def use_older_helpers(self):
         """Replaces the helper functions 112 to 115 by the older 4 and 45."""
-        _plain(library.ebpf_sanitize(self._handle, 0))
+        self._made(library.ebpf_sanitize(self._handle, 0))
 
     def outcomes(self, types):
         """The outcome of each CO-RE relocation over a kernel's types (bytes), in the order of .BTF.ext. Refused 200 to 219."""
-        call = library.ebpf_record_outcomes
-        rows, text = _listed(_RecordOutcome, lambda *room: _told(lambda *why: call(self._handle, *_data(types), *room, *why)))
-        return [_outcome(row, text(row.name_at, row.name_len)) for row in rows]
+        count = _size()
+        self._made(library.ebpf_record_outcomes(self._handle, *_data(types), c.byref(count)))
+        rows = self._rows(_RecordOutcome, library.ebpf_record_outcome_at, count)
+        return [_result(row, name) for row, name, _ in rows]
 
     def prepare(self, types=b"", symbols=b"", maps=python_types.MappingProxyType({})):
         """Runs all passes, and gives the object as a `Prepared`; this one is closed then.
@@ -688,9 +730,9 @@ class Object(_Linkable):
         `types`: the kernel's types, as /sys/kernel/btf/vmlinux has them; empty: functions are not relocated. `symbols`: the
         text of /proc/kallsyms. `maps`: {name: descriptor}. Refused 200 to 699: the object is as it was.
         """
-        rows, text = _rows(_Descriptor, list(maps), descriptor=list(maps.values()))
-        given = (*_data(types), rows, len(rows), *_data(text), *_data(symbols))
-        _told(lambda *why: library.ebpf_prepare_handle(self._handle, *given, *why))
+        rows = _descriptor_rows(maps)
+        inputs = _PrepareInputs(c.sizeof(_PrepareInputs), *_data(types), rows, len(rows), *_data(symbols))
+        self._made(library.ebpf_prepare_handle(self._handle, c.byref(inputs)))
         return self._moved(Prepared)
 
     def steps(self):
@@ -704,26 +746,25 @@ class Steps(_Linkable):
 
     def relocate_types(self, types):
         """Relocates the functions to a kernel's types (CO-RE). Refused 200 to 299."""
-        _told(lambda *why: library.ebpf_relocate_types(self._handle, *_data(types), *why))
+        self._made(library.ebpf_relocate_types(self._handle, *_data(types)))
 
     def relocate_maps(self, maps):
         """Writes descriptors of maps, {name: descriptor}. Refused 300 to 311."""
-        rows, text = _rows(_Descriptor, list(maps), descriptor=list(maps.values()))
-        _told(lambda *why: library.ebpf_relocate_maps(self._handle, rows, len(rows), *_data(text), *why))
+        rows = _descriptor_rows(maps)
+        self._made(library.ebpf_relocate_maps(self._handle, rows, len(rows)))
 
     def resolve_externs(self, types, symbols):
         """Finds the externs in a kernel's types and in its symbols. Refused 200 to 219, 400 to 499."""
-        call = library.ebpf_resolve_externs
-        _told(lambda *why: call(self._handle, *_data(types), *_data(symbols), *why))
+        self._made(library.ebpf_resolve_externs(self._handle, *_data(types), *_data(symbols)))
 
     def relocate_externs(self):
         """Writes what is known of the externs. Refused 500 to 599."""
-        _told(lambda *why: library.ebpf_relocate_externs(self._handle, *why))
+        self._made(library.ebpf_relocate_externs(self._handle))
 
     def relocate_calls(self):
         """Links each program, the last pass, and gives the object as a `Prepared`; this one is closed then. Refused 600 to
         699."""
-        _told(lambda *why: library.ebpf_relocate_calls(self._handle, *why))
+        self._made(library.ebpf_relocate_calls(self._handle))
         return self.finish()
 
     def finish(self):
@@ -745,27 +786,22 @@ def _data(given):
     return held, len(held)
 
 
-def open(file, lenient=False, most_bytes=None):
-    """Opens the object of a file (bytes). `lenient`: any section name gives programs, as in libbpf. `most_bytes`: refuses
-    (157) where the object would own more. Refused 100 to 199."""
+def open(file, strict=False, max_bytes=0):
+    """Opens the object of a file (bytes). `strict`: a code section whose name says no kind is refused (144). `max_bytes`: if
+    not 0, refuses (157) where the object would own more. Refused 100 to 199."""
+    options = _OpenOptions(c.sizeof(_OpenOptions), max_bytes, STRICT if strict else LENIENT)
     handle = c.c_void_p()
-    if most_bytes is not None:
-        _told(lambda *why: library.ebpf_open_within(*_data(file), lenient, most_bytes, c.byref(handle), *why))
-    else:
-        call = library.ebpf_open_broad if lenient else library.ebpf_open
-        _told(lambda *why: call(*_data(file), c.byref(handle), *why))
-    return Object(handle.value)
+    number = library.ebpf_open(*_data(file), c.byref(options), c.byref(handle))
+    # also where the file is refused there is a handle, which has the error
+    object = Object(handle.value)
+    _outcome(handle, number)
+    return object
 
 
-def open_path(path, lenient=False, most_bytes=None):
+def open_path(path, strict=False, max_bytes=0):
     """Opens the object of the file at a path."""
     with builtins.open(path, "rb") as file:
-        return open(file.read(), lenient, most_bytes)
-
-
-def kernel_types(file):
-    """The types of a file (bytes) as BPF_BTF_LOAD takes them; empty where it has none. Refused 700 to 799."""
-    return _filled(lambda *room: _told(lambda *why: library.ebpf_kernel_types(*_data(file), *room, *why)))
+        return open(file.read(), strict, max_bytes)
 
 
 # The answers of `attach_target`.
@@ -776,5 +812,7 @@ def attach_target(section, types):
     """The type that the programs of a section of this name are attached to, by a kernel's types: (answer, id). The answer is
     NOT_WANTED, UNNAMED, FOUND or NOT_FOUND; the id is 0 where none is found. Refused 200 to 219."""
     answer, type_id = _u32(), _u32()
-    _plain(library.ebpf_attach_target(*_text(section), *_data(types), c.byref(answer), c.byref(type_id)), section)
+    number = library.ebpf_attach_target(*_text(section), *_data(types), c.byref(answer), c.byref(type_id))
+    if number != DONE:
+        raise _raised(number, section)
     return answer.value, type_id.value

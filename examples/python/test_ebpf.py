@@ -43,14 +43,17 @@ def assertions():
 def prototypes():
     """The calls of the header, each with the types of its parameters."""
     text = re.sub(r"/\*.*?\*/", "", HEADER.read_text(), flags=re.DOTALL)
-    for name, words in re.findall(r"^(?:EBPF_CHECKED )?(?:uint32_t|void|const char \*) ?\*?(ebpf_\w+)\(([^()]*)\)", text, re.MULTILINE):
-        yield name, [re.sub(r"\w+$", "", " ".join(it.split())).strip() for it in words.split(",") if it.strip() != "void"]
+    form = r"^(?:EBPF_CHECKED )?((?:const )?(?:struct )?\w+ \*?)(ebpf_\w+)\(([^()]*)\)[^;{}]*;"
+    for result, name, words in re.findall(form, text, re.MULTILINE):
+        yield name, [result.strip()], [re.sub(r"\w+$", "", " ".join(it.split())).strip() for it in words.split(",") if it.strip() != "void"]
 
 
 def fits(kind, in_c):
     """Whether a parameter has the type that the header states."""
     if in_c in NUMBERS:
         return kind is NUMBERS[in_c]
+    if in_c == "void":
+        return kind is None
     base = in_c.removeprefix("const ").removesuffix("*").strip()
     if base in ("uint8_t", "char", "struct ebpf_handle"):
         return kind in (c.c_char_p, c.c_void_p)
@@ -71,12 +74,12 @@ class Header(unittest.TestCase):
         self.assertEqual(len(STRUCTS), len(re.findall(r"^struct ebpf_\w+ \{", HEADER.read_text(), re.MULTILINE)))
 
     def test_calls_have_the_parameters_of_the_header(self):
-        found = dict(prototypes())
-        self.assertEqual(found.keys(), ebpf.CALLS.keys())
-        for name, kinds in found.items():
-            given = ebpf.CALLS[name]
-            self.assertEqual(len(given), len(kinds), name)
-            for kind, in_c in zip(given, kinds):
+        found = list(prototypes())
+        self.assertEqual({name for name, *_ in found}, ebpf.CALLS.keys())
+        for name, results, kinds in found:
+            given = [ebpf.RESULTS.get(name, c.c_uint32), *ebpf.CALLS[name]]
+            self.assertEqual(len(given), len(kinds) + 1, name)
+            for kind, in_c in zip(given, results + kinds):
                 self.assertTrue(fits(kind, in_c), f"{name}: {kind}, and {in_c} in the header")
 
     def test_version(self):
@@ -110,9 +113,9 @@ class Reading(unittest.TestCase):
         self.assertEqual((raised.exception.number, raised.exception.about), (4, "counts"))
 
     def test_limits(self):
-        ebpf.open(SMALL, most_bytes=972).close()
+        ebpf.open(SMALL, max_bytes=972).close()
         with self.assertRaises(ebpf.Refused) as raised:
-            ebpf.open(SMALL, most_bytes=971)
+            ebpf.open(SMALL, max_bytes=971)
         self.assertEqual((raised.exception.number, raised.exception.details), (157, {"size": 971}))
 
     def test_closed_objects(self):
@@ -123,7 +126,11 @@ class Reading(unittest.TestCase):
             object.programs()
 
     def test_types(self):
-        types = ebpf.kernel_types(KCONFIG)
+        with ebpf.open(KCONFIG) as object:
+            types = object.kernel_types(KCONFIG)
+            with self.assertRaises(ebpf.Refused) as raised:
+                object.kernel_types(b"no file")
+            self.assertEqual(raised.exception.number, 700)
         self.assertEqual(types[:2], b"\x9f\xeb")
         self.assertEqual(ebpf.attach_target("xdp", types), (ebpf.NOT_WANTED, 0))
         self.assertEqual(ebpf.attach_target("fentry/no_such", types), (ebpf.NOT_FOUND, 0))
@@ -155,7 +162,7 @@ class Setting(unittest.TestCase):
             self.assertEqual((shape.max_entries, shape.value_size, object.value("wanted")), (7, 16, b"\1\2\3\4"))
 
     def test_kconfig(self):
-        with ebpf.open(KCONFIG, lenient=True) as object:
+        with ebpf.open(KCONFIG) as object:
             self.assertIn(("LINUX_KERNEL_VERSION", 4), [(it.name, it.size) for it in object.kconfig()])
             self.assertEqual(object.kconfig_value("CONFIG_HZ", b"CONFIG_HZ=250\n"), (250).to_bytes(8, "little"))
             self.assertIsNone(object.kconfig_value("CONFIG_HZ", b""))

@@ -34,6 +34,13 @@ impl OpenOptions {
     }
 }
 
+impl Default for OpenOptions {
+    /// Lenient parsing without a limit, as `ebpf_open` does without options.
+    fn default() -> OpenOptions {
+        OpenOptions::lenient()
+    }
+}
+
 /// A variable's name and its value.
 #[derive(Clone, Copy, Debug, PartialEq, Eq)]
 pub struct Setting<'a> {
