@@ -184,7 +184,8 @@ def files(text):
 
 
 def formatted(text):
-    """The text as the repository's rustfmt.toml has it: a call of many parameters has one on each line."""
+    """The text in lines of 120 columns: a call of many parameters has one on each line. rustfmt leaves these files as they
+    are."""
     lines = []
     for line in text.split("\n"):
         head = re.fullmatch(r"    pub fn (\w+)\((.*)\)(.*);", line)

@@ -443,8 +443,7 @@ extern "C" {
     pub fn ebpf_initial_slots(handle: *const ebpf_handle, file: *const u8, file_len: usize, count: *mut usize) -> u32;
 
     /// `ebpf_initial_slot_at` of the header.
-    pub fn ebpf_initial_slot_at(handle: *const ebpf_handle, index: usize, row: *mut ebpf_initial_slot)
-        -> *const c_char;
+    pub fn ebpf_initial_slot_at(handle: *const ebpf_handle, index: usize, row: *mut ebpf_initial_slot) -> *const c_char;
 
     /// Relocates the functions to a kernel's types (CO-RE). `types` is raw BTF in the byte order that its magic number
     /// states. Numbers: 2, 3, 11, 12, 200 to 299.

@@ -39,8 +39,11 @@
 //! ```
 #![allow(non_camel_case_types)]
 
+#[rustfmt::skip]
 mod calls;
+#[rustfmt::skip]
 mod numbers;
+#[rustfmt::skip]
 mod structs;
 
 pub use calls::*;

@@ -33,5 +33,6 @@ macro_rules! layout {
     };
 }
 
+#[rustfmt::skip]
 mod table;
 pub use table::LAYOUTS;
