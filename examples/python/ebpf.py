@@ -12,7 +12,7 @@ are as BPF_PROG_LOAD takes them. `Object.steps` makes the passes one by one. The
 so no pass is made twice. A call that refuses raises `Refused`, and changes nothing. Both close themselves.
 
 The library is that of the environment's EBPF_LIBRARY (a path), else `libebpf.so.1`. An object stays on the thread that
-opened it.
+opened it. Python 3.10 or later.
 """
 import builtins
 import ctypes as c

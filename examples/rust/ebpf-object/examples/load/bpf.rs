@@ -213,8 +213,14 @@ pub fn load_types(types: &[u8]) -> Result<Option<OwnedFd>, Fault> {
     let mut attributes = BtfLoad { btf: address(types), btf_size: length(types.len()), ..BtfLoad::default() };
     // SAFETY: the types have so many bytes.
     let loaded = unsafe { call_for_descriptor(Command::BtfLoad, &mut attributes) };
-    match loaded {
-        Ok(loaded) => Ok(Some(loaded)),
-        Err(error) => Err(refused(&error, "the types of the object", &[])),
+    if let Ok(loaded) = loaded {
+        return Ok(Some(loaded));
     }
+    // once more, for the kernel's log
+    let mut log = vec![0u8; 1 << 20];
+    (attributes.btf_log_buf, attributes.btf_log_size, attributes.btf_log_level) =
+        (log.as_mut_ptr() as u64, length(log.len()), 1);
+    // SAFETY: the types and the log have so many bytes.
+    let loaded = unsafe { call_for_descriptor(Command::BtfLoad, &mut attributes) };
+    loaded.map(Some).map_err(|error| refused(&error, "the types of the object", &log))
 }

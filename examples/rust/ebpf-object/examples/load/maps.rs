@@ -1,7 +1,7 @@
 //! Maps in the kernel.
 use crate::bpf::{self, Command, MapCreate, MapElement};
 use crate::Fault;
-use ebpf_object::{Map, MapShape, Object, SectionKind};
+use ebpf_object::{Map, MapShape, Object, SectionKind, Variable};
 use std::os::fd::{AsRawFd, OwnedFd};
 
 const RINGBUF: u32 = 27;
@@ -109,6 +109,25 @@ impl Maps {
     pub fn put(&self, name: &str, index: u32, target: &OwnedFd) -> Result<(), Fault> {
         let value = target.as_raw_fd().to_ne_bytes();
         update(self.descriptor(name)?, index, &value, &format!("a value of {name} at {index}"))
+    }
+
+    /// Whether there is a map of a name.
+    pub fn has(&self, name: &str) -> bool {
+        self.find(name).is_ok()
+    }
+
+    /// Prints the bytes of a variable.
+    pub fn show_variable(&self, variable: &Variable) -> Result<(), Fault> {
+        let (map, made) = self.find(&variable.map)?;
+        let (key, mut value) = ([0u8; 4], vec![0u8; map.shape.value_size as usize]);
+        let (map_fd, key, at) = (bpf::number(made), bpf::address(&key), value.as_mut_ptr() as u64);
+        let mut attributes = MapElement { map_fd, key, value: at, ..MapElement::default() };
+        // SAFETY: a map of variables has keys of 4 bytes, and the value has as many bytes as the map's.
+        let read = unsafe { bpf::call(Command::MapLookup, &mut attributes) };
+        read.map_err(|error| bpf::refused(&error, &format!("the value of {}", variable.name), &[]))?;
+        let (from, size) = (usize::try_from(variable.offset)?, usize::try_from(variable.size)?);
+        println!("{}", hexadecimal(&value[from..from + size]));
+        Ok(())
     }
 
     /// Prints each key of a map with its value.
