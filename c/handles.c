@@ -15,7 +15,7 @@ struct ebpf_handle *ebpf_layer_make(void)
 	return made;
 }
 
-/* Reads a struct of options, of which `known` has the defaults and the size. Whether this library knows what it says. */
+/* Reads a struct of options, of which `known` has the defaults. Whether this library knows what it says. */
 int ebpf_layer_options(const void *options, void *known, size_t size)
 {
 	const uint8_t *bytes = options;

@@ -141,7 +141,7 @@ const char *ebpf_strerror(uint32_t number)
 	case EBPF_PARSE_BIG_ENDIAN_CODE:
 		return "the file is big-endian and has code: lenient parsing alone";
 	case EBPF_PARSE_TOO_LARGE:
-		return "what is made of the file would pass the limit: ebpf_open_within alone";
+		return "what is made of the file would pass the limit (max_bytes)";
 	case EBPF_PARSE_OTHER_MACHINE:
 		return "the file is for another machine than eBPF: lenient parsing alone";
 	case EBPF_TYPES_READ_INVALID_HEADER:

@@ -153,7 +153,7 @@ enum ebpf_number {
 	EBPF_PARSE_NO_SYMBOLS = 154, /* no symbol is in a section; about the section */
 	EBPF_PARSE_NO_TYPES = 155, /* the object has no types */
 	EBPF_PARSE_BIG_ENDIAN_CODE = 156, /* the file is big-endian and has code: lenient parsing alone */
-	EBPF_PARSE_TOO_LARGE = 157, /* what is made of the file would pass the limit: ebpf_open_within alone */
+	EBPF_PARSE_TOO_LARGE = 157, /* what is made of the file would pass the limit (max_bytes) */
 	EBPF_PARSE_OTHER_MACHINE = 158, /* the file is for another machine than eBPF: lenient parsing alone */
 
 	/* 200 to 299: types. About the section, from 220 on */
@@ -424,16 +424,16 @@ struct ebpf_error {
  *    is 0. `ebpf_last_error`, `ebpf_explain` and `ebpf_close` alone don't write it. `ebpf_clone` writes that of the
  *    handle that is copied.
  *  - It and its name are the handle's until the next call that is given the handle.
- *  - For NULL it is EBPF_MEMORY: `ebpf_open`, `ebpf_prepare` and `ebpf_clone` give NULL for want of memory alone, but
- *    for a clone of what is closed.
+ *  - For NULL it is EBPF_MEMORY: `ebpf_open` and `ebpf_prepare` give out NULL only when out of memory.
  */
 const struct ebpf_error *ebpf_last_error(const struct ebpf_handle *handle);
 
 /*
  * Returns a sentence on the last error: the text of `ebpf_strerror`, then the name in quotes and the details, as
- * `no symbol has the name of a variable: "wanted" (symbol 3)`. It ends in a zero byte, and is never NULL. It is the
- * handle's until the next call that is given the handle. The command `ebpf` may word the same error otherwise. Without
- * memory for a sentence it is the text alone.
+ * `a value does not fit its variable or its map; about the variable: "seen" (size 8, other size 7)`.
+ *  - It ends in a zero byte, and is never NULL. It is the handle's until the next call that is given the handle.
+ *  - The command `ebpf` may word the same error otherwise.
+ *  - Without memory for a sentence it is the text alone.
  */
 const char *ebpf_explain(const struct ebpf_handle *handle);
 

@@ -1,7 +1,7 @@
 /* Memory, and the bytes of files. */
 #include "loader.h"
 
-/* Zeros, one more than are asked for: NULL is the want of memory alone. */
+/* Zeros, one more than are asked for: calloc(0) may be NULL. */
 void *zeros(size_t count, size_t size)
 {
 	void *made = calloc(count + 1, size);

@@ -7,7 +7,7 @@ from pathlib import Path
 import make_rows
 from c_interface import builds, compiled, detail_rows, examples, exports, found_rows, growth_rows, loader_rows, more_rows, page_code, record_rows, rows_of_objects
 from c_interface.runs import Files, run
-from growths.inputs import COUNTER, KERNEL, LINES, REFERENCES, SMALL
+from growths.inputs import COUNTER, KERNEL, LINES, REFERENCES, SMALL, TASKS
 from growths.run import Runner
 from rows import core_limits, printed
 
@@ -62,11 +62,17 @@ def judge_growths(number):
     return HELD["growths"][number].judge(HELD["runner"])
 
 
-def said_of_bounds(program, folder):
-    """What `bounds` says, as (passed, fault)."""
+def given_to(name):
+    """The files that a program is given which counts its own checks."""
+    if name == "bounds":
+        return SMALL, COUNTER, REFERENCES, KERNEL, LINES, loader_rows.loaded()
+    return SMALL, COUNTER, loader_rows.loaded(), growth_rows.no_kind(), TASKS
+
+
+def said_by(program, folder):
+    """What `bounds` or `layer` says, as (passed, fault)."""
     files = Files(folder)
-    held = SMALL, COUNTER, REFERENCES, KERNEL, LINES, loader_rows.loaded()
-    words = [str(program), *map(files.path, held)]
+    words = [str(program), *map(files.path, given_to(program.name.partition("-")[0]))]
     status, lines, err = run(words)
     counts = lines[-1].split() if lines else []
     if status == 0 and not err and counts[1:3] == ["passed,", "0"]:
@@ -118,9 +124,9 @@ def main(folder, library, words):
     if count.failed:
         print(f"{count.passed} passed, {count.failed} failed")
         return 1
-    for name in [name for name in made if name.startswith("bounds")]:
-        passed, fault = said_of_bounds(made[name].path, folder)
-        count.add("bounds", name, fault, passed)
+    for name in [name for name in made if name.startswith(("bounds", "layer"))]:
+        passed, fault = said_by(made[name].path, folder)
+        count.add("bounds and the layer", name, fault, passed)
     of_calls(folder, count, made)
     for what, fault in compiled.compared(made[f"calls-{builds.compilers()[0]}"].path, Path(folder)):
         count.add("compiled", what, fault)

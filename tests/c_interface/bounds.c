@@ -323,29 +323,6 @@ static void check_data(struct ebpf_handle *object)
 	release(&data);
 }
 
-static void check_values_of_one(struct ebpf_handle *object)
-{
-	struct exact_handle *exact = EXACT(object);
-	struct guarded none = guarded(0);
-	uint8_t value[8] = { 1, 2, 3, 4, 5, 6, 7, 8 };
-	struct ebpf_refusal refusal = unwritten();
-	void *text = none.at;
-
-	for (size_t room = 0; room < 12; room++)
-		check_about(object, "no_such", room);
-	CHECK("ebpf_set_value", exact_ebpf_set_value(exact, "no_such", 7, value, 1, 0, text, 0, &refusal) == EBPF_DONE);
-	CHECK("ebpf_set_value", exact_ebpf_set_value(exact, "seen", 4, value, 8, 1, text, 0, &refusal) == EBPF_DONE &&
-					is_unwritten(&refusal));
-	CHECK("ebpf_set_value",
-	      exact_ebpf_set_value(exact, "seen", 4, value, 7, 1, text, 0, &refusal) == EBPF_PARSE_GLOBAL_DATA);
-	CHECK("ebpf_set_value",
-	      is_told(&refusal, EBPF_PARSE_GLOBAL_DATA, 0) && refusal.size == 8 && refusal.other_size == 7);
-	CHECK("ebpf_set_value", refusal.has == (EBPF_HAS_SIZE | EBPF_HAS_OTHER_SIZE));
-	CHECK("ebpf_set_value", exact_ebpf_set_value(exact, "\xff", 1, value, 1, 1, text, 0, &refusal) == EBPF_BAD_NAME);
-	CHECK("ebpf_set_value", ebpf_set_value(NULL, "seen", 4, value, 8, 1) == EBPF_CLOSED);
-	release(&none);
-}
-
 static void check_changes(const struct guarded *file)
 {
 	struct ebpf_handle *object = opened(file), *closed = NULL;

@@ -17,8 +17,12 @@ SANITIZED = ["-g", "-fsanitize=address,undefined", "-fno-sanitize-recover=all"]
 PROGRAMS = {
     "calls": [HERE / f"{name}.c" for name in ("calls", "listed", "loader_calls", "found_calls", "record_calls", "told")],
     "bounds": [HERE / f"{name}.c" for name in ("bounds", "bounds_loader", "bounds_values", "bounds_found", "bounds_nulls", "listed", "told")],
+    "layer": [HERE / f"{name}.c" for name in ("layer", "layer_lists", "layer_memory")],
     "loader": sorted((EXAMPLES / "loader").glob("*.c")),
 }
+
+# What a program is linked with beside the library: those of layer_memory.c are in the place of the C library's.
+LINKED = {"layer": [f"-Wl,--wrap={name}" for name in ("malloc", "calloc", "realloc", "free")]}
 
 
 class Build:
@@ -44,8 +48,9 @@ def programs(folder, library):
     """Each program by each compiler, as it is shipped and with the sanitizers."""
     for compiler in compilers():
         for name, sources in PROGRAMS.items():
-            yield compiled(folder, f"{name}-{compiler}", compiler, ["-O2"], sources, library)
-            yield compiled(folder, f"{name}-{compiler}-sanitized", compiler, ["-O1", *SANITIZED], sources, library)
+            flags = LINKED.get(name, [])
+            yield compiled(folder, f"{name}-{compiler}", compiler, ["-O2", *flags], sources, library)
+            yield compiled(folder, f"{name}-{compiler}-sanitized", compiler, ["-O1", *SANITIZED, *flags], sources, library)
 
 
 def numbers_of_header():

@@ -13,6 +13,9 @@ void count_check(int holds, const char *of, const char *what, int line);
 /* The object of a file that can be opened. */
 struct ebpf_handle *opened(const struct guarded *file);
 
+/* ebpf_set_value over an object with the variable `seen`, of 8 bytes. */
+void check_values_of_one(struct ebpf_handle *object);
+
 /* ebpf_set_values over an object with the variables `wanted` and `seen`. */
 void check_values_by_rows(const struct guarded *file);
 

@@ -7,7 +7,7 @@ import sys
 from pathlib import Path
 
 from c_interface.builds import EXAMPLES
-from growths.inputs import COUNTER, SMALL
+from growths.inputs import COUNTER
 from shown.blocks import blocks_of
 
 # What is listed of the object that clang made.

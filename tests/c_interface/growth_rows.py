@@ -42,20 +42,24 @@ class GrowthRow(Row):
         return None
 
 
+def no_kind():
+    """An object with a section of code whose name gives no kind."""
+    return File().code("nothing/p", bytes(8)).symbol("p", 0x12, 3, 0, 8).bytes()
+
+
 def rows(program):
     two = inputs.two_calls()
-    no_kind = File().code("nothing/p", bytes(8)).symbol("p", 0x12, 3, 0, 8).bytes()
     passes = ["open", "types", "maps", "resolve", "externs", "calls"]
     opened = [("the small object", SMALL), ("two calls", two), ("counter.o", COUNTER), ("references.o", REFERENCES)]
     value = "value=wanted:must:2a000000"
     many = "values=wanted:must:2a000000,seen:must:0102030405060708,other:may:01,wanted:must:2b000000"
     found = [GrowthRow(program, f"ebpf_open, {name}", (data, b"", b""), "open") for name, data in opened]
-    broad = [*opened, ("no kind", no_kind)]
-    found += [GrowthRow(program, f"ebpf_open_broad, {name}", (data, b"", b""), "open_broad") for name, data in broad]
-    found += [GrowthRow(program, f"ebpf_open_within, {name}", (data, b"", b""), "open_within=1000000:broad") for name, data in broad]
+    broad = [*opened, ("no kind", no_kind())]
+    found += [GrowthRow(program, f"ebpf_open, lenient, {name}", (data, b"", b""), "open_broad") for name, data in broad]
+    found += [GrowthRow(program, f"ebpf_open, within, {name}", (data, b"", b""), "open_within=1000000:broad") for name, data in broad]
     found += [GrowthRow(program, f"ebpf_clone, {name}", (data, b"", b""), "open", "clone") for name, data in opened]
     found += [
-        GrowthRow(program, "ebpf_open, no kind", (no_kind, b"", b""), "open", answer="144 nothing/p"),
+        GrowthRow(program, "ebpf_open, no kind", (no_kind(), b"", b""), "open", answer="144 nothing/p"),
         GrowthRow(program, "ebpf_open over another", (SMALL, b"", b""), "open", "open"),
         GrowthRow(program, "ebpf_prepare, the small object", (SMALL, b"", b""), "prepare"),
         GrowthRow(program, "ebpf_prepare, counter.o", (COUNTER, TASKS, b""), "prepare"),
@@ -74,7 +78,7 @@ def rows(program):
     ]
     loaded, settings = (loader_rows.loaded(), b"", b""), (loader_rows.declared(loader_rows.SETTINGS).bytes(), b"", b"CONFIG_TEXT=\"a\"\n")
     found += [
-        GrowthRow(program, "ebpf_kernel_types", loaded, "ask=kernel_types"),
+        GrowthRow(program, "ebpf_kernel_types", loaded, "open", "ask=kernel_types"),
         GrowthRow(program, "ebpf_kernel_types, no symbol", (loader_rows.without_symbol(), b"", b""), "ask=kernel_types", answer="742 v {type 2}"),
         GrowthRow(program, "ebpf_attach_target", (SMALL, loader_rows.TARGETS, b""), "ask=target:lsm/g"),
         GrowthRow(program, "ebpf_initial_slots", loaded, "open", "ask=initial"),

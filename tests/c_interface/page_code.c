@@ -9,11 +9,10 @@
 /* The number of slots of a linked program, and where its slot 11 leads. */
 static void prepare(struct bytes object_file, struct bytes kernel)
 {
-	const uint8_t *file = object_file.at, *types = kernel.at, *symbols = (const uint8_t *)"";
-	size_t file_len = object_file.len, types_len = kernel.len, symbols_len = 0;
-	const struct ebpf_descriptor maps[] = { { 0, 6, 1 } };
-	const char names[] = "counts";
-	size_t map_count = 1, names_len = 6, room = 64, count = 0;
+	const uint8_t *file = object_file.at, *types = kernel.at;
+	size_t file_len = object_file.len, types_len = kernel.len;
+	const struct ebpf_descriptor maps[] = { { "counts", 6, 1 } };
+	size_t map_count = 1, room = 64, count = 0;
 	struct ebpf_insn *slots = zeros(room, sizeof(*slots));
 
 #include "prepared.inc"
@@ -24,25 +23,37 @@ static void prepare(struct bytes object_file, struct bytes kernel)
 static struct ebpf_handle *opened(struct bytes file)
 {
 	struct ebpf_handle *handle;
-	struct ebpf_refusal refusal = { 0 };
-	char about[128] = { 0 };
-	uint32_t number = ebpf_open(file.at, file.len, &handle, about, sizeof(about), &refusal);
+	uint32_t number = open_strictly(file.at, file.len, &handle);
 
 	if (number != EBPF_DONE)
 		errx(3, "ebpf_open: %u", number);
 	return handle;
 }
 
-/* The programs as they are listed. */
+/* A file from a stranger. */
+static void open_within(struct bytes of)
+{
+	const uint8_t *file = of.at;
+	size_t file_len = of.len;
+	struct ebpf_handle *handle;
+	uint32_t number;
+
+#include "opened.inc"
+	printf(number ? "not opened\n" : "opened\n");
+	ebpf_close(handle);
+}
+
+/* The programs as the handle keeps them, and as they are written into buffers. */
 static void list(struct bytes file)
 {
 	struct ebpf_handle *handle = opened(file);
 	uint32_t number;
 
+#include "kept.inc"
 #include "listed.inc"
 	printf("listed %u:", number);
-	for (size_t at = 0; at < counts.rows; at++)
-		printf(" %s %zu", text + rows[at].name_at, rows[at].slots);
+	for (size_t row = 0; row < counts.rows; row++)
+		printf(" %s %zu", text + rows[row].name_at, rows[row].slots);
 	printf("\n");
 	free(rows);
 	free(text);
@@ -71,6 +82,7 @@ int main(int words, char **word)
 	types = read_file(word[2]);
 	other = read_file(word[3]);
 	prepare(object, types);
+	open_within(other);
 	list(other);
 	refuse(other);
 	free(object.at);

@@ -18,7 +18,7 @@ UNNAMED = "unnamed"
 @dataclass
 class Recipe:
     """How an object is made: the names of its programs' sections, the compiler's further words, and a symbol that is then
-    taken out; and what `ebpf_open` and `ebpf_open_broad` answer, without the ids of types."""
+    taken out; and what strict and lenient parsing answer, without the ids of types."""
 
     name: str
     sections: list = field(default_factory=lambda: ["xdp"])

@@ -25,14 +25,15 @@ extern "C" {
     ///   number is 0. `ebpf_last_error`, `ebpf_explain` and `ebpf_close` alone don't write it. `ebpf_clone` writes that
     ///   of the handle that is copied.
     /// - It and its name are the handle's until the next call that is given the handle.
-    /// - For NULL it is EBPF_MEMORY: `ebpf_open`, `ebpf_prepare` and `ebpf_clone` give NULL for want of memory alone,
-    ///   but for a clone of what is closed.
+    /// - For NULL it is EBPF_MEMORY: `ebpf_open` and `ebpf_prepare` give out NULL only when out of memory.
     pub fn ebpf_last_error(handle: *const ebpf_handle) -> *const ebpf_error;
 
     /// Returns a sentence on the last error: the text of `ebpf_strerror`, then the name in quotes and the details, as
-    /// `no symbol has the name of a variable: "wanted" (symbol 3)`. It ends in a zero byte, and is never NULL. It is
-    /// the handle's until the next call that is given the handle. The command `ebpf` may word the same error otherwise.
-    /// Without memory for a sentence it is the text alone.
+    /// `a value does not fit its variable or its map; about the variable: "seen" (size 8, other size 7)`.
+    ///
+    /// - It ends in a zero byte, and is never NULL. It is the handle's until the next call that is given the handle.
+    /// - The command `ebpf` may word the same error otherwise.
+    /// - Without memory for a sentence it is the text alone.
     pub fn ebpf_explain(handle: *const ebpf_handle) -> *const c_char;
 
     /// Opens the object of a file, and gives out a handle. `options` may be NULL: then they are the defaults.

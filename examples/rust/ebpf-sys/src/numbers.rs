@@ -212,7 +212,7 @@ pub const EBPF_PARSE_NO_TYPES: u32 = 155;
 /// The file is big-endian and has code: lenient parsing alone.
 pub const EBPF_PARSE_BIG_ENDIAN_CODE: u32 = 156;
 
-/// What is made of the file would pass the limit: ebpf_open_within alone.
+/// What is made of the file would pass the limit (max_bytes).
 pub const EBPF_PARSE_TOO_LARGE: u32 = 157;
 
 /// The file is for another machine than eBPF: lenient parsing alone.
