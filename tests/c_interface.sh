@@ -1,9 +1,9 @@
 #!/usr/bin/env bash
 # Builds examples/out/libebpf.a: the proved static library, the functions by which it takes memory, and the layer in C (c/).
 # On it the test programs of c_interface/ and the examples, with gcc and clang; runs them, under the address and
-# undefined-behaviour sanitizers too, and with each allocation failing; builds and tests the wrapper where Rust is
-# there, and runs the code of docs/C.md and the C of README.md; loads examples/counter.bpf.c into the running kernel
-# where that is allowed.
+# undefined-behaviour sanitizers too, and with each allocation failing; builds and tests the crates where Rust is there,
+# tests the module for Python, and runs the code of docs/C.md and the C of README.md; loads examples/counter.bpf.c into
+# the running kernel where that is allowed.
 # Ends with 'N passed, M failed'.
 # usage: c_interface.sh [--no-kernel | --build]      --build: makes libebpf.a and runs nothing
 set -euo pipefail

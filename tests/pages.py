@@ -30,7 +30,7 @@ OTHERS = [
     ("README.md", "/// Returns the object of a file", "tests/library_page.py: code of crates/example_prepare"),
     ("docs/C.md", "tests/c_interface.sh --build", "tests/c_interface.sh: builds with the library for C"),
     ("docs/C.md", "$ clang -target bpf", "tests/c_interface.sh: loads into the running kernel, where that is allowed"),
-    ("docs/C.md", "cd examples/rust && cargo run", "tests/c_interface.sh: builds with cargo, where it is installed"),
+    ("docs/C.md", "export EBPF_LIB_DIR=$PWD/examples/out", "tests/c_interface.sh: builds with cargo, where it is installed"),
 ]
 
 # The same by the page and the language of a fence.

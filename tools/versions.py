@@ -19,6 +19,14 @@ PLACES = [
     ("crates/capi_exports/src/version.rt", r"VERSION_NUMBER: u32 = (\d+);"),
     ("crates/capi_exports/src/version.rt", rf"The version {TEXT} of"),
     ("crates/ebpf/src/help.rt", rf'VERSION: &str = "ebpf {TEXT}"'),
+    ("examples/rust/Cargo.toml", rf'(?m)^version = "{TEXT}"$'),
+    ("examples/rust/Cargo.lock", rf'name = "ebpf-object"\nversion = "{TEXT}"'),
+    ("examples/rust/Cargo.lock", rf'name = "ebpf-sys"\nversion = "{TEXT}"'),
+    ("examples/rust/ebpf-object/Cargo.toml", rf'ebpf-sys = .*version = "{TEXT}"'),
+    ("examples/rust/ebpf-sys/build.rs", rf'VERSIONS: .* = \("{TEXT}", '),
+    ("examples/rust/ebpf-sys/README.md", rf"from version {TEXT} "),
+    ("examples/rust/ebpf-sys/src/numbers.rs", r"EBPF_VERSION_NUMBER: u32 = (\d+);"),
+    ("examples/python/ebpf.py", rf'(?m)^VERSION = "{TEXT}"$'),
 ]
 INSTALLED = [
     ("include/ebpf.h", r"#define EBPF_VERSION_NUMBER (\d+)\b"),

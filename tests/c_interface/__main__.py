@@ -98,8 +98,8 @@ def of_calls(folder, count, made):
                 count.add("growths", tally.row, fault)
 
 
-def of_kernel(folder, count, made):
-    """The loader, where the kernel lets it."""
+def of_kernel(folder, library, count, made):
+    """The loaders, where the kernel lets them."""
     why = examples.is_allowed(made[f"loader-{builds.compilers()[0]}"].path, folder)
     if why:
         print(f"nothing is loaded into the kernel here: {why}")
@@ -107,13 +107,16 @@ def of_kernel(folder, count, made):
     for name in [name for name in made if name.startswith("loader")]:
         for what, fault in examples.loads(made[name].path, folder):
             count.add("the kernel", what, fault)
+    for what, fault in examples.rust_loads(folder, library):
+        count.add("the kernel", what, fault)
 
 
 def main(folder, library, words):
     count, made = Count(), {}
     for what, fault in builds.header_faults():
         count.add("the header", what, fault)
-    count.add("the layer", "c/calls.c, c/strerror.c", builds.layer_fault())
+    count.add("the layer", "c/calls.c, c/strerror.c", builds.layer_fault("c_layer.py"))
+    count.add("the layer", "examples/rust/ebpf-sys", builds.layer_fault("rust_sys.py"))
     count.add("the exports", "include/ebpf.h", "; ".join(exports.faults()) or None)
     for build in builds.programs(folder, library):
         count.add("builds", build.name, build.fault)
@@ -132,7 +135,7 @@ def main(folder, library, words):
     for what, fault in page_code.of_pages(folder, library):
         count.add("the pages", what, fault)
     if "--no-kernel" not in words:
-        of_kernel(folder, count, made)
+        of_kernel(folder, library, count, made)
     print(f"{count.passed} passed, {count.failed} failed")
     return 1 if count.failed else 0
 

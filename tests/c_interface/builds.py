@@ -59,9 +59,9 @@ def numbers_of_header():
     return {int(number) for number in re.findall(r"EBPF_\w+ = (\d+),", body)}
 
 
-def layer_fault():
-    """What is wrong with the calls of the layer, which are made of the header."""
-    done = subprocess.run(["python3", "-B", str(TOP / "tools/c_layer.py"), "--check"], capture_output=True, text=True)
+def layer_fault(tool):
+    """What is wrong with what a tool makes of the header: the calls of the layer, and the declarations in Rust."""
+    done = subprocess.run(["python3", "-B", str(TOP / "tools" / tool), "--check"], capture_output=True, text=True)
     return done.stderr or None
 
 

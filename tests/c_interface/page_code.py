@@ -1,5 +1,5 @@
 """The code of README.md and docs/C.md: runs the C and the commands that build on the archive, and compares what is
-shown of the loader and the wrapper with what examples.py runs. Each function yields what it tests, and None or the
+shown of the loader and the crates with what examples.py runs. Each function yields what it tests, and None or the
 fault."""
 import os
 import re
@@ -68,14 +68,14 @@ def of_building(folder):
 
 
 def of_examples():
-    """Compares what docs/C.md shows of the loader and the wrapper with what examples.py runs."""
+    """Compares what docs/C.md shows of the loader and the crates with what examples.py runs."""
     blocks = blocks_of("docs/C.md")
     [block] = [it for it in blocks if "$ ./loader counter.bpf.o count_packet totals" in it.lines]
     shown = "".join(f"{line}\n" for line in block.lines if not line.startswith("$ "))
     yield "docs/C.md: the loader's lines", None if re.fullmatch(examples.ran(64), shown) else shown
-    command = f"cd examples/rust && cargo run -- {os.path.relpath(COUNTER, builds.EXAMPLES / 'rust')}"
-    is_shown = any(it.lines == (command,) for it in blocks)
-    yield "docs/C.md: the wrapper's command", None if is_shown else f"no block is {command}"
+    command = f"cargo run --example list -- {os.path.relpath(COUNTER, builds.EXAMPLES / 'rust')}"
+    is_shown = any(it.lines[-1] == command for it in blocks)
+    yield "docs/C.md: the crates' command", None if is_shown else f"no block ends in {command}"
 
 
 def of_pages(folder, library):

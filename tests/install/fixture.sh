@@ -49,6 +49,7 @@ make_repository() {
     cp "$top/tests/c_interface.sh" "$1/tests"
     cp "$top/tests/c_interface/archive.py" "$1/tests/c_interface"
     cp -r "$top/docs" "$top/README.md" "$1"
+    tar -C "$top" --exclude=target -c examples/rust examples/python | tar -C "$1" -x
     echo "int main(void) { return 0; }" >"$1/examples/loader/main.c"
     printf '%s\n' '# base' 'low: byteorder' 'mid: low' 'high: low mid' 'side: low' 'ebpf: high' 'ebpf_link: mid' \
         'cli_inspect_program: mid' 'capi_exports staticlib: core side' >"$1/crates.txt"
@@ -60,6 +61,8 @@ make_repository() {
         "$1/include/ebpf.h"
     printf '%s\n' "/// The version $RT_VERSION of" 'VERSION_NUMBER: u32 = 7008009;' >"$1/crates/capi_exports/src/version.rt"
     echo "VERSION: &str = \"ebpf $RT_VERSION\"" >"$1/crates/ebpf/src/help.rt"
+    sed -i "s/$(<"$top/VERSION")/$RT_VERSION/; s/EBPF_VERSION_NUMBER: u32 = [0-9]*/EBPF_VERSION_NUMBER: u32 = 7008009/" \
+        "$1"/examples/rust/{Cargo.{toml,lock},ebpf-object/Cargo.toml,ebpf-sys/{build.rs,README.md,src/numbers.rs}} "$1/examples/python/ebpf.py"
     printf '%s\n' '# Changelog' '' "## [$RT_VERSION] - 2026-01-01" >"$1/CHANGELOG.md"
     find "$1" -name out -prune -exec rm -rf '{}' +
 }

@@ -1,0 +1,64 @@
+//! What a loader asks for beside the passes.
+use ebpf_object::{attach_target, AttachTarget, Error, KconfigKind, Object, OpenOptions};
+use std::path::Path;
+
+fn file(name: &str) -> Vec<u8> {
+    let path = Path::new(env!("CARGO_MANIFEST_DIR")).join("tests/data").join(name);
+    std::fs::read(path).expect("a file of the crate")
+}
+
+#[test]
+fn kconfig_externs_are_defined() {
+    let mut object = Object::open(&file("kconfig.o"), OpenOptions::lenient()).expect("an object");
+    let externs = object.kconfig().expect("externs");
+    let rows: Vec<_> = externs.iter().map(|it| (it.name.as_str(), it.size, it.kind, it.is_weak)).collect();
+    assert!(rows.contains(&("LINUX_KERNEL_VERSION", 4, KconfigKind::Integer, false)));
+    assert!(rows.contains(&("CONFIG_DEFAULT_HOSTNAME", 16, KconfigKind::String, true)));
+    let config = b"CONFIG_HZ=250\nCONFIG_DEFAULT_HOSTNAME=\"(none)\"\n";
+    let hertz = object.kconfig_value("CONFIG_HZ", config).expect("an extern");
+    assert_eq!(hertz.as_deref(), Some(&250u64.to_le_bytes()[..]));
+    assert_eq!(object.kconfig_value("LINUX_KERNEL_VERSION", config), Ok(None));
+    assert_eq!(object.kconfig_value("CONFIG_NONE", config), Err(Error::NoExtern("CONFIG_NONE".into())));
+    let version = object.kconfig_number("LINUX_KERNEL_VERSION", 0x60c00).expect("a value");
+    assert_eq!(version, 0x60c00u32.to_le_bytes());
+    let error = object.define_kconfig(&[]).expect_err("no version");
+    assert!(matches!(&error, Error::Kconfig(it) if it.name == "kconfig: NoValue" && it.number == 904), "{error}");
+    let values: [(&str, &[u8]); 2] = [("CONFIG_HZ", &250u64.to_le_bytes()), ("LINUX_KERNEL_VERSION", &version)];
+    object.define_kconfig(&values).expect("defined");
+    let data = object.map_data(".kconfig").expect("data");
+    assert_eq!((&data[..8], &data[8..12]), (&250u64.to_le_bytes()[..], &version[..]));
+}
+
+#[test]
+fn types_are_made_for_the_kernel() {
+    let object = Object::open(&file("kconfig.o"), OpenOptions::lenient()).expect("an object");
+    let types = object.kernel_types(&file("kconfig.o")).expect("types");
+    assert_eq!(types[..2], [0x9f, 0xeb]);
+    assert_eq!(object.kernel_types(b"no file").expect_err("no file").number(), 700);
+    for (section, answer) in [
+        ("xdp", AttachTarget::NotWanted),
+        ("fentry", AttachTarget::Unnamed),
+        ("fentry/no_such", AttachTarget::NotFound),
+    ] {
+        assert_eq!(attach_target(section, &types), Ok(answer));
+    }
+    assert!(matches!(attach_target("fentry/f", b"no types"), Err(Error::Types(_))));
+}
+
+#[test]
+fn variables_are_listed() {
+    let object = Object::open(&file("counter.o"), OpenOptions::strict()).expect("an object");
+    let variables = object.variables().expect("variables");
+    let wanted = variables.iter().find(|it| it.name == "wanted").expect("a variable");
+    assert_eq!((wanted.map.as_str(), wanted.offset, wanted.size), (".rodata", 0, 4));
+    assert_eq!(object.value("wanted").expect("a value"), [7, 0, 0, 0]);
+}
+
+#[test]
+fn initial_values_are_listed() {
+    let bytes = file("counter.o");
+    let object = Object::open(&bytes, OpenOptions::strict()).expect("an object");
+    assert_eq!(object.initial_slots(&bytes), Ok(vec![]));
+    let error = object.initial_slots(b"no file").expect_err("no file");
+    assert!(matches!(&error, Error::InitialSlots(it) if it.number == 800), "{error}");
+}
