@@ -1,0 +1,4 @@
+pub mod OkPrepared
+pub mod SoFar
+pub mod Written
+pub mod Judged
