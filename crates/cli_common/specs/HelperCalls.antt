@@ -1,4 +1,4 @@
--- Maps from lists of entries, of which the first with a key stands.
+-- Maps from lists of entries, of which the first with a key counts.
 use Rattle.std.specs.Prelude.{List, fold, if◌then◌else◌, ℕ, Bool, false, ◌&&◌, ◌==◌, [], Option}
 use Rattle.std.specs.Prelude.{Some, None}
 use Rattle.std.specs.FinMap.{FinMap, insert, contains_key}

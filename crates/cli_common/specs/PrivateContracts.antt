@@ -15,7 +15,7 @@ abbrev pub names_in : MapNames → NamedMaps
 names_in names =
     record { by_symbol = lent_names names.by_symbol; by_section = lent_names names.by_section }
 
--- the entries before the first that stands at an end or behind it
+-- the entries before the first one at an end or behind it
 abbrev pub up_to : {X : Type 0} → ℕ → List (ℕ × X) → List (ℕ × X)
 up_to end [] = []
 up_to end (e ∷ es) = if nat_lt e.0 end then e ∷ up_to end es else []

@@ -167,7 +167,7 @@ uses_map uses name layout = list_any (λ key. has_use (get uses key) name) layou
 -- ---- what `ebpf list` writes from: the object's tables, row by row, in their order. The maps are
 -- read of the object itself.
 
--- what stands in an object as it was parsed: its programs, its externs, those that the kernel's
+-- the contents of a parsed object: its programs, its externs, those that the kernel's
 -- configuration gives, and the maps that its functions use
 pub record IsWanted (o : Object) (w : ObjectContents) : Type 0 where
   pub programs : map program_row w.programs.items ≡ program_rows o.programs

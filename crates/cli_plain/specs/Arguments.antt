@@ -47,7 +47,7 @@ arguments None (word ∷ words) =
           else with_first_argument (File, word) (arguments None words)
     ]
 
--- the texts that stand for each
+-- the texts of each
 pub record FoundValue : Type 0 where
   pub file : Option (List ℕ)
   pub btf : Option (List ℕ)

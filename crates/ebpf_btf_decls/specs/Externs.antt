@@ -151,7 +151,7 @@ types_fault info None = None
 types_fault info (Some (UnreadableType e)) = Some e
 types_fault info (Some Function) = placeholder_fault info
 
--- the externs that entries declare, by name; of equal names the later stands
+-- the externs that entries declare, by name; of equal names the later counts
 abbrev pub entries_externs : TypeInfo → (List ℕ → Option Bool) → List DataSecEntry
     → FinMap text_cmp ExternDesc
 entries_externs info weak entries =

@@ -9,7 +9,7 @@ use Rattle.ebpf_btf_decls.specs.Maps.{inner_definition, btf_maps, btf_maps_fault
 use Rattle.ebpf_parts.specs.declared.parse_mode.ParseMode.{ParseMode}
 use Rattle.ebpf_parts.specs.declared.parse_mode.ParseMode.TheVariants.{Strict, Lenient}
 
--- Of two members of one name the later stands: with the earlier, where it has no fault, and without
+-- Of two members of one name the later counts: with the earlier, where it has no fault, and without
 -- it the definitions are the same.
 abbrev pub LaterMembersStand : Type 0
 LaterMembersStand =

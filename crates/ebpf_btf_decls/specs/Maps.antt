@@ -139,7 +139,7 @@ unfoldable pub variable : BtfType → Option ℕ
 variable (Var _ id _) = Some id
 variable _ = None
 
--- what an entry declares: a VAR, whose name is the map's, of a type that stands for a STRUCT
+-- what an entry declares: a VAR, whose name is the map's, of a type that resolves to a STRUCT
 unfoldable pub declared : ParseMode
     → TypeInfo
     → DataSecEntry

@@ -57,7 +57,7 @@ put_at [] n x = x ∷ []
 put_at (y ∷ ys) zero x = x ∷ ys
 put_at (y ∷ ys) (suc n) x = y ∷ put_at ys n x
 
--- each name stands once, at its number
+-- each name occurs once, at its number
 pub record AreDistinct (names : List (List ℕ)) (numbers : FinMap text_cmp ℕ) : Type 0 where
   pub is : (name : List ℕ) (n : ℕ) → get numbers name ≡ Some n → slice_get names n ≡ Some name
   pub once : (name : List ℕ) (n : ℕ) → slice_get names n ≡ Some name → get numbers name ≡ Some n

@@ -28,10 +28,10 @@ use Rattle.ebpf_btf_load.specs.declared.error.KernelTypesError.{KernelTypesError
 use Rattle.ebpf_btf_load.specs.declared.error.KernelTypesError.TheVariants.{TooLarge, NotAVariable}
 use Rattle.ebpf_btf_load.specs.declared.words.WrittenWord.{WrittenWord}
 
--- ---- the INT and the VAR that stand in for what `.ksyms` names, since the kernel takes variables
--- alone in a DATASEC. They are appended, so that ids and offsets stay. libbpf 1.5 appends the VAR
--- alone (libbpf.c: add_dummy_ksym_var): where it finds no
--- INT of 4 bytes (find_int_btf_id), its variables have the type void, which the kernel refuses.
+-- ---- the INT and the VAR that replace the entries of `.ksyms`: the kernel accepts only variables
+-- in a DATASEC. They are appended, so ids and offsets don't change. libbpf 1.5 appends only the VAR
+-- (libbpf.c: add_dummy_ksym_var). If it finds no INT of 4 bytes (find_int_btf_id), its variables
+-- have the type void, which the kernel refuses.
 
 unfoldable pub is_int_of_4 : BtfType → Bool
 is_int_of_4 (Int _ size _) = size == 4
@@ -41,7 +41,7 @@ is_int_of_4 _ = false
 abbrev pub first_int : TypeInfo → Option ℕ
 first_int types = position_from is_int_of_4 0 types.types
 
--- ---- what `.ksyms` names
+-- ---- the types that `.ksyms` names
 
 abbrev pub is_func_type : Option BtfType → Bool
 is_func_type (Some (Func _ _)) = true
@@ -62,12 +62,12 @@ unfoldable pub takes_variables : TypeInfo → BtfType → Bool
 takes_variables types (DataSec name size rows) = is_ksyms types name && not (length rows == 0)
 takes_variables types _ = false
 
--- whether it has a FUNC among its entries
+-- whether such a DATASEC has a FUNC among its entries
 unfoldable pub takes_functions : TypeInfo → BtfType → Bool
 takes_functions types (DataSec name size rows) = is_ksyms types name && names_func types rows
 takes_functions types _ = false
 
--- ---- what is appended
+-- ---- the appended types
 
 abbrev pub standins_with : TypeInfo → Option ℕ → Standins
 standins_with types (Some id) = record {
@@ -105,7 +105,7 @@ standin_bytes order int_name s =
     flat_map (word_bytes order) (int_words int_name s.adds_int)
     ++ flat_map (word_bytes order) (variable_words s)
 
--- the strings, and the names of what is appended, each with its zero byte
+-- the strings, then the names of the appended types, each with its zero byte
 abbrev pub int_name_bytes : Bool → List ℕ
 int_name_bytes adds = if adds then codes "int\0" else []
 
@@ -122,8 +122,8 @@ all_strings types s =
 
 -- ---- functions
 
--- the name of a parameter that has none; one of type 0, which stands for a variable count, stays
--- without
+-- the name that a parameter without a name gets; a parameter of type 0, which means a variable
+-- count, gets none
 abbrev pub param_word : ℕ → ℕ → BtfParam → List WrittenWord
 param_word name offset p =
     if not (p.btf_type == 0) && p.name_offset == 0
@@ -175,7 +175,7 @@ extern_variable_words g int id =
     ∷ record { offset = place_in g id 12; value = 1 }
     ∷ []
 
--- ---- what entries name
+-- ---- the types that entries name
 
 abbrev pub extern_or_fault : TypeSources
     → Standins
@@ -200,7 +200,7 @@ ksyms_fault g s rows = first_some (λ row. fault_of (extern_words g s row.btf_ty
 
 -- ---- the section
 
--- in place of a FUNC the variable that stands in
+-- the id of an entry: the placeholder variable in place of a FUNC
 abbrev pub standing_type : TypeInfo → Standins → ℕ → ℕ
 standing_type types s id = if is_func types id then s.variable_id else id
 
@@ -223,7 +223,7 @@ ksyms_words g s id rows =
     if_no_fault (ksyms_fault g s rows) (Ok (own_ksyms_words g s id rows ++ externs_words g s rows))
 
 -- ---- functions of `.text` that are hidden, whose FUNCs get static linkage, so that the verifier
--- sees them with what calls them (libbpf 1.5, libbpf.c: bpf_object__add_programs,
+-- checks them together with their callers (libbpf 1.5, libbpf.c: bpf_object__add_programs,
 -- bpf_object__sanitize_and_load_btf).
 
 -- whether the FUNC with an id is of global linkage (1), which its info word has in place of a count
@@ -261,7 +261,7 @@ is_hidden_function table text s =
     && is_function_symbol table s
     && is_hidden table s
 
--- the info word of its FUNC: static linkage
+-- the info word of a hidden function's FUNC: static linkage
 abbrev pub function_word : TypeSources → ℕ → SymbolOf → Option WrittenWord
 function_word g text s =
     if is_hidden_function g.table text s
@@ -294,7 +294,7 @@ pub record FunctionLinkage : Type 0 where
   pub id : ℕ
   pub linkage : ℕ
 
--- the last that a FUNC gets, or else its own
+-- the last linkage that a FUNC gets, or else its own
 abbrev pub linkage_by : List FunctionLinkage → ℕ → ℕ → ℕ
 linkage_by linkages id own = fold (λ now l. if l.id == id then l.linkage else now) own linkages
 

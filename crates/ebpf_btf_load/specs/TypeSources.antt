@@ -19,52 +19,52 @@ use Rattle.ebpf_btf.specs.declared.kind.BtfKind.TheVariants as kinds
 use Rattle.ebpf_btf_load.specs.declared.error.KernelTypesError.{KernelTypesError}
 use Rattle.ebpf_btf_load.specs.declared.sections.Sources.{Sources}
 
--- ---- what the words of sections are found from, and where types stand among bytes.
+-- ---- the inputs of the words of sections, and the offsets of types among the bytes
 
--- ---- where each type stands among the bytes of types
+-- ---- the offset of each type among the bytes of types
 
--- where a type of a kind that begins at an offset ends; there, where it has no bytes, as void, or
--- passes the end
+-- the end of a type of a kind that begins at an offset; its beginning if it has no bytes, as void,
+-- or passes the end of the bytes
 unfoldable pub type_end : Endianness → List ℕ → ℕ → BtfKind → ℕ
 type_end o part offset kinds.Unknown = offset
 type_end o part offset kind =
     if nat_le (end_of o part offset kind) (length part) then end_of o part offset kind else offset
 
--- where types stand that follow each other from an offset on
+-- the offsets of consecutive types, the first at this offset
 abbrev pub type_starts : Endianness → List ℕ → ℕ → List BtfType → List ℕ
 type_starts o part offset [] = []
 type_starts o part offset (t ∷ ts) =
     offset ∷ type_starts o part (type_end o part offset (kind_of t)) ts
 
--- where the type with an id stands
+-- the offset of the type with an id
 abbrev pub start_of : List ℕ → ℕ → ℕ
 start_of starts id = unwrap_or (slice_get starts id) 0
 
--- ---- what the words of sections are found from
+-- ---- the inputs of the words of sections
 
 pub record TypeSources : Type 0 where
   -- the byte order of the types
   pub order : Endianness
-  -- their bytes
+  -- the bytes of the types
   pub part : List ℕ
   pub types : TypeInfo
-  -- where each stands
+  -- the offset of each type
   pub starts : List ℕ
   -- the file
   pub file : List ℕ
-  -- the entries of its symbols
+  -- the entries of the file's symbols
   pub table : List ℕ
 
--- so many bytes behind where the type with an id stands
+-- the offset so many bytes behind the start of the type with an id
 abbrev pub place_in : TypeSources → ℕ → ℕ → ℕ
 place_in g id within = start_of g.starts id + within
 
--- what was found, where there is no fault
+-- the value that was found, or the default at a fault
 abbrev pub found_or_none : {X : Type 0} → Result X KernelTypesError → List X
 found_or_none (Ok x) = x ∷ []
 found_or_none (Err e) = []
 
--- the list that was found
+-- the list that was found, or the empty list at a fault
 abbrev pub list_or_none : {X : Type 0} → Result (List X) KernelTypesError → List X
 list_or_none (Ok xs) = xs
 list_or_none (Err e) = []
@@ -75,7 +75,7 @@ abbrev pub if_no_fault : {X : Type 0} → Option KernelTypesError → Result X K
 if_no_fault None answer = answer
 if_no_fault (Some e) answer = Err e
 
--- ---- what contracts of private functions name and no public one
+-- ---- definitions for contracts of private functions alone
 
 abbrev pub given_of : Sources → TypeSources
 given_of s =

@@ -1,5 +1,5 @@
 -- The ways in which contracts state a result: the texts of an error that people read are left out,
--- and out of memory may stand in place of any result.
+-- and out of memory may replace any result.
 use Rattle.std.specs.Prelude.{◌≡◌, ℕ, ◌<◌, true, List, [], ◌∷◌, ⊤, MatchBool, Some, Result, Ok, Err}
 use Rattle.std.specs.Prelude.{is_ok, slice_get, if◌then◌else◌, Bool, false}
 use Rattle.ebpf_base.specs.Faults.{if_ok}

@@ -65,7 +65,7 @@ number_of_digits digits =
     then Some (digits_value 10 digits)
     else None
 
--- an accessor: the number that a piece writes, before which a plus may stand
+-- an accessor: the number that a piece writes, with or without a plus before it
 unfoldable pub accessor_of : List ℕ → Option ℕ
 accessor_of piece = number_of_digits (without_leading_plus piece)
 
@@ -134,7 +134,7 @@ spot_at_element info steps bits id index =
     (record
     { steps = steps ++ Index index ∷ []; place = place; index = index; type_id = id }))
 
--- the type of a step: the type of an element, or the one that a member stands in
+-- the type of a step: the type of an element, or the type that has the member
 abbrev pub type_of_step : List BtfType → PlaceEnd → Option BtfType
 type_of_step types (Element id) = result_ok (resolved_type types id)
 type_of_step types (Member parent index) = slice_get types parent

@@ -27,7 +27,7 @@ use Rattle.ebpf_core.specs.declared.member_search.FoundMember.{FoundMember}
 
 -- ---- the members of a type
 
--- a member: the id of the type that it stands in, its index there, its name's offset, its type and
+-- a member: the id of the type that has it, its index there, its name's offset, its type and
 -- its first bit
 pub record Member : Type 0 where
   pub parent : ℕ
@@ -67,7 +67,7 @@ abbrev pub if_read : {A X : Type 0} → Result A BtfError → (A → Result X Pl
 if_read (Ok x) next = next x
 if_read (Err e) next = Err (Btf e)
 
--- an anonymous member inside so many others leads to the type that its own stands for
+-- an anonymous member inside so many others leads to the type that its own resolves to
 abbrev pub anonymous_role : TypeInfo → ℕ → ℕ → Result Role PlaceFault
 anonymous_role target inside type_id =
     if nat_lt inside anonymous_levels
@@ -224,7 +224,7 @@ abbrev pub or_on : Option (Result Answer PlaceFault) → Result Answer PlaceFaul
 or_on (Some answer) next = answer
 or_on None next = next
 
--- what a search of so many entries comes to
+-- the result of a search of so many entries
 unfoldable pub run_search : MemberSearch → ℕ → List ViewEntry → Result Answer PlaceFault
 run_search member_search left [] = Ok (Absent left)
 run_search member_search zero (e ∷ es) = Err NestingLevel

@@ -70,7 +70,7 @@ named_variant_answer info name v =
 unfoldable pub first_variant : TypeInfo → List ℕ → List BtfVariant → Result (Option ℕ) TypeError
 first_variant info name vs = unwrap_or (first_some (named_variant_answer info name) vs) (Ok None)
 
--- in the type that a candidate stands for; one that is no enumeration has no variants
+-- in the type that a candidate resolves to; a type that is no enumeration has no variants
 abbrev pub variant_in : TypeInfo → List ℕ → ℕ → Result (Option ℕ) TypeError
 variant_in target name id =
     if_ok (resolved_type target.types id) (λ t.
@@ -203,7 +203,7 @@ local_loaded local r (paths.Variant name) = Ok None
 abbrev pub values_agree : MatchValue → MatchValue → Bool
 values_agree a b = a.bits == b.bits && option_eq nat_eq a.number b.number
 
--- what stands where nothing matches: that it is not there, or no value
+-- the value without a match: that it does not exist, or no value
 abbrev pub without_match : RelocationKind → Option ℕ
 without_match FieldExists = Some 0
 without_match TypeExists = Some 0
@@ -228,7 +228,7 @@ outcome_of_matches target name kind loaded (first ∷ others) =
     else if_ok (differing_names target first others) (λ names.
     Err (ConflictingCandidates name names))
 
--- What a record comes to over its candidates. Matching comes first, then the local field, then the
+-- The outcome of a record over its candidates. Matching comes first, then the local field, then the
 -- values.
 unfoldable pub outcome_among : TypeInfo → TypeInfo → Relocation → LocalPath → List ℕ
     → Result Outcome RelocationError

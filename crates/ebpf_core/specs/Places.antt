@@ -145,7 +145,7 @@ place_after local target [] from = Ok (Some from.place)
 place_after local target (by ∷ path) from =
     if_ok (next_spot local target from by) (λ led_to. onward led_to (place_after local target path))
 
--- the root index counts in the type that the root stands for
+-- the root index counts in the type that the root resolves to
 abbrev pub root_spot : TypeInfo → ℕ → ℕ → Result TargetSpot PlaceFault
 root_spot target root index =
     if_read (resolved target.types root) (λ id. element_spot target 0 1 id index)

@@ -1,5 +1,6 @@
--- The target types that a local type may stand for, and the outcome of a relocation over them (the
--- kernel's tools/lib/bpf/libbpf.c, bpf_core_find_cands, and relo_core.c, bpf_core_calc_relo_insn).
+-- The candidates of a local type among the target types, and the outcome of a relocation over them
+-- (the kernel's tools/lib/bpf/libbpf.c, bpf_core_find_cands, and relo_core.c,
+-- bpf_core_calc_relo_insn).
 use Rattle.std.specs.Prelude.{ℕ, ◌&&◌, Bool, true, false, List, Option, Some, None, is_some, Result}
 use Rattle.std.specs.Prelude.{Ok, Err, if◌then◌else◌, ◌≡◌, [], ◌∷◌, slice_get}
 use Rattle.std.specs.BTreeMap.{BTreeMap, get}
@@ -43,7 +44,7 @@ abbrev pub was_enum64 : BtfType → Bool
 was_enum64 t = is_kind kinds.Union t && is_some (variants_of t)
 
 -- The target types of the kind and name of a local type, flavors aside. An enumeration of 64 bits
--- that was made a UNION may stand for an ENUM64 too.
+-- that was made a UNION may be an ENUM64, too.
 unfoldable pub candidates_named : TypeInfo → BtfType → List ℕ → Result (List ℕ) BtfError
 candidates_named target t name =
     if was_enum64 t
@@ -51,7 +52,7 @@ candidates_named target t name =
     (candidates_of_both target kinds.Union kinds.Enum64 name)
     else ids_unless_fault (candidates_fault target (kind_of t)) (candidates target (kind_of t) name)
 
--- the candidates of the local type with an id, which is taken as it stands
+-- the candidates of the local type with an id, without resolving it
 abbrev pub candidates_for : TypeInfo → TypeInfo → ℕ → Result (List ℕ) BtfError
 candidates_for local target id =
     if_ok (type_at local.types id) (λ t.
@@ -65,7 +66,7 @@ abbrev pub is_local : RelocationKind → Bool
 is_local TypeIdLocal = true
 is_local _ = false
 
--- What a record comes to: first its local side is read, then its candidates are looked up.
+-- The outcome of a record: first its local side is read, then its candidates are looked up.
 unfoldable pub outcome_of : TypeInfo → TypeInfo → Relocation → Result Outcome RelocationError
 outcome_of local target r =
     if_ok (local_path local r) (λ path.
@@ -73,7 +74,7 @@ outcome_of local target r =
     else if_ok (of_types (candidates_for local target r.type_id)) (λ ids. outcome_among local
     target r path ids))
 
--- ---- the kinds and names of the target types that a local type may stand for
+-- ---- the kinds and names of the candidates of a local type
 
 -- its own, twice, or the two that an enumeration of 64 bits may have
 abbrev pub searched_kinds : BtfType → BtfKind × BtfKind
@@ -120,7 +121,7 @@ AreCached {X} Holds cached =
     (q : Question) (x : X) → get question_cmp cached q ≡ Some x → (r : Relocation)
     → question_of r ≡ q → Holds r x
 
--- each such record comes to the outcome
+-- each such record has the outcome
 abbrev pub OutcomesAreCached : TypeInfo → TypeInfo → BTreeMap Question Outcome → Type 0
 OutcomesAreCached local target cached =
     AreCached (λ r outcome. outcome_of local target r ≡ Ok outcome) cached

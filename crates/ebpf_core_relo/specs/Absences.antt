@@ -73,14 +73,14 @@ unfoldable pub furthest : TypeInfo → TypeInfo → List Step → List ℕ → F
 furthest local target steps ids =
     fold (λ so_far id. further so_far id (reach local target steps id)) nowhere ids
 
--- ---- whether a name stands in a type
+-- ---- whether a type has a name
 
--- the members of the type that an id stands for
+-- the members of the type that an id resolves to
 abbrev pub members_of_id : TypeInfo → ℕ → List BtfMember
 members_of_id target id =
     unwrap_or (option_and_then members_of (result_ok (resolved_type target.types id))) []
 
--- whether a member has a name; an anonymous one is told by the type that it leads to
+-- whether a member has a name; an anonymous one is identified by the type that it leads to
 abbrev pub is_or_has : TypeInfo → List ℕ → (ℕ → Bool) → BtfMember → Bool
 is_or_has target name inner m =
     if m.name_offset == 0

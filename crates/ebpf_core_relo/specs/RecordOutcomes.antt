@@ -1,4 +1,4 @@
--- The slots that CO-RE records touch, and what each record of an object comes to, also behind one
+-- The slots that CO-RE records touch, and the outcome of each record of an object, also behind one
 -- that is refused.
 use Rattle.std.specs.Prelude.{◌≡◌, ◌⊎◌, ℕ, ◌+◌, ◌-◌, ◌/◌, ◌%◌, ◌<◌, ◌==◌, Bool, true, false, List}
 use Rattle.std.specs.Prelude.{[], map, flat_map, length, Option, Some, None, option_map, Result, Ok}
@@ -72,7 +72,7 @@ goes_on None = false
 goes_on (Some slot) = slot.code % 8 == class_ld
 
 -- A record touches the slot that it is about, and where this one is of class 0 the next one: by the
--- slots as they stand before all records.
+-- slots before all records.
 pub record Touches (inputs : RelocationInputs) (located : ℕ × Relocation) (key : FunctionKey)
     (i : ℕ)
     : Type 0 where
@@ -204,7 +204,7 @@ named_records parts = flat_map (λ part. named_in part.0 part.1) parts
 
 -- ---- what they write
 
--- the index of the section whose name stands at an offset
+-- the index of the section whose name is at an offset
 abbrev pub section_by : FinMap text_cmp SectionIndex → Result (List ℕ) RelocationError
     → Result ℕ RelocationError
 section_by infos name =
@@ -235,7 +235,7 @@ left_after inputs so_far named =
 abbrev pub slots_left : RelocationInputs → Written → List Named → Written
 slots_left inputs so_far records = fold (left_after inputs) so_far records
 
--- ---- what they come to
+-- ---- their outcomes
 
 -- the slot that a record of a section is about
 abbrev pub slot_of_record : RelocationInputs → Result ℕ RelocationError → Relocation
@@ -254,7 +254,7 @@ abbrev pub record_result : Sides → Relocation → Result Outcome RelocationErr
 record_result sides r (Ok outcome) = outcome_result sides r outcome
 record_result sides r (Err fault) = Refused fault
 
--- what a record of a section comes to, over the slots that were written before it
+-- the outcome of a record of a section, over the slots that were written before it
 abbrev pub result_in : RelocationInputs → Result ℕ RelocationError → Written → Relocation
     → RecordResult
 result_in inputs section so_far r =
@@ -276,14 +276,14 @@ unfoldable pub outcome_after : RelocationInputs → Written → Named → Record
 outcome_after inputs so_far named =
     outcome_in inputs named.0 (record_section inputs named) so_far named.1
 
--- what records come to one after the other, each over the slots that those before it left
+-- the outcomes of records in order, each over the slots that the records before it left
 abbrev pub outcomes_from : RelocationInputs → Written → List Named → List RecordOutcome
 outcomes_from inputs so_far [] = []
 outcomes_from inputs so_far (named ∷ records) =
     outcome_after inputs so_far named
     ∷ outcomes_from inputs (left_after inputs so_far named) records
 
--- what records come to, the first over the functions' own slots
+-- the outcomes of records, the first over the functions' own slots
 abbrev pub record_outcomes : RelocationInputs → List (ℕ × List Relocation) → List RecordOutcome
 record_outcomes inputs parts = outcomes_from inputs empty (named_records parts)
 
@@ -302,7 +302,7 @@ outcome_without_texts row = record row { result = result_without_texts row.resul
 
 -- ---- what holds of the outcomes of records, beside the slots that they write
 
--- Each record has a place, and there is what it comes to over the slots that those before it left.
+-- Each record has a place, and there its outcome over the slots that the records before it left.
 abbrev pub OutcomesAreInOrder : Type 0
 OutcomesAreInOrder =
     (inputs : RelocationInputs) (parts : List (ℕ × List Relocation)) (k : ℕ)
@@ -312,7 +312,7 @@ OutcomesAreInOrder =
     outcome_after inputs (slots_left inputs empty (take k (named_records parts))) named)
     (slice_get (named_records parts) k)
 
--- the name of a section, or what stands for one that can't be read
+-- the name of a section, or a text in place of a name that can't be read
 abbrev pub name_or_unnamed : ℕ → Result (List ℕ) BtfError → List ℕ
 name_or_unnamed offset (Ok name) = name
 name_or_unnamed offset (Err e) = unnamed_section offset

@@ -105,7 +105,7 @@ abbrev pub answer_in_section : {X : Type 0} → List ℕ → Result X Relocation
 answer_in_section name (Ok x) = Ok x
 answer_in_section name (Err e) = Err (error_in_section name e)
 
--- the text that stands for the name at an offset that can't be read
+-- the text in place of a name that can't be read, by its offset
 abbrev pub unnamed_section : ℕ → List ℕ
 unnamed_section offset = codes "section@" ++ decimal offset
 
@@ -116,7 +116,7 @@ section_applied inputs name rs so_far =
     if_some (get inputs.section_infos name) (λ section. records_applied inputs section.0 rs so_far)
     (Err SectionNotFound)
 
--- the records of the section whose name stands at an offset
+-- the records of the section whose name is at an offset
 abbrev pub named_applied : RelocationInputs → ℕ × List Relocation → Written
     → Result Written BtfRelocationError
 named_applied inputs part so_far =

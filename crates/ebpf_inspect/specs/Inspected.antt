@@ -1,4 +1,4 @@
--- The reports of a file's programs, once they are linked.
+-- The reports of a file's programs after linking.
 use Rattle.std.specs.Prelude.{◌≡◌, ℕ, true, List, [], ◌∷◌, Some}
 use Rattle.std.specs.FinMap.{get}
 use Rattle.ebpf_inspect.specs.declared.report.ProgramReport.{ProgramReport}
@@ -21,10 +21,10 @@ with_linking steps = record steps { calls = true }
 abbrev pub link_map_of : ProgramReport → LinkMap
 link_map_of r = record { copies = r.copies; references = r.references }
 
--- The report of a program, from the object as linking begins and as it leaves it: its name, the
--- slots of its linked function, and the map of these. So the copies are the program and each
--- function that it reaches, in order, and have all slots; and the slot of each reference holds the
--- distance to a listed copy of the function that it refers to.
+-- The report of a program, from the object before and after linking: its name, the slots of its
+-- linked function, and their link map. So the copies are the program and each function that it
+-- reaches, in order, and have all slots. The slot of each reference holds the distance to a listed
+-- copy of the function that it refers to.
 pub record IsReport (unlinked linked : Object) (program : ProgramValue) (r : ProgramReport)
     : Type 0 where
   pub named : r.name ≡ program.name
@@ -45,7 +45,7 @@ AreReports unlinked linked [] (r ∷ rs) = ⊥
 AreReports unlinked linked (p ∷ ps) [] = ⊥
 
 -- the reports of an object's programs, in byte order of their names, after the chosen passes and
--- linked
+-- linking
 pub record AreReportsOf (steps : Chosen) (lines : Source) (o : Object)
     (reports : List ProgramReport)
     : Type 0 where
@@ -53,7 +53,7 @@ pub record AreReportsOf (steps : Chosen) (lines : Source) (o : Object)
   pub stages : Stages (with_linking steps) lines o linked
   pub each : AreReports stages.unlinked linked (programs_in_order linked.programs) reports
 
--- the reports of the programs of a file in a reading, of which the headline holds
+-- the reports of the programs of a file in a parsing mode; the headline holds of these programs
 pub record IsInspected (steps : Chosen) (lines : Source) (mode : ParseMode) (bytes : List ℕ)
     (reports : List ProgramReport)
     : Type 0 where

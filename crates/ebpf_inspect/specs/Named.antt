@@ -1,4 +1,4 @@
--- The reports of an object's programs, which are linked as values apart from the object.
+-- The reports of an object's programs, linked as values apart from the object.
 use Rattle.std.specs.Prelude.{◌≡◌, true, List}
 use Rattle.ebpf_inspect.specs.Inspected.{link_map_of, AreReports}
 use Rattle.ebpf_inspect.specs.declared.report.ProgramReport.{ProgramReport}
@@ -9,8 +9,7 @@ use Rattle.ebpf_model.specs.declared.function.Function.{Function}
 use Rattle.ebpf_reloc.specs.Linking.{ProgramValue, key_of, IsLinked, IsLinkMapAt}
 use Rattle.ebpf_reloc.specs.SlotTargets.{LinkableValue}
 
--- the report of a program: its name, the slots of its function once it is linked, and the map of
--- these
+-- the report of a program: its name, the slots of its linked function, and their link map
 pub record IsProgramReport (parts : LinkableValue) (program : ProgramValue) (r : ProgramReport)
     : Type 0 where
   pub named : r.name ≡ program.name
@@ -19,7 +18,7 @@ pub record IsProgramReport (parts : LinkableValue) (program : ProgramValue) (r :
   pub slots : r.slots ≡ function.instructions
   pub mapped : IsLinkMapAt parts (key_of program) (link_map_of r)
 
--- the reports of all programs, and the object as it is once these are linked
+-- the reports of all programs, and the object after linking them
 abbrev pub WithLinked : Object → List ProgramReport → Type 0
 WithLinked o reports =
     (linked : Object)

@@ -62,16 +62,16 @@ text_number text =
 
 -- ---- numbers as values
 
--- the low bytes of a number, as they stand in memory
+-- the low bytes of a number, in the order of memory
 abbrev pub number_bytes : Endianness → ℕ → ℕ → List ℕ
 number_bytes Little size n = take (min size 8) (to_le_bytes w64 n)
 number_bytes Big size n = drop (8 - min size 8) (to_be_bytes w64 n)
 
--- how many numbers fewer than 8 bytes hold
+-- the number of values that fewer than 8 bytes hold
 abbrev pub number_count : ℕ → ℕ
 number_count size = if size == 1 then 2 ^ 8 else if size == 2 then 2 ^ 16 else 2 ^ 32
 
--- whether bytes hold the number that 64 bits are, as a signed or an unsigned one
+-- whether so many bytes hold the number of 64 bits, read as signed or as unsigned
 abbrev pub is_in_range : ℕ → Bool → ℕ → Bool
 is_in_range size signed n =
     if size == 8 then true
@@ -82,13 +82,13 @@ abbrev pub ranged_value : Endianness → ℕ → Bool → ℕ → Result (List �
 ranged_value order size signed n =
     if is_in_range size signed n then Ok (number_bytes order size n) else Err OutOfRange
 
--- the value that a number is to an integer
+-- the value of a number for an extern that is an integer
 unfoldable pub integer_value : Endianness → KconfigType → ℕ → Result (List ℕ) ValueFault
 integer_value order (kconfig_types.Char signed) n = ranged_value order 1 signed n
 integer_value order (kconfig_types.Integer size signed) n = ranged_value order size signed n
 integer_value order kind n = Err Unsuited
 
--- the value that a number is to an integer or a bool, as for what a loader knows
+-- the value of a loader's number for an extern that is an integer or a bool
 unfoldable pub loader_value : Endianness → KconfigType → ℕ → Result (List ℕ) ValueFault
 loader_value order kconfig_types.Bool n = if nat_lt n 2 then Ok (n ∷ []) else Err OutOfRange
 loader_value order kind n = integer_value order kind n
@@ -117,7 +117,7 @@ is_quoted text = nat_lt 1 (length text) && slice_index text (length text - 1) ==
 abbrev pub unquoted : List ℕ → List ℕ
 unquoted text = take (length text - 2) (drop 1 text)
 
--- so many bytes: of a text those that leave room for a zero, and zeros
+-- a text in so many bytes: as much of it as leaves room for a zero byte, then zeros
 abbrev pub cut_string : ℕ → List ℕ → List ℕ
 cut_string len text = take (len - 1) text ++ replicate (len - length (take (len - 1) text)) 0
 
@@ -126,9 +126,9 @@ string_value (kconfig_types.CharArray len) text =
     if is_quoted text then Ok (cut_string len (unquoted text)) else Err Unsuited
 string_value kind text = Err Unsuited
 
--- ---- one setting
+-- ---- one value
 
--- the value that a text is to an extern of a type
+-- the value of a text for an extern of a type
 unfoldable pub text_value : Endianness → KconfigType → List ℕ → Result (List ℕ) ValueFault
 text_value order kind [] = Err Unsuited
 text_value order kind (c ∷ cs) =
@@ -138,16 +138,16 @@ text_value order kind (c ∷ cs) =
 
 -- ---- the configuration
 
--- what stands behind a prefix
+-- the rest of a text behind a prefix
 abbrev pub behind : List ℕ → List ℕ → Option (List ℕ)
 behind prefix bytes =
     if starts_with nat_eq bytes prefix then Some (drop (length prefix) bytes) else None
 
--- what a line gives a name: what stands behind `NAME=`
+-- the text that a line gives a name: the rest behind `NAME=`
 abbrev pub given_in_line : List ℕ → List ℕ → Option (List ℕ)
 given_in_line name line = option_and_then (behind (codes "=")) (behind name line)
 
--- the first line that gives the name something
+-- the text of the first line that has the name
 abbrev pub setting : List ℕ → List ℕ → Option (List ℕ)
 setting config name = first_some (given_in_line name) (slice_split (λ b. b == 10) config)
 
@@ -163,7 +163,7 @@ set_value order e None = Ok None
 set_value order e (Some text) =
     if_ok (with_name e.name (text_value order e.kind text)) (λ value. Ok (Some value))
 
--- the value of an extern; the configuration says nothing of names that don't begin with `CONFIG_`
+-- the value of an extern; only names that begin with `CONFIG_` have one
 unfoldable pub configured_value : Endianness → List ℕ → KconfigExtern
     → Result (Option (List ℕ)) KconfigError
 configured_value order config e =

@@ -35,7 +35,7 @@ use Rattle.ebpf_kconfig.specs.declared.settings.ValueFault.TheVariants as faults
 -- ---- the types of externs that the kernel's configuration gives (libbpf 1.5, libbpf.c:
 -- find_kcfg_type; btf.c: btf__align_of).
 
--- ---- one type by what it is itself
+-- ---- one type, without the types that it refers to
 
 -- whether an INT is a bool (BTF_INT_BOOL, bit 2 of the bits 24 to 27 of its word)
 abbrev pub is_bool_int : ℕ → Bool
@@ -74,9 +74,9 @@ scalar_type types (Enum64 name size flag variants) =
     if is_enum64_size size then tristate_of types name size else None
 scalar_type types t = None
 
--- ---- the type that an id leads to
+-- ---- the type of an id, modifiers and typedefs resolved
 
--- modifiers and typedefs aside, where they can be followed
+-- the type behind modifiers and typedefs, if they can be followed
 abbrev pub followed_type : TypeInfo → ℕ → Option BtfType
 followed_type types id = result_ok (resolved_type types.types id)
 
@@ -91,8 +91,7 @@ value_type types (Array name element index len) =
     array_of_char len (option_and_then (scalar_type types) (followed_type types element))
 value_type types t = scalar_type types t
 
--- the type of the values of a variable whose type has this id; there is none where it is of another
--- kind
+-- the value type of a variable whose type has this id; none for other kinds
 abbrev pub kconfig_type : TypeInfo → ℕ → Option KconfigType
 kconfig_type types id = option_and_then (value_type types) (followed_type types id)
 
@@ -133,7 +132,7 @@ unfoldable pub section_rows : BtfType → List DataSecEntry
 section_rows (DataSec name size rows) = rows
 section_rows t = []
 
--- those of the first DATASEC `.kconfig`
+-- the entries of the first DATASEC `.kconfig`
 abbrev pub kconfig_entries : TypeInfo → List DataSecEntry
 kconfig_entries types =
     option_map_or section_rows
@@ -150,7 +149,7 @@ abbrev pub weak_entry_at : Option Symbol → List (List ℕ × Bool)
 weak_entry_at None = []
 weak_entry_at (Some s) = weak_by_name s s.name
 
--- whether the symbol of a name is weak: of equal names that with the greatest index
+-- whether the symbol of a name is weak; of equal names the symbol with the greatest index counts
 abbrev pub weak_symbols : FinMap nat_cmp Symbol → FinMap text_cmp Bool
 weak_symbols symbols =
     put_all empty
@@ -170,7 +169,7 @@ abbrev pub readable_or_fault : ℕ → Result (List ℕ) BtfError → Result (Li
 readable_or_fault offset (Ok name) = Ok name
 readable_or_fault offset (Err e) = Err (UnreadableName offset)
 
--- `CONFIG_` for what the configuration says, `LINUX_` for what a loader knows
+-- `CONFIG_` for values of the configuration, `LINUX_` for values that a loader knows
 abbrev pub is_kconfig_name : List ℕ → Bool
 is_kconfig_name name =
     starts_with nat_eq name (codes "CONFIG_") || starts_with nat_eq name (codes "LINUX_")

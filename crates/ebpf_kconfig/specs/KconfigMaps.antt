@@ -32,8 +32,8 @@ use Rattle.ebpf_kconfig.specs.declared.error.KconfigError.{KconfigError}
 use Rattle.ebpf_kconfig.specs.declared.error.KconfigError.TheVariants.{NoValue, WrongSize, TooLarge}
 use Rattle.ebpf_kconfig.specs.declared.externs.KconfigExtern.{KconfigExtern}
 
--- ---- where the externs that the kernel's configuration gives stand in the value of the map
--- `.kconfig` (libbpf 1.5, libbpf.c: cmp_externs, bpf_object__collect_externs).
+-- ---- the offsets of the kconfig externs in the value of the map `.kconfig`
+-- (libbpf 1.5, libbpf.c: cmp_externs, bpf_object__collect_externs).
 
 abbrev pub alignment_of : KconfigExtern → ℕ
 alignment_of e = kconfig_alignment e.kind
@@ -43,7 +43,7 @@ extern_size e = kconfig_size e.kind
 
 -- ---- order
 
--- externs by their names, of equal names the last
+-- externs by name; of equal names the last
 abbrev pub ExternsByName : Type 0
 ExternsByName = FinMap text_cmp KconfigExtern
 
@@ -67,7 +67,7 @@ laid_out externs = flat_map (λ group. group_externs group.1) (entries (extern_g
 
 -- ---- offsets
 
--- the first offset from one on that an alignment divides
+-- the first multiple of an alignment from an offset on
 abbrev pub rounded_up : ℕ → ℕ → ℕ
 rounded_up offset alignment = (offset + (alignment - 1)) / alignment * alignment
 
@@ -78,7 +78,7 @@ extern_offset end e = rounded_up end (alignment_of e)
 abbrev pub extern_end : ℕ → KconfigExtern → ℕ
 extern_end end e = extern_offset end e + extern_size e
 
--- the offsets by name of externs that stand in a row
+-- the offsets, by name, of consecutive externs
 abbrev pub extern_offsets : ℕ → List KconfigExtern → List (List ℕ × ℕ)
 extern_offsets end [] = []
 extern_offsets end (e ∷ es) = (e.name, extern_offset end e) ∷ extern_offsets (extern_end end e) es
@@ -107,11 +107,11 @@ size_fault_from end (e ∷ es) =
 abbrev pub KconfigValues : Type 0
 KconfigValues = FinMap text_cmp (List ℕ)
 
--- the value of an extern: zeros where none is given
+-- the value of an extern: zeros if none is given
 abbrev pub value_or_zeros : KconfigValues → KconfigExtern → List ℕ
 value_or_zeros values e = unwrap_or (get values e.name) (replicate (extern_size e) 0)
 
--- the bytes of externs that stand in a row, each behind zeros up to its offset
+-- the bytes of consecutive externs, each behind zeros up to its offset
 abbrev pub bytes_from : KconfigValues → ℕ → List KconfigExtern → List ℕ
 bytes_from values end [] = []
 bytes_from values end (e ∷ es) =
@@ -132,12 +132,12 @@ given_fault e (Some bytes) =
 abbrev pub value_fault : KconfigValues → KconfigExtern → Option KconfigError
 value_fault values e = given_fault e (get values e.name)
 
--- the faults of values in the order of the externs, then that of their size
+-- the faults of values in the order of the externs, then the fault of their size
 unfoldable pub values_fault : KconfigValues → List KconfigExtern → Option KconfigError
 values_fault values externs =
     or_else (first_some (value_fault values) externs) (size_fault_from 0 (laid_out externs))
 
--- ---- the map `.kconfig`, and the symbols that stand in it (libbpf 1.5, libbpf.c:
+-- ---- the map `.kconfig`, and the symbols in it (libbpf 1.5, libbpf.c:
 -- bpf_object__init_kconfig_map).
 
 -- ---- the map
@@ -166,7 +166,7 @@ kconfig_map size bytes = Legacy (record {
 abbrev pub externs_map : KconfigValues → List KconfigExtern → Map
 externs_map values externs = kconfig_map (kconfig_value_size externs) (kconfig_bytes values externs)
 
--- where there are none there is no map
+-- without externs there is no map
 abbrev pub with_kconfig_map : KconfigValues → List KconfigExtern → FinMap text_cmp Map
     → FinMap text_cmp Map
 with_kconfig_map values externs maps =
@@ -174,8 +174,8 @@ with_kconfig_map values externs maps =
 
 -- ---- symbols
 
--- an extern's symbol stands in the map at its offset: the index of the map's section is 0, that of
--- no section (SHN_UNDEF)
+-- the symbol of an extern is in the map at its offset: the index of the map's section is 0, which
+-- is no section (SHN_UNDEF)
 abbrev pub defined_at : Symbol → Option ℕ → Symbol
 defined_at s None = s
 defined_at s (Some offset) =
@@ -197,9 +197,9 @@ kconfig_fault types symbols values =
     or_else (kconfig_externs_fault types symbols)
     (values_fault values (kconfig_externs types symbols))
 
--- ---- what holds of the map's data, and of an object that is prepared once values are set
+-- ---- theorems about the map's data, and about an object prepared after values are set
 
--- where no value has a fault, the data are as long as the map's value
+-- if no value has a fault, the data are as long as the map's value
 abbrev pub DataIsValueSized : Type 0
 DataIsValueSized =
     (values : KconfigValues) (externs : List KconfigExtern) → values_fault values externs ≡ None
@@ -222,14 +222,14 @@ passes_made {steps} stages = record {
   calls = if steps.calls then Some (has_function_in stages.unlinked.functions) else None;
 }
 
--- What all stages leave of an object is finished, whatever was set on the object before: values of
--- variables, sizes of maps, values of the kernel's configuration.
+-- The object after all stages is finished, for any values of variables, sizes of maps and values of
+-- the kernel's configuration that were set before.
 abbrev pub PreparedIsFinished : Type 0
 PreparedIsFinished =
     (steps : Chosen) (lines : Source) (o after : Object) (stages : Stages steps lines o after)
     → IsFinished (passes_made stages) o after
 
--- ---- what contracts of private functions name and no public one
+-- ---- definitions for contracts of private functions alone
 
 abbrev pub defined_in : FinMap text_cmp ℕ → FinMap nat_cmp Symbol → ℕ → Option Symbol
     → FinMap nat_cmp Symbol

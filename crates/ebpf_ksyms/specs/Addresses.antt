@@ -73,7 +73,7 @@ hexadecimal_number digits =
     then Some (digits_value 16 digits)
     else None
 
--- the address that a word states; a plus may stand first
+-- the address that a word states, with or without a plus before it
 unfoldable pub stated_address : List ℕ → Option ℕ
 stated_address word = hexadecimal_number (without_leading_plus word)
 

@@ -1,4 +1,4 @@
--- Resolution of externs: each extern gets the id of the kernel's type that it stands for, or the
+-- Resolution of externs: each extern gets the id of the kernel's type of its name, or the
 -- address of its name, or the first refusal is the error. `IsResolved` relates the externs before
 -- and after, and `IsResolutionFault` is the first refusal.
 use Rattle.std.specs.FinMap.{FinMap, entries, from_sorted}

@@ -177,7 +177,7 @@ flattened (Some o) = o
 abbrev pub known_at : KnownAddresses → List ℕ → Option ℕ
 known_at known name = flattened (known name)
 
--- what stands at an extern, and why it is refused
+-- the value of an extern, and the reason of its refusal
 abbrev pub typeless_as : (List ℕ → Option ℕ) → NamedExtern → ExternDesc
 typeless_as address e = if is_typeless e.1 then with_address e.1 (address e.0) else e.1
 
@@ -202,7 +202,7 @@ abbrev pub result_with_type : KernelIds → TypeInfo → Option TypeInfo → Nam
 result_with_type kernel_ids local kernel e =
     if is_typed e.1 then typed_result (outcome_by kernel_ids local kernel e) else Kept
 
--- what stands at an extern, and why it is refused
+-- the value of an extern, and the reason of its refusal
 abbrev pub typed_as : KernelIds → TypeInfo → Option TypeInfo → NamedExtern → ExternDesc
 typed_as kernel_ids local kernel e =
     with_result e.1 (result_with_type kernel_ids local kernel e)

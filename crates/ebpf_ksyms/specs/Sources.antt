@@ -21,7 +21,7 @@ use Rattle.ebpf_ksyms.specs.declared.error.KsymsError.TheVariants.{KallsymsAcces
 -- Resolution with the lines of a reader. `known` are the reader's bytes, where they are known; of
 -- other readers all is stated but which lines came.
 
--- what stands after some lines
+-- the state after some lines
 abbrev pub after_lines : List ℕ → List (List ℕ) → List ℕ
 after_lines bytes [] = bytes
 after_lines bytes (line ∷ lines) = after_lines (drop_through 10 bytes) lines

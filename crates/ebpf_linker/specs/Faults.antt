@@ -72,7 +72,7 @@ module _ {K E : Type 0} where
   abbrev pub append_fault : Functions K E → K → ℕ → Option E
   append_fault F k base = content_fault (content_at F k) base (F.too_long k) (F.stray_line k)
 
-  -- b is the number of slots of the program p and of the functions whose key path is before this one
+  -- b is the number of slots of the program and of the functions whose key path is before this one
   pub record Base (F : Functions K E) (R : References K E) (p : K) (path : List ℕ) (b : ℕ)
       : Type 0 where
     pub earlier : List K

@@ -60,7 +60,7 @@ pub data SlotReference (K E : Type 0) : Type 0 where
 abbrev pub References : Type 0 → Type 0 → Type 0
 References K E = K → ℕ → SlotReference K E
 
--- a function: its slots, and the func info and line info that stand in it
+-- a function: its slots, and its func info and line info
 pub record FunctionContent : Type 0 where
   pub slots : List bpf_insn
   pub func_info : List bpf_func_info
@@ -94,7 +94,7 @@ module _ {K : Type 0} where
   last_key_or from (k ∷ ks) = last_key_or k ks
 
 module _ {K E : Type 0} where
-  -- what stands at a key, nothing where no function does
+  -- the function at a key, or an empty one
   abbrev pub content_at : Functions K E → K → FunctionContent
   content_at F k = or_empty (F.content k)
 

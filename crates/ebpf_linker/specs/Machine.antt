@@ -141,7 +141,7 @@ module _ {K E : Type 0} where
       × ((run_steps (flat_code out) n (begin (pos 0) ds)).stop
       ≡ (run_steps (separate F) n (begin (p, pos 0) ds)).stop)
 
-  -- each reference of these functions stands on a pseudo call or a wide load
+  -- each reference of these functions is on a pseudo call or a wide load
   abbrev pub OnCallsOrLoads : Functions K E → List K → Type 0
   OnCallsOrLoads F ks =
       (k : K) (i : ℕ) (s : bpf_insn)

@@ -9,7 +9,7 @@
 use Rattle.std.specs.Prelude.{◌≡◌, ◌≢◌, ℕ, ◌<◌, ◌⊎◌, List, [], ◌∷◌, Some, slice_get}
 use Rattle.ebpf_linker.specs.Functions.{Faulty, References, Among, Distinct, Walk, last_key_or}
 
--- one list of numbers stands before another: at the first difference, or as a beginning
+-- one list of numbers is before another: less at the first difference, or a beginning of it
 abbrev pub Before : List ℕ → List ℕ → Type 0
 Before xs [] = ⊥
 Before [] (y ∷ ys) = Unit {0}
@@ -30,7 +30,7 @@ module _ {K E : Type 0} where
     pub least : (other : List ℕ) (others : List K) → Simple R p other others → other ≢ []
         → last_key_or p others ≡ k → Before other path → ⊥
 
-  -- each one has a key path, and the key path of an earlier one stands before that of a later one
+  -- each one has a key path, and the key path of an earlier one is before that of a later one
   abbrev pub InKeyPathOrder : References K E → K → List K → Type 0
   InKeyPathOrder R p ks =
       ((k : K) → Among ks k → (path : List ℕ) × KeyPath R p k path)

@@ -21,7 +21,7 @@ pub record IsOrder {K E : Type 0} (R : References K E) (p : K) (ks : List K) : T
   pub order : InKeyPathOrder R p ks
 
 -- the program p is linked with the functions ks: those that its references reach, in their order;
--- no fault stands
+-- there is no fault
 pub record IsLayout {K E : Type 0} (F : Functions K E) (p : K) (ks : List K) : Type 0 where
   pub order : IsOrder F.reference p ks
   pub functions : (k : K) → Among ks k → (c : FunctionContent) × (F.content k ≡ Some c)

@@ -19,7 +19,7 @@ use Rattle.ebpf_linker.specs.declared.search.Frame.{Frame}
 
 -- ---- what the search for functions answers
 
--- an order of functions for which no fault stands, with which the program is not too long
+-- an order of functions without a fault, with which the program is not too long
 pub record IsFound {K E : Type 0} (F : Functions K E) (R : References K E) (p : K) (ks : List K)
     : Type 0 where
   pub order : IsOrder R p ks

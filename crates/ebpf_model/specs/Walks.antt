@@ -55,7 +55,7 @@ left (Some e) ahead = e ∷ ahead_in ahead
 abbrev pub left_in : Walk → List (ℕ × ElfRelocation)
 left_in walk = left walk.next walk.ahead
 
--- the next one stands before the offset
+-- the next one is before the offset
 abbrev pub is_passed : Option (ℕ × ElfRelocation) → ℕ → Bool
 is_passed None offset = false
 is_passed (Some e) offset = nat_lt e.0 offset

@@ -48,12 +48,12 @@ use Rattle.ebpf_model.specs.declared.function.Function.{Function}
 
 -- ---- programs
 
--- what linking reads of an object as it stands when linking begins, where the sections of code are
+-- what linking reads of an object at the start of linking, where the sections of code are
 -- those of its functions
 abbrev pub linkable : Object → LinkableValue
 linkable o = linkable_of o (has_function_in o.functions)
 
--- the separate functions, as they stand when linking begins, and what their slots refer to
+-- the separate functions at the start of linking, and what their slots refer to
 abbrev pub separate_functions : LinkableValue → Functions FunctionKey RelocationError
 separate_functions parts = functions_of parts
 

@@ -44,7 +44,7 @@ ProgramsAreLinked parts programs after =
     ((g : Function) × (get after key ≡ Some g) × IsLinked parts key g)
     (get after key ≡ get parts.functions key)
 
--- what stands at a key where a function takes the place of the one there
+-- the function at a key, after a function is put at a key
 abbrev pub replaced : Option Function → Option Function → Option Function
 replaced None g = None
 replaced (Some f) None = Some f

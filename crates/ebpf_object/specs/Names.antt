@@ -16,7 +16,7 @@ abbrev pub name_in_file : List ℕ → ℕ → Option (List ℕ)
 name_in_file bytes index =
     option_and_then section_name (find (λ s. s.index == index) (sections bytes))
 
--- ---- the sections that functions stand in
+-- ---- the sections of functions
 
 -- whether a function's key is in a section
 abbrev pub has_function_in : FinMap key_cmp Function → TextSections

@@ -1,4 +1,4 @@
--- What stands of an object while passes go over it.
+-- The fields of an object that passes don't change.
 use Rattle.std.specs.Prelude.{◌≡◌}
 use Rattle.ebpf_object.specs.declared.object.Object.{Object}
 

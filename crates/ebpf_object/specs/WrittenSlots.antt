@@ -72,9 +72,9 @@ pub record AreRelocatedToTypes (o : Object) (target : TypeInfo)
   pub each : (key : FunctionKey)
       → get functions key ≡ with_slots (get slots key) (get o.functions key)
 
--- ---- what the CO-RE records of an object come to over the types of a kernel
+-- ---- the outcomes of the CO-RE records of an object over the types of a kernel
 
--- what the records come to, where there are types and records
+-- the outcomes of the records, if there are types and records
 abbrev pub outcomes_by : Object → TypeInfo → Option TypeInfo → Option ExtInfo → List RecordOutcome
 outcomes_by o target None ext = []
 outcomes_by o target (Some local) None = []

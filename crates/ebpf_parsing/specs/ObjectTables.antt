@@ -78,7 +78,7 @@ object_tables_of metadata infos bytes = record {
   section_infos = put_all infos (name_entries bytes);
 }
 
--- ---- sections of data with one name, of which the map of the last one stands
+-- ---- sections of data with one name, of which the map of the last one counts
 
 -- the map of a section of data, where it is the last of its name
 abbrev pub last_maps : FinMap text_cmp ℕ → SectionValue → List (List ℕ × Map)

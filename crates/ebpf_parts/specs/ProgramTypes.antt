@@ -482,12 +482,12 @@ xdp_attach_type DevMap = BPF_XDP_DEVMAP
 -- ---- what a loader does with a program, by the name of its section (libbpf's Program Types and
 -- ELF Sections). The table is that of the code, a row for each name; NamedKinds states its rows
 
--- what stands before an index, where there is one
+-- the text before an index, if there is one
 abbrev pub before : Option ℕ → List ℕ → List ℕ
 before None bytes = bytes
 before (Some index) bytes = take index bytes
 
--- the name of a row: what stands before the first space
+-- the name of a row: the text before the first space
 abbrev pub row_name : NamedKind → List ℕ
 row_name row = before (position (λ b. b == 32) row.padded_name) row.padded_name
 

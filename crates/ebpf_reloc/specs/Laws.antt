@@ -47,7 +47,7 @@ RefersToNothing parts key i slot =
     (slice_get (body (functions_of parts) key) i ≡ Some slot)
     × ((functions_of parts).reference key i ≡ Nothing)
 
--- such a slot of the program stands at its place in the linked program
+-- such a slot of the program is at its place in the linked program
 abbrev pub OwnSlotsStay : Type 0
 OwnSlotsStay =
     (parts : LinkableValue) (key : FunctionKey) (linked : Function) → IsLinked parts key linked
@@ -55,7 +55,7 @@ OwnSlotsStay =
     → RefersToNothing parts key i slot
     → slice_get linked.instructions i ≡ Some slot
 
--- such a slot of a function that the program reaches stands in each copy, at the base of the copy
+-- such a slot of a function that the program reaches is in each copy, at the base of the copy
 -- plus its number
 abbrev pub CopiedSlotsStay : Type 0
 CopiedSlotsStay =

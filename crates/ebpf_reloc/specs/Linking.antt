@@ -79,7 +79,7 @@ pub record IsLinked (parts : LinkableValue) (key : FunctionKey) (linked : Functi
   pub behaviour : OnCallsOrLoads (functions_of parts) (key ∷ order)
       → SameBehaviour (History FunctionKey) (functions_of parts) key order made.slots
 
--- why the program at a key can't be linked: no function stands there, or the least fault of its
+-- why the program at a key can't be linked: no function is there, or the least fault of its
 -- references
 abbrev pub IsProgramFault : LinkableValue → FunctionKey → RelocationError → Type 0
 IsProgramFault parts key e =

@@ -26,7 +26,7 @@ use Rattle.ebpf_reloc.specs.declared.named_slots.SlotNaming.TheVariants.{Maps, E
 
 -- ---- slots with names
 
--- the name that a relocation gives the slot at which it stands, where it gives one
+-- the name that a relocation gives its slot, if it gives one
 abbrev pub Naming : Type 0
 Naming = ElfRelocation → bpf_insn → Option (List ℕ)
 

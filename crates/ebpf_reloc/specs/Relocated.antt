@@ -89,7 +89,7 @@ abbrev pub edit_at : EditRule → SectionRelocations → ℕ → ℕ → ℕ →
 edit_at rule_edit section_relocations start count j slot =
     edit_by rule_edit (get section_relocations (start + 8 * j)) slot (nat_lt (j + 1) count)
 
--- the relocations of the section that a function stands in
+-- the relocations of a function's section
 abbrev pub relocations_of_section : Relocations → Function → SectionRelocations
 relocations_of_section relocations f = unwrap_or (get relocations f.section_index.0) empty
 
@@ -110,7 +110,7 @@ abbrev pub refused : ℕ × ElfRelocation → Result Edit SlotFault → Option S
 refused e (Ok edit) = None
 refused e (Err fault) = Some (record { offset = e.0; relocation = e.1; fault = fault })
 
--- of a relocation among the slots: it stands at the beginning of a slot, and the pass can apply it
+-- of a relocation among the slots: it is at the beginning of a slot, and the pass can apply it
 -- there
 abbrev pub refusal_among : EditRule → SectionRelocations → ℕ → List bpf_insn → ℕ × ElfRelocation
     → Option SlotRefusal
@@ -136,7 +136,7 @@ first_refusal rule_edit section_relocations f =
     first_some (refusal_at rule_edit section_relocations f.section_offset f.instructions)
     (entries section_relocations)
 
--- the number of a relocation: how many of the section stand before it
+-- the number of a relocation: how many of the section are before it
 abbrev pub number_of : SectionRelocations → ℕ → ℕ
 number_of section_relocations offset =
     count_by (λ e. nat_lt e.0 offset) (entries section_relocations)

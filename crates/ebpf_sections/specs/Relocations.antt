@@ -13,7 +13,7 @@ use Rattle.ebpf_elf.specs.Relocations.{relocation_size, relocation_at, entry_cou
 use Rattle.ebpf_elf.specs.Sections.{SectionOf, header}
 use Rattle.ebpf_elf.specs.declared.relocation.ElfRelocation.{ElfRelocation}
 
--- ---- where the entries of a section of relocations stand: the offset of the first, their size,
+-- ---- the places of the entries of a section of relocations: the offset of the first, their size,
 -- and their number
 
 abbrev pub entry_range_cmp : (ℕ × ℕ) × ℕ → (ℕ × ℕ) × ℕ → Ordering
@@ -76,7 +76,7 @@ AreOfOneFile tables = AreOf (file_of_tables tables) tables
 abbrev pub offset_of : ElfRelocation → ℕ × ElfRelocation
 offset_of r = (r.offset, r)
 
--- the later of two at one offset stands
+-- the later of two at one offset counts
 abbrev pub relocations_by_offset : List ElfRelocation → FinMap nat_cmp ElfRelocation
 relocations_by_offset relocations = put_all empty (map offset_of relocations)
 
