@@ -79,8 +79,8 @@ impl Object {
         Object::parse_as(alloc, bytes, ParseMode::Strict)
     }
 
-    /// The object that the bytes of an ELF64 file are by a parse mode. `Strict` is `parse`. `Lenient` reads what libbpf reads,
-    /// and differs from `parse` in this alone:
+    /// The object of an ELF64 file's bytes in a parse mode. `Strict` is `parse`. `Lenient` accepts more of the files that
+    /// libbpf accepts, and differs from `parse` in these points alone:
     ///
     /// - a section of code whose name says no kind has programs of the kind `ProgramSection::Other`; a name with `?`
     ///   before it has the kind of the rest;

@@ -10,16 +10,16 @@ use ebpf_core_relo::{RecordOutcomes, record_outcomes};
 use std::alloc::AllocError;
 
 impl Object {
-    /// What each CO-RE relocation of `.BTF.ext` comes to over a kernel whose types are `target`, section by section and
-    /// in order, also behind one that is refused, and the slots that they write, each over those before it. Of an object
-    /// without type information or without `.BTF.ext` there are none. The object stays.
+    /// The outcome of each CO-RE relocation of `.BTF.ext` over a kernel whose types are `target`, section by section and
+    /// in order, also behind a refused one, and the slots that they write, each over the slots of those before it. An
+    /// object without type information or without `.BTF.ext` has none. The object is unchanged.
     ///
-    /// Where none is refused, and each section that has relocations has some, `relocate_btf` writes these slots; else it
-    /// refuses with the first of the refusals.
+    /// If no relocation is refused and no section of relocations is missing, `relocate_btf` writes these slots. If one is
+    /// refused, `relocate_btf` refuses with the first refusal, unless a missing section without records comes before it.
     ///
     /// # Errors
     ///
-    /// `AllocError` where memory is refused, and no other.
+    /// `AllocError`: an allocation failed.
     pub fn record_outcomes(&self, target: &Btf) -> Result<RecordOutcomes, AllocError>
         ensures { IfOk result (λ outcomes. AreRecordOutcomes self.now target.now outcomes) }
     {

@@ -124,9 +124,9 @@ impl Object {
     /// # Errors
     ///
     /// The least fault of the first program by name that has one, with that name: `UnknownProgram` where it has no
-    /// function; else at the first slot in the order of the copies `UnsupportedTextSymbol`, `UnknownFunction`,
+    /// function; else, at the slot with the least path (depth first), `UnsupportedTextSymbol`, `UnknownFunction`,
     /// `FunctionInfoMismatch`, `ProgramTooLong` past 2,147,483,647 slots, `InvalidLineInfo`. `OutOfMemory`, with the
-    /// empty name, only where memory was refused. After a refusal the object is as it was.
+    /// empty name, only if an allocation failed. On error the object is unchanged.
     pub fn relocate_calls(
         &mut self,
         text_sections: &HashSet<usize>,

@@ -222,7 +222,7 @@ ModesAgree =
     → parse_fault bytes ≡ None
     → IsReadAlike bytes
 
--- lenient parsing refuses no file for a section's name
+-- lenient parsing refuses no file because a section's name says no program type
 abbrev pub LenientRefusesNoName : Type 0
 LenientRefusesNoName =
     (bytes name : List ℕ) → parse_fault_as Lenient bytes ≢ Some (InvalidProgramSection name)

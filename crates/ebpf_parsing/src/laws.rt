@@ -84,7 +84,8 @@ pub fn modes_agree()
     ensures { ModesAgree }
 {}
 
-/// Lenient parsing refuses no file for the name of a section.
+/// Lenient parsing refuses no file because a section's name says no program type. A name that is no UTF-8, or that
+/// passes its string table, is refused in both modes.
 pub fn lenient_refuses_no_name()
     ensures { LenientRefusesNoName }
 {}

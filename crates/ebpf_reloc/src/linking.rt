@@ -211,11 +211,11 @@ fn put(
 /// # Errors
 ///
 /// The least fault of the first program that has one, with that program's name. `UnknownProgram` where no
-/// function stands at its key; else, at the first slot in the order of the copies: `UnsupportedTextSymbol`
-/// where the slot's symbol names no function, `UnknownFunction` where none stands at the address,
-/// `FunctionInfoMismatch` where only one of it and the program has func info records, `ProgramTooLong`
-/// where with it there are more than 2,147,483,647 slots, `InvalidLineInfo` where its line info records can't
-/// be moved. `OutOfMemory`, with the empty name, only where memory was refused.
+/// function is at its key; else, at the slot with the least path (depth first): `UnsupportedTextSymbol` if the
+/// slot's symbol names no function, `UnknownFunction` if no function is at the address, `FunctionInfoMismatch` if
+/// only one of the function and the program has func info, `ProgramTooLong` if with the function there are more
+/// than 2,147,483,647 slots, `InvalidLineInfo` if its line info can't be moved. `OutOfMemory`, with the empty
+/// name, only if an allocation failed.
 pub fn relocate_calls(
     alloc: Global,
     programs: &[ProgramKey<'_>],
