@@ -1,3 +1,4 @@
+pub mod Kept
 pub mod OkPrepared
 pub mod SoFar
 pub mod Written

@@ -1,7 +1,7 @@
 -- An ok verdict, put together from what it says of passes, relocations and programs.
 use Rattle.std.proofs.Common.{◌≡◌, ◌∙◌, ap, subst, sym, refl, arith, ℕ, zero, suc, ◌+◌, ◌<◌, Bool, true, false, List, [], ◌∷◌, length, map, Option, Some, None, Ok, Err}
 use Rattle.std.specs.Prelude.{◌||◌, ◌&&◌, ◌==◌, not, is_some, MatchBool, slice_get, if◌then◌else◌, Result, option_map}
-use Rattle.std.proofs.lemmas.Bool.{MatchBool-at_true}
+use Rattle.std.proofs.lemmas.Bool.{MatchBool-at_true, eqb-true}
 use Rattle.std.specs.Cmp.{eq_by_cmp_equiv}
 use Rattle.std.specs.FinMap.{FinMap, get, insert, get-insert}
 use Rattle.std.specs.List.{filter_map, list_any, range_with_len, cons_option}
@@ -20,7 +20,6 @@ use Rattle.ebpf_core_relo.specs.declared.error.BtfRelocationError.{BtfRelocation
 use Rattle.ebpf_core_relo.specs.declared.outcomes.RecordOutcome.{RecordOutcome}
 use Rattle.ebpf_core_relo.specs.declared.outcomes.RecordResult.{RecordResult}
 use Rattle.ebpf_core_relo.specs.declared.outcomes.RecordResult.TheVariants.{Value, Absent, Refused}
-use Rattle.ebpf_ksyms.specs.Sources.{Text}
 use Rattle.ebpf_model.specs.Symbols.{FunctionKey}
 use Rattle.ebpf_model.specs.declared.function.Function.{Function}
 use Rattle.ebpf_object.proofs.Staging.{after_calls}
@@ -40,7 +39,7 @@ use Rattle.ebpf_verdict.proofs.SoFar.{within}
 use Rattle.ebpf_verdict.specs.Causes.{map_cause, slot_cause}
 use Rattle.ebpf_verdict.specs.Reasons.{cause_if_reached, cause_of, is_reached, reason_at, reasons_of}
 use Rattle.ebpf_verdict.specs.Verdicts.{AreVerdicts, IsCode, IsJudged, IsVerdict, OkIsPrepared, Runs, RunsPrepared, code_is_ok, has_empty_part, has_empty_section, is_ok, is_refused, is_refused_result, map_types}
-use Rattle.ebpf_verdict.specs.Writing.{IsWritten, IsWrittenOver, all_passes, own_descriptors}
+use Rattle.ebpf_verdict.specs.Writing.{IsWritten, IsWrittenOver, all_passes, no_symbols, own_descriptors}
 use Rattle.ebpf_verdict.specs.declared.cause.Cause.{Cause}
 use Rattle.ebpf_verdict.specs.declared.cause.Cause.TheVariants.{Poisoned}
 use Rattle.ebpf_verdict.specs.declared.programs.JudgedProgram.{JudgedProgram}
@@ -74,7 +73,7 @@ none_of (Some x) h = cc
 
 nil_of : {A : Type 0} (xs : List A) → (length xs == 0) ≡ true → xs ≡ []
 nil_of [] h = refl
-nil_of (x ∷ xs) h = cc
+nil_of (x ∷ xs) h = let e : length (x ∷ xs) ≡ 0 = eqb-true (length (x ∷ xs)) 0 h in absurd (omega arith)
 
 -- ---- lists
 
@@ -92,6 +91,9 @@ range_at a (suc n) zero h = let e : a ≡ a + 0 = omega arith in ap Some e
 range_at a (suc n) (suc i) h =
     let e : (a + 1) + i ≡ a + suc i = omega arith in
     range_at (a + 1) n i (omega (arith, h)) ∙ ap Some e
+
+range_from_zero : (n i : ℕ) → i < n → slice_get (range_with_len 0 n) i ≡ Some i
+range_from_zero n i h = let e : 0 + i ≡ i = omega arith in range_at 0 n i h ∙ ap Some e
 
 module _ {A B : Type 0} (f : A → Option B) where
   first_none : (o : Option B) (rest : List B) → cons_option o rest ≡ [] → (o ≡ None) × (rest ≡ [])
@@ -116,18 +118,18 @@ else_none (Some x) p h = cc
 module _ (kernel : TypeInfo) (maps : List ℕ) (reached : List Bool) (slots : List bpf_insn) (none : reasons_of kernel maps reached slots ≡ []) (i : ℕ) (slot : bpf_insn) (at : slice_get slots i ≡ Some slot) where
   no_cause : cause_of kernel maps (is_reached reached i) slot ≡ None
   no_cause =
-      let place : slice_get (range_with_len 0 (length slots)) i ≡ Some i = range_at 0 (length slots) i (within slots i slot at) in
+      let place : slice_get (range_with_len 0 (length slots)) i ≡ Some i = range_from_zero (length slots) i (within slots i slot at) in
       let no_reason : reason_at kernel maps reached slots i ≡ None = filtered_none (reason_at kernel maps reached slots) (range_with_len 0 (length slots)) none i i place in
       mapped_none (λ cause. record { slot = i; cause = cause }) (cause_of kernel maps (is_reached reached i) slot)
       (sym (ap (option_and_then (λ s. option_map (λ cause. record { slot = i; cause = cause }) (cause_of kernel maps (is_reached reached i) s))) at) ∙ no_reason)
 
   no_map_cause : map_cause kernel maps slot ≡ None
-  no_map_cause = (else_none (map_cause kernel maps slot) (cause_if_reached kernel maps (is_reached reached i) slot) no_cause).0
+  no_map_cause = (else_none (map_cause kernel maps slot) (cause_if_reached kernel (is_reached reached i) slot) no_cause).0
 
   no_slot_cause : is_reached reached i ≡ true → slot_cause kernel slot ≡ None
   no_slot_cause on =
-      sym (ap (λ b. cause_if_reached kernel maps b slot) on)
-      ∙ (else_none (map_cause kernel maps slot) (cause_if_reached kernel maps (is_reached reached i) slot) no_cause).1
+      sym (ap (λ b. cause_if_reached kernel b slot) on)
+      ∙ (else_none (map_cause kernel maps slot) (cause_if_reached kernel (is_reached reached i) slot) no_cause).1
 
   not_poisoned : is_reached reached i ≡ true → is_poisoned slot ≡ false
   not_poisoned on = step (is_poisoned slot) _ (no_slot_cause on)
@@ -236,12 +238,12 @@ module _ (o : Object) (kernel : TypeInfo) (slots : Written) (unlinked : Object) 
       ∙ ap (λ (x : Object). x.programs) w.passes.maps
       ∙ ap (λ (x : Object). x.programs) w.slots_put.others_stay
 
-  staged : (m : FinMap key_cmp Function) → ProgramsAreLinked (linkable_of unlinked (has_function_in unlinked.functions)) (programs_in_order o.programs) m → Stages (all_passes kernel o) (Text []) o (record unlinked { functions = m })
+  staged : (m : FinMap key_cmp Function) → ProgramsAreLinked (linkable_of unlinked (has_function_in unlinked.functions)) (programs_in_order o.programs) m → Stages (all_passes kernel o) no_symbols o (record unlinked { functions = m })
   staged m linked =
-      after_calls (all_passes kernel o) (Text []) o w.relocated types
+      after_calls (all_passes kernel o) no_symbols o w.given w.relocated types
       (sym (ap (λ ds. fds_fault (Some ds) w.relocated) own) ∙ w.passes.maps_sound)
       w.passes.fds_written (w.passes.maps ∙ ap (λ ds. stage.fds_written (Some ds) w.relocated) own)
-      w.passes.resolved w.passes.resolution w.passes.externs_sound unlinked w.passes.externs
+      w.passes.resolved w.passes.resolution w.passes.externs_sound unlinked w.passes.externs w.passes.complete
       (record unlinked { functions = m })
       (subst (λ ps. ProgramsAreLinked (linkable_of unlinked (has_function_in unlinked.functions)) (programs_in_order ps) m) (sym same_programs) linked, refl)
 

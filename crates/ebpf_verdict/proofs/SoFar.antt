@@ -1,5 +1,5 @@
 -- The programs that are judged so far, position by position.
-use Rattle.std.proofs.Common.{◌≡◌, ◌∙◌, ap, sym, refl, arith, ℕ, zero, suc, ◌+◌, ◌<◌, ◌≤◌, List, [], ◌∷◌, ◌++◌, length, Some, subst, ⊎_elim}
+use Rattle.std.proofs.Common.{◌≡◌, ◌∙◌, ap, sym, refl, arith, ℕ, zero, suc, ◌+◌, ◌<◌, ◌≤◌, List, [], ◌∷◌, ◌++◌, length, Some, subst, ⊎_elim, length-append}
 use Rattle.std.specs.Prelude.{slice_get, slice_index_or}
 use Rattle.std.proofs.lemmas.Bool.{cases_lt}
 use Rattle.std.proofs.lemmas.Option.{get_or_from_slice_get}
@@ -17,8 +17,7 @@ get_kept (x ∷ xs) y zero h = refl
 get_kept (x ∷ xs) y (suc i) h = get_kept xs y i (omega (arith, h))
 
 length_more : {A : Type 0} (xs : List A) (y : A) → length (xs ++ y ∷ []) ≡ length xs + 1
-length_more [] y = refl
-length_more (x ∷ xs) y = ap suc (length_more xs y)
+length_more xs y = length-append xs (y ∷ [])
 
 -- a place with an item is within the list
 pub within : {A : Type 0} (xs : List A) (i : ℕ) (x : A) → slice_get xs i ≡ Some x → i < length xs

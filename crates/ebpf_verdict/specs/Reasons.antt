@@ -14,14 +14,15 @@ use Rattle.ebpf_verdict.specs.declared.reasons.SlotReason.{SlotReason}
 abbrev pub is_reached : List Bool → ℕ → Bool
 is_reached reached i = unwrap_or (slice_get reached i) false
 
-module _ (kernel : TypeInfo) (map_types : List ℕ) where
-  -- a slot that isn't reached fails by no call
-  abbrev pub cause_if_reached : Bool → bpf_insn → Option Cause
-  cause_if_reached reached slot = if reached then slot_cause kernel slot else None
+-- a slot that isn't reached fails by no call
+abbrev pub cause_if_reached : TypeInfo → Bool → bpf_insn → Option Cause
+cause_if_reached kernel reached slot = if reached then slot_cause kernel slot else None
 
+module _ (kernel : TypeInfo) (map_types : List ℕ) where
   -- a slot fails by its map, reached or not, or else by its call where it is reached
   abbrev pub cause_of : Bool → bpf_insn → Option Cause
-  cause_of reached slot = or_else (map_cause kernel map_types slot) (cause_if_reached reached slot)
+  cause_of reached slot =
+      or_else (map_cause kernel map_types slot) (cause_if_reached kernel reached slot)
 
   -- the reason of the slot at a position, by which slots are reached
   abbrev pub reason_at : List Bool → List bpf_insn → ℕ → Option SlotReason

@@ -6,9 +6,9 @@ use Rattle.ebpf_load_info.specs.AttachTargets.{attach_target}
 use Rattle.ebpf_load_info.specs.declared.attach.AttachTarget.{AttachTarget}
 use Rattle.ebpf_load_info.specs.declared.attach.AttachTarget.TheVariants as attach
 use Rattle.ebpf_parts.specs.ProgramTypes.{without_mark}
-use Rattle.ebpf_verdict.specs.declared.target.Target.{Target}
-use Rattle.ebpf_verdict.specs.declared.target.Target.TheVariants.{Found, NotFound, NotAsked}
-use Rattle.ebpf_verdict.specs.declared.target.Target.TheVariants.{Replaces}
+use Rattle.ebpf_verdict.specs.declared.targets.Target.{Target}
+use Rattle.ebpf_verdict.specs.declared.targets.Target.TheVariants.{Found, NotFound, NotAsked}
+use Rattle.ebpf_verdict.specs.declared.targets.Target.TheVariants.{Replaces}
 
 -- whether the programs of a section replace those of another object, whose types are asked
 abbrev pub replaces : List ℕ → Bool

@@ -12,7 +12,6 @@ use Rattle.ebpf_core_relo.specs.declared.outcomes.RecordOutcome.{RecordOutcome}
 use Rattle.ebpf_core_relo.specs.declared.outcomes.RecordResult.{RecordResult}
 use Rattle.ebpf_core_relo.specs.declared.outcomes.RecordResult.TheVariants.{Value, Absent, Refused}
 use Rattle.ebpf_core_relo.specs.declared.outcomes.RecordSlot.{RecordSlot}
-use Rattle.ebpf_ksyms.specs.Sources.{Text}
 use Rattle.ebpf_model.specs.Symbols.{FunctionKey}
 use Rattle.ebpf_model.specs.declared.function.Function.{Function}
 use Rattle.ebpf_object.specs.LinkedPrograms.{linkable_of, programs_in_order}
@@ -32,7 +31,7 @@ use Rattle.ebpf_reloc.specs.SlotTargets.{LinkableValue}
 use Rattle.ebpf_reloc.specs.declared.link_map.CodeCopy.{CodeCopy}
 use Rattle.ebpf_verdict.specs.Causes.{slot_cause, map_cause}
 use Rattle.ebpf_verdict.specs.Reasons.{is_reached, reasons_of}
-use Rattle.ebpf_verdict.specs.Writing.{IsWrittenOver, all_passes}
+use Rattle.ebpf_verdict.specs.Writing.{IsWrittenOver, all_passes, no_symbols}
 use Rattle.ebpf_verdict.specs.declared.programs.JudgedProgram.{JudgedProgram}
 use Rattle.ebpf_verdict.specs.declared.programs.ProgramCode.{ProgramCode}
 use Rattle.ebpf_verdict.specs.declared.programs.ProgramCode.TheVariants as code
@@ -163,7 +162,7 @@ pub record Runs (kernel : TypeInfo) (maps : List ℕ) (slots : List bpf_insn) : 
 -- and without any symbols of the kernel; and each of its programs, as it is then, runs.
 pub record RunsPrepared (o : Object) (kernel : TypeInfo) : Type 0 where
   pub after : Object
-  pub stages : Stages (all_passes kernel o) (Text []) o after
+  pub stages : Stages (all_passes kernel o) no_symbols o after
   pub programs : (i : ℕ) (program : ProgramValue)
       → slice_get (programs_in_order o.programs) i ≡ Some program
       → (f : Function)

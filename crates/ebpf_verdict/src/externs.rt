@@ -1,8 +1,8 @@
 //! The externs of an object that a kernel lacks.
 
 ghost use Rattle.std.specs.Prelude.{◌≡◌, ◌<◌, [], IfOk, Some, length};
-ghost use Rattle.ebpf_ksyms.specs.Sources.{Text};
 ghost use Rattle.ebpf_object.specs.Stages.{Resolves};
+ghost use Rattle.ebpf_verdict.specs.Writing.{no_symbols};
 
 use ebpf_base::{ByName, Items, Text};
 use ebpf_btf::Btf;
@@ -144,9 +144,8 @@ pub fn resolve(
     object: &mut Object,
     kernel: &Btf,
 ) -> Result<Items<LackingExtern>, AllocError>
-    ensures { IfOk result (λ lacking.
-        lacking ≡ []
-        → Resolves (Some (Some kernel.now)) (Text []) object.old object.new) }
+    ensures { IfOk result (λ none.
+        none ≡ [] → Resolves (Some (Some kernel.now)) no_symbols object.old object.new) }
 {
     match object.resolve_text(Some(kernel), &[]) {
         Ok(()) => Ok(Items::new(alloc)),

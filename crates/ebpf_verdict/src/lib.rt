@@ -6,7 +6,7 @@ mod externs;
 pub mod laws;
 mod programs;
 mod reasons;
-mod target;
+mod targets;
 mod verdict;
 mod writing;
 
@@ -14,5 +14,5 @@ pub use cause::Cause;
 pub use externs::LackingExtern;
 pub use programs::{JudgedProgram, ProgramCode, ProgramVerdict};
 pub use reasons::SlotReason;
-pub use target::{Target, find_target};
+pub use targets::{Target, find_target};
 pub use verdict::{Verdict, judge};

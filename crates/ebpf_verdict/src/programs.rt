@@ -103,7 +103,7 @@ fn refused_at(copies: &[CodeCopy], records: &[RecordOutcome], number: usize) -> 
 }
 
 /// The positions of the CO-RE relocations of a program's copies that are refused.
-#[tactic(auto, using(ebpf_base::proofs::Lists::range_more))]
+#[tactic(auto, using(crate::proofs::Kept::one_kept, crate::proofs::Kept::none_kept))]
 fn refused_in(
     alloc: Global,
     copies: &[CodeCopy],

@@ -76,7 +76,7 @@ fn reason_at(
 }
 
 /// The reasons of a program's slots, in their order.
-#[tactic(auto, using(ebpf_base::proofs::Lists::range_more))]
+#[tactic(auto, using(crate::proofs::Kept::one_kept, crate::proofs::Kept::none_kept))]
 pub fn reasons_of(
     alloc: Global,
     numbers: &Numbers<'_>,

@@ -1,7 +1,7 @@
 //! An object, written for a kernel up to the linking of its programs.
 
-ghost use Rattle.std.specs.Prelude.{◌≡◌, [], Err, IfOk, OnOk, Some, None};
-ghost use Rattle.ebpf_object.specs.Stages.{fds_fault, fds_written};
+ghost use Rattle.std.specs.Prelude.{◌≡◌, [], Err, IfOk, OnOk, Some, None, true};
+ghost use Rattle.ebpf_object.specs.Stages.{fds_fault, fds_written, given_fault, unwritten_fault};
 ghost use Rattle.ebpf_object.specs.WrittenSlots.{externs_fault, with_externs};
 ghost use Rattle.ebpf_verdict.specs.Writing.{HasSlots, IsWritten, IsWrittenAs, own_descriptors};
 
@@ -11,7 +11,9 @@ use ebpf_btf::Btf;
 use ebpf_core_relo::put_slots;
 use ebpf_model::{EbpfRelocationError, RelocationError};
 use ebpf_object::Object;
-use ebpf_object::prepare::{PrepareError, numbered_descriptors, relocate_own_maps};
+use ebpf_object::prepare::{
+    PrepareError, check_descriptors, check_externs, numbered_descriptors, relocate_own_maps,
+};
 use ebpf_parts::insn::bpf_insn;
 use std::alloc::{AllocError, Global};
 
@@ -34,6 +36,16 @@ fn with_slots(object: &Object, written: ByKey<Items<bpf_insn>>) -> Result<Object
     Ok(copy)
 }
 
+/// Refuses an object with a slot whose own map has none of the descriptors 1, 2, .. of the object's own maps.
+fn check_maps(alloc: Global, object: &Object) -> Result<(), PrepareError>
+    ensures { OnOk result
+        (given_fault (Some (own_descriptors object.now)) true object.now ≡ None) }
+{
+    let names = object.map_names(alloc)?;
+    let descriptors = numbered_descriptors(alloc, names.as_slice())?;
+    check_descriptors(object, Some(&descriptors), true)
+}
+
 /// Writes the descriptors 1, 2, .. of the object's own maps, in byte order of their names.
 fn write_maps(alloc: Global, object: &mut Object) -> Result<(), PrepareError>
     ensures written { OnOk result
@@ -47,7 +59,7 @@ fn write_maps(alloc: Global, object: &mut Object) -> Result<(), PrepareError>
 }
 
 /// Writes the externs.
-fn write_externs(object: &mut Object) -> Result<(), PrepareError>
+fn relocate_externs(object: &mut Object) -> Result<(), PrepareError>
     ensures written { OnOk result (object.new ≡ with_externs object.old) }
     ensures sound { OnOk result (externs_fault object.old ≡ None) }
 {
@@ -55,6 +67,16 @@ fn write_externs(object: &mut Object) -> Result<(), PrepareError>
         Ok(()) => Ok(()),
         Err(error) => Err(PrepareError::Externs(error)),
     }
+}
+
+/// Writes the externs. A call of one that is left unwritten is refused.
+fn write_externs(object: &mut Object) -> Result<(), PrepareError>
+    ensures written { OnOk result (object.new ≡ with_externs object.old) }
+    ensures sound { OnOk result (externs_fault object.old ≡ None) }
+    ensures complete { OnOk result (unwritten_fault true true object.new ≡ None) }
+{
+    relocate_externs(object)?;
+    check_externs(object, true, true)
 }
 
 /// Writes descriptors and externs into an object whose functions are relocated to a kernel's types. The externs that the
@@ -72,6 +94,23 @@ fn write_passes(
     let lacking = resolve(alloc, object, kernel)?;
     write_externs(object)?;
     Ok(lacking)
+}
+
+/// Writes descriptors and externs into a copy of an object whose functions are relocated to a kernel's types, as
+/// `write_passes` does, where each slot's own map has a descriptor.
+fn write_complete(
+    alloc: Global,
+    object: &Object,
+    copy: &mut Object,
+    kernel: &Btf,
+) -> Result<Items<LackingExtern>, PrepareError>
+    ensures given { IfOk result (λ lacking.
+        given_fault (Some (own_descriptors object.now)) true object.now ≡ None) }
+    ensures written { IfOk result (λ lacking.
+        lacking ≡ [] → IsWritten kernel.now copy.old copy.new) }
+{
+    check_maps(alloc, object)?;
+    write_passes(alloc, copy, kernel)
 }
 
 /// Whether an allocation failed.
@@ -125,7 +164,7 @@ pub fn written_object(
     ensures { IfOk result (λ r. IsWrittenAs kernel.now slots object.now r) }
 {
     let mut copy = with_slots(object, slots)?;
-    match write_passes(alloc, &mut copy, kernel) {
+    match write_complete(alloc, object, &mut copy, kernel) {
         Ok(lacking) => Ok(Ok(WrittenObject {
             object: copy,
             lacking,
