@@ -11,11 +11,11 @@ with_lines : List bpf_line_info → FunctionContent
 with_lines lines = record { slots = []; func_info = []; line_info = lines }
 
 -- the error 1 is of the length, the error 2 of the line records
-fault_of_example : content_fault (with_lines (line_at 8 ∷ line_at 5 ∷ [])) 0 1 2 ≡ Some 2
+fault_of_example : content_fault {E = ℕ} (with_lines (line_at 8 ∷ line_at 5 ∷ [])) 0 1 2 ≡ Some 2
 unfolding line_at with_lines
 fault_of_example = refl
 
 -- in their order, both lines move with the copy
-no_fault_of_example : content_fault (with_lines (line_at 5 ∷ line_at 8 ∷ [])) 100 1 2 ≡ None
+no_fault_of_example : content_fault {E = ℕ} (with_lines (line_at 5 ∷ line_at 8 ∷ [])) 100 1 2 ≡ None
 unfolding line_at with_lines
 no_fault_of_example = refl
