@@ -7,5 +7,6 @@ mod judging;
 pub mod loaded;
 mod own_values;
 mod slots;
+mod whole_object;
 
 pub use judging::{Fate, judge_kernel};

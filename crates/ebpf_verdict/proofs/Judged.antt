@@ -52,8 +52,8 @@ module _ (o : Object) (kernel : TypeInfo) (records : List RecordOutcome) (flag :
     records = outcomes;
     sections = empty;
     unlinked = o;
-    written = λ none. absurd (clash none);
-    programs = λ none. absurd (clash none);
+    written = λ unrefused. absurd (clash unrefused);
+    programs = λ unrefused. absurd (clash unrefused);
   }
     where
       clash : Some e ≡ None → ⊥
@@ -67,8 +67,8 @@ module _ (o : Object) (kernel : TypeInfo) (records : List RecordOutcome) (flag :
     records = outcomes;
     sections = empty;
     unlinked = unlinked;
-    written = λ none. written;
-    programs = λ none. judged;
+    written = λ unrefused. written;
+    programs = λ unrefused. judged;
   }
 
   -- the same, by what the programs come to

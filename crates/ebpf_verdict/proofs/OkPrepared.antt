@@ -115,11 +115,11 @@ else_none : {A : Type 0} (o p : Option A) → or_else o p ≡ None → (o ≡ No
 else_none None p h = (refl, h)
 else_none (Some x) p h = cc
 
-module _ (kernel : TypeInfo) (maps : List ℕ) (reached : List Bool) (slots : List bpf_insn) (none : reasons_of kernel maps reached slots ≡ []) (i : ℕ) (slot : bpf_insn) (at : slice_get slots i ≡ Some slot) where
+module _ (kernel : TypeInfo) (maps : List ℕ) (reached : List Bool) (slots : List bpf_insn) (no_reasons : reasons_of kernel maps reached slots ≡ []) (i : ℕ) (slot : bpf_insn) (at : slice_get slots i ≡ Some slot) where
   no_cause : cause_of kernel maps (is_reached reached i) slot ≡ None
   no_cause =
       let place : slice_get (range_with_len 0 (length slots)) i ≡ Some i = range_from_zero (length slots) i (within slots i slot at) in
-      let no_reason : reason_at kernel maps reached slots i ≡ None = filtered_none (reason_at kernel maps reached slots) (range_with_len 0 (length slots)) none i i place in
+      let no_reason : reason_at kernel maps reached slots i ≡ None = filtered_none (reason_at kernel maps reached slots) (range_with_len 0 (length slots)) no_reasons i i place in
       mapped_none (λ cause. record { slot = i; cause = cause }) (cause_of kernel maps (is_reached reached i) slot)
       (sym (ap (option_and_then (λ s. option_map (λ cause. record { slot = i; cause = cause }) (cause_of kernel maps (is_reached reached i) s))) at) ∙ no_reason)
 
@@ -198,8 +198,8 @@ module _ (kernel : TypeInfo) (maps : List ℕ) (records : List RecordOutcome) (p
   judged_ok program (code.Refused e) is ok = cc
 
   runs : (key : FunctionKey) (j : JudgedProgram) → IsJudged kernel maps records parts key j → j.reasons ≡ [] → Runs kernel maps j.linked.function.instructions
-  runs key j is none =
-      let empty = sym is.reasons ∙ none in
+  runs key j is no_reasons =
+      let empty = sym is.reasons ∙ no_reasons in
       record {
         reached = j.reached;
         answer = is.reached;

@@ -144,8 +144,8 @@ pub fn resolve(
     object: &mut Object,
     kernel: &Btf,
 ) -> Result<Items<LackingExtern>, AllocError>
-    ensures { IfOk result (λ none.
-        none ≡ [] → Resolves (Some (Some kernel.now)) no_symbols object.old object.new) }
+    ensures { IfOk result (λ found.
+        found ≡ [] → Resolves (Some (Some kernel.now)) no_symbols object.old object.new) }
 {
     match object.resolve_text(Some(kernel), &[]) {
         Ok(()) => Ok(Items::new(alloc)),

@@ -35,7 +35,8 @@ pub struct Verdict {
     pub has_empty_section: bool,
     /// The externs that have to be there and that the kernel lacks, in byte order of their names.
     pub lacking: Items<LackingExtern>,
-    /// The refusal of the maps pass or of the externs pass, by which no program is linked.
+    /// The refusal of a pass before linking, by which no program is linked: a map without a descriptor, a descriptor or an
+    /// extern that can't be written, or a call of an extern that is left unwritten.
     pub refusal: Option<PrepareError>,
     /// The verdicts on the programs, in byte order of their names; none where a pass refuses the object.
     pub programs: Items<ProgramVerdict>,
@@ -214,10 +215,13 @@ fn finished(
     let has_empty_section = has_empty_section(object);
     match written {
         Ok(written) => {
-            let unlinked = written.object;
+            let WrittenObject {
+                object: unlinked,
+                lacking,
+            } = written;
             let judged = judge_programs(alloc, object, kernel, records.as_slice(), &unlinked);
             drop(unlinked);
-            with_programs(records, has_empty_section, written.lacking, judged)
+            with_programs(records, has_empty_section, lacking, judged)
         }
         Err(refusal) => Ok(Verdict {
             records,

@@ -214,14 +214,13 @@ impl Judge<'_> {
         }
     }
 
-    /// Notes the reasons of a program; whether it breaks.
+    /// Notes the reasons of a program; whether it breaks by one of them.
     fn note_program(&mut self, number: usize, name: &str) -> Result<bool, AllocError> {
         let answers = self.answers;
-        let verdict = answers.verdict;
-        match verdict_of(verdict, name) {
+        match verdict_of(answers.verdict, name) {
             Some(program) => {
                 self.note_code(number, name, &program.code)?;
-                Ok(!program.is_ok() || !verdict.lacking.is_empty())
+                Ok(!program.is_ok())
             }
             None => Ok(true),
         }
@@ -240,13 +239,14 @@ impl Judge<'_> {
         Ok(Fate::Runs)
     }
 
-    /// The fate of each program.
-    fn fates(&mut self) -> Result<Vec<Fate>, AllocError> {
+    /// The fate of each program; `is_refused` says that the object isn't loaded as a whole.
+    fn fates(&mut self, is_refused: bool) -> Result<Vec<Fate>, AllocError> {
         let answers = self.answers;
         let programs = &answers.loaded.needs.programs;
         let mut all = Vec::with_capacity(self.alloc, programs.len())?;
         for (number, program) in programs.iter().enumerate() {
-            all.push(self.fate_of(number, program)?)?;
+            let fate = self.fate_of(number, program)?;
+            all.push(if is_refused { Fate::Breaks } else { fate })?;
         }
         Ok(all)
     }
@@ -263,11 +263,13 @@ impl Judge<'_> {
     /// The fate of each program by the verdict.
     fn judge_all(&mut self) -> Result<Vec<Fate>, AllocError> {
         let answers = self.answers;
+        let verdict = answers.verdict;
         self.note_lacking()?;
-        match &answers.verdict.refusal {
-            Some(error) => self.note_unwritten(error),
-            None => self.fates(),
+        if let Some(error) = &verdict.refusal {
+            return self.note_unwritten(error);
         }
+        let is_refused = self.note_whole()?;
+        self.fates(is_refused || !verdict.lacking.is_empty())
     }
 }
 
