@@ -21,11 +21,11 @@ use Rattle.ebpf_model.specs.Symbols.{FunctionKey}
 use Rattle.ebpf_model.specs.declared.error.EbpfRelocationError.{EbpfRelocationError}
 use Rattle.ebpf_object.specs.declared.prepare_error.PrepareError.TheVariants.{Calls}
 use Rattle.ebpf_verdict.specs.Reasons.{reasons_of}
-use Rattle.ebpf_verdict.specs.Verdicts.{AreVerdicts, IsCode, IsJudged, IsVerdict, has_empty_section, map_types, refused_in}
+use Rattle.ebpf_verdict.specs.Verdicts.{AreVerdicts, IsCode, IsJudged, IsProgramVerdict, IsVerdict, has_empty_section, map_types, refused_in}
 use Rattle.ebpf_verdict.specs.declared.programs.ProgramCode.{ProgramCode}
 use Rattle.ebpf_verdict.specs.declared.programs.ProgramCode.TheVariants as code
 use Rattle.ebpf_verdict.specs.declared.reasons.SlotReason.{SlotReason}
-use Rattle.ebpf_verdict.specs.Writing.{IsWrittenOver}
+use Rattle.ebpf_verdict.specs.Writing.{IsWrittenAs, IsWrittenOver}
 use Rattle.ebpf_verdict.specs.declared.externs.LackingExtern.{LackingExtern}
 use Rattle.ebpf_verdict.specs.declared.programs.ProgramVerdict.{ProgramVerdict}
 use Rattle.ebpf_verdict.specs.declared.verdict.Verdict.{Verdict}
@@ -42,12 +42,15 @@ module _ (kernel : TypeInfo) (maps : List ℕ) (records : List RecordOutcome) (p
   refused_code program error c fault is =
       subst (λ (x : ProgramCode). IsCode kernel maps records parts program x) (sym is.0) (error, refl, MatchBool-at_false _ _ is.1 fault)
 
+  pub is_verdict : (program : ProgramValue) (name : List ℕ) (c : ProgramCode) → name ≡ program.name → IsCode kernel maps records parts program c → IsProgramVerdict kernel maps records parts program (record { name = name; code = c })
+  is_verdict program name c named outcome = record { named = named; outcome = outcome }
+
 -- ---- an object
 
-module _ (o : Object) (kernel : TypeInfo) (records : List RecordOutcome) (flag : Bool) (lacking : List LackingExtern) (programs : List ProgramVerdict) (slots : Written) (empty : flag ≡ has_empty_section o.btf_ext) (outcomes : AreRecordOutcomes o kernel (record { records = records; written = slots })) where
+module _ (o : Object) (kernel : TypeInfo) (records : List RecordOutcome) (flag : Bool) (slots : Written) (empty : flag ≡ has_empty_section o.btf_ext) (outcomes : AreRecordOutcomes o kernel (record { records = records; written = slots })) where
   -- where a pass refuses it
-  pub of_refused : (e : PrepareError) → IsVerdict o kernel (record { records = records; has_empty_section = flag; lacking = lacking; refusal = Some e; programs = programs })
-  of_refused e = record {
+  pub of_refused : (lacking : List LackingExtern) (programs : List ProgramVerdict) (e : PrepareError) → IsVerdict o kernel (record { records = records; has_empty_section = flag; lacking = lacking; refusal = Some e; programs = programs })
+  of_refused lacking programs e = record {
     slots = slots;
     records = outcomes;
     sections = empty;
@@ -57,12 +60,13 @@ module _ (o : Object) (kernel : TypeInfo) (records : List RecordOutcome) (flag :
   }
     where
       clash : Some e ≡ None → ⊥
-      clash e = cc
+      clash h = cc
 
   -- where it was written
-  pub of_written : (unlinked : Object) → AreVerdicts kernel (map_types o) records (linkable_of unlinked (has_function_in unlinked.functions)) (programs_in_order o.programs) programs → (lacking ≡ [] → IsWrittenOver kernel slots o unlinked)
+  pub of_written : (lacking : List LackingExtern) (programs : List ProgramVerdict) (unlinked : Object)
+      → AreVerdicts kernel (map_types o) records (linkable_of unlinked (has_function_in unlinked.functions)) (programs_in_order o.programs) programs → (lacking ≡ [] → IsWrittenOver kernel slots o unlinked)
       → IsVerdict o kernel (record { records = records; has_empty_section = flag; lacking = lacking; refusal = None; programs = programs })
-  of_written unlinked judged written = record {
+  of_written lacking programs unlinked judged written = record {
     slots = slots;
     records = outcomes;
     sections = empty;
@@ -71,13 +75,25 @@ module _ (o : Object) (kernel : TypeInfo) (records : List RecordOutcome) (flag :
     programs = λ unrefused. judged;
   }
 
-  -- the same, by what the programs come to
-  pub of_programs : (unlinked : Object) (judged : Result (List ProgramVerdict) AllocError) (v : Verdict)
-      → IfOk judged (λ all. AreVerdicts kernel (map_types o) records (linkable_of unlinked (has_function_in unlinked.functions)) (programs_in_order o.programs) all)
-      → (lacking ≡ [] → IsWrittenOver kernel slots o unlinked)
-      → v ≡ record { records = records; has_empty_section = flag; lacking = lacking; refusal = None; programs = programs }
-      → judged ≡ Ok programs
-      → IsVerdict o kernel v
-  of_programs unlinked judged v are written is all =
-      subst (λ (x : Verdict). IsVerdict o kernel x) (sym is)
-      (of_written unlinked (subst (λ (r : Result (List ProgramVerdict) AllocError). IfOk r (λ all. AreVerdicts kernel (map_types o) records (linkable_of unlinked (has_function_in unlinked.functions)) (programs_in_order o.programs) all)) all are) written)
+-- the same, by what the programs come to
+pub of_programs : (o : Object) (kernel : TypeInfo) (records : List RecordOutcome) (flag : Bool) (lacking : List LackingExtern) (unlinked : Object) (judged : Result (List ProgramVerdict) AllocError) (v : Verdict)
+    → flag ≡ has_empty_section o.btf_ext
+    → IfOk judged (λ all. AreVerdicts kernel (map_types o) records (linkable_of unlinked (has_function_in unlinked.functions)) (programs_in_order o.programs) all)
+    → (v ≡ record { records = records; has_empty_section = flag; lacking = lacking; refusal = None; programs = v.programs }) × (judged ≡ Ok v.programs)
+    → (slots : Written)
+    → AreRecordOutcomes o kernel (record { records = records; written = slots })
+    → IsWrittenAs kernel slots o (Ok (record { object = unlinked; lacking = lacking }))
+    → IsVerdict o kernel v
+of_programs o kernel records flag lacking unlinked judged v empty are is slots outcomes written =
+    subst (λ (x : Verdict). IsVerdict o kernel x) (sym is.0)
+    (of_written o kernel records flag slots empty outcomes lacking v.programs unlinked
+    (subst (λ (r : Result (List ProgramVerdict) AllocError). IfOk r (λ all. AreVerdicts kernel (map_types o) records (linkable_of unlinked (has_function_in unlinked.functions)) (programs_in_order o.programs) all)) is.1 are) written)
+
+-- the same, whatever comes of it
+pub of_result : (o : Object) (kernel : TypeInfo) (records : List RecordOutcome) (flag : Bool) (lacking : List LackingExtern) (unlinked : Object) (judged : Result (List ProgramVerdict) AllocError) (r : Result Verdict AllocError)
+    → flag ≡ has_empty_section o.btf_ext
+    → IfOk judged (λ all. AreVerdicts kernel (map_types o) records (linkable_of unlinked (has_function_in unlinked.functions)) (programs_in_order o.programs) all)
+    → IfOk r (λ v. (v ≡ record { records = records; has_empty_section = flag; lacking = lacking; refusal = None; programs = v.programs }) × (judged ≡ Ok v.programs))
+    → IfOk r (λ v. (slots : Written) → AreRecordOutcomes o kernel (record { records = records; written = slots }) → IsWrittenAs kernel slots o (Ok (record { object = unlinked; lacking = lacking })) → IsVerdict o kernel v)
+of_result o kernel records flag lacking unlinked judged (Err e) empty are is = tt
+of_result o kernel records flag lacking unlinked judged (Ok v) empty are is = of_programs o kernel records flag lacking unlinked judged v empty are is

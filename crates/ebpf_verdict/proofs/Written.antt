@@ -8,6 +8,7 @@ use Rattle.ebpf_object.specs.Stages as stage
 use Rattle.ebpf_object.specs.Stages.{Resolves, fds_fault, given_fault, unwritten_fault}
 use Rattle.ebpf_object.specs.WrittenSlots.{externs_fault, with_externs}
 use Rattle.ebpf_object.specs.declared.object.Object.{Object}
+use Rattle.ebpf_verdict.specs.declared.externs.LackingExtern.{LackingExtern}
 use Rattle.ebpf_verdict.specs.Writing.{HasSlots, IsWritten, IsWrittenOver, no_symbols, own_descriptors}
 
 -- a list of some items isn't empty
@@ -32,3 +33,6 @@ written kernel a b c d maps maps_sound resolution externs externs_sound complete
 
 pub written_over : (kernel : TypeInfo) (slots : Written) (o a d : Object) → given_fault (Some (own_descriptors o)) true o ≡ None → HasSlots slots o a → IsWritten kernel a d → IsWrittenOver kernel slots o d
 written_over kernel slots o a d given put passes = record { given = given; relocated = a; slots_put = put; passes = passes }
+
+pub written_as : (kernel : TypeInfo) (slots : Written) (o a d : Object) (lacking : List LackingExtern) → given_fault (Some (own_descriptors o)) true o ≡ None → HasSlots slots o a → (lacking ≡ [] → IsWritten kernel a d) → lacking ≡ [] → IsWrittenOver kernel slots o d
+written_as kernel slots o a d lacking given put passes empty = written_over kernel slots o a d given put (passes empty)

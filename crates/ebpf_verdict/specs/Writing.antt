@@ -66,3 +66,7 @@ pub record IsWrittenOver (kernel : TypeInfo) (slots : Written) (o unlinked : Obj
 abbrev pub IsWrittenAs : TypeInfo → Written → Object → Result WrittenObject PrepareError → Type 0
 IsWrittenAs kernel slots o (Ok w) = w.lacking ≡ [] → IsWrittenOver kernel slots o w.object
 IsWrittenAs kernel slots o (Err e) = ⊤
+
+-- a refusal, of which nothing is said for any object
+abbrev pub IsUnstated : Result WrittenObject PrepareError → Type 0
+IsUnstated r = (kernel : TypeInfo) (slots : Written) (o : Object) → IsWrittenAs kernel slots o r

@@ -149,6 +149,9 @@ pub fn resolve(
 {
     match object.resolve_text(Some(kernel), &[]) {
         Ok(()) => Ok(Items::new(alloc)),
-        Err(error) => lacking(alloc, object, kernel, error),
+        Err(error) => {
+            let found = lacking(alloc, object, kernel, error)?;
+            Ok(found)
+        }
     }
 }

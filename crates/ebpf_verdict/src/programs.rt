@@ -11,9 +11,10 @@ ghost use Rattle.ebpf_verdict.specs.Verdicts.{AreVerdicts, IsCode, IsJudged, IsP
 ghost use Rattle.ebpf_verdict.specs.declared.programs.ProgramCode.TheVariants.{Refused};
 
 use crate::reasons::{Numbers, SlotReason, reasons_of};
+use crate::writing::is_memory;
 use ebpf_base::{Items, Text};
 use ebpf_core_relo::{RecordOutcome, RecordResult};
-use ebpf_model::{EbpfRelocationError, Function, RelocationError};
+use ebpf_model::{EbpfRelocationError, Function};
 use ebpf_object::prepare::PrepareError;
 use ebpf_reachability::reached_slots;
 use ebpf_reloc::{CodeCopy, LinkedFunction, NumberedFunctions, ProgramKey};
@@ -171,6 +172,7 @@ impl Judge<'_> {
     }
 
     /// The verdict on a program.
+    #[tactic(auto, using(crate::proofs::Judged::is_verdict))]
     fn verdict_on(
         &self,
         alloc: Global,
@@ -209,7 +211,8 @@ fn refused(error: EbpfRelocationError) -> Result<ProgramCode, AllocError>
     ensures { IfOk result (λ code.
         (code ≡ Refused (Calls error)) × (is_memory_at error ≡ false)) }
 {
-    if matches!(error.error, RelocationError::OutOfMemory) {
+    if is_memory(&error) {
+        drop(error);
         return Err(AllocError);
     }
     Ok(ProgramCode::Refused(PrepareError::Calls(error)))

@@ -2,6 +2,7 @@
 
 ghost use Rattle.std.specs.Prelude.{◌≡◌, IfOk, None, Ok, map, not};
 ghost use Rattle.std.specs.List.{list_any};
+ghost use Rattle.ebpf_btf.specs.TypeInfo.{TypeInfo};
 ghost use Rattle.ebpf_core_relo.specs.Records.{Written};
 ghost use Rattle.std.specs.FinMap.{entries};
 ghost use Rattle.ebpf_object.specs.LinkedPrograms.{linkable_of, programs_in_order};
@@ -197,8 +198,53 @@ fn with_programs(
     }
 }
 
+/// The verdict on an object that is written.
+#[tactic(auto, using(crate::proofs::Judged::of_result))]
+fn of_written(
+    alloc: Global,
+    object: &Object,
+    kernel: &Btf,
+    records: Items<RecordOutcome>,
+    written: WrittenObject,
+) -> Result<Verdict, AllocError>
+    ensures { IfOk result (λ v.
+        (slots : Written)
+        → AreRecordOutcomes object.now kernel.now (record { records = records; written = slots })
+        → IsWrittenAs kernel.now slots object.now (Ok written)
+        → IsVerdict object.now kernel.now v) }
+{
+    let has_empty_section = has_empty_section(object);
+    let WrittenObject {
+        object: unlinked,
+        lacking,
+    } = written;
+    let judged = judge_programs(alloc, object, kernel, records.as_slice(), &unlinked);
+    drop(unlinked);
+    with_programs(records, has_empty_section, lacking, judged)
+}
+
+/// The verdict on an object that a pass refuses.
+#[tactic(auto, using(crate::proofs::Judged::of_refused))]
+fn of_refused(
+    alloc: Global,
+    object: &Object,
+    records: Items<RecordOutcome>,
+    refusal: PrepareError,
+) -> Verdict
+    ensures { (kernel : TypeInfo) (slots : Written)
+        → AreRecordOutcomes object.now kernel (record { records = records; written = slots })
+        → IsVerdict object.now kernel result }
+{
+    Verdict {
+        records,
+        has_empty_section: has_empty_section(object),
+        lacking: Items::new(alloc),
+        refusal: Some(refusal),
+        programs: Items::new(alloc),
+    }
+}
+
 /// The verdict on an object whose CO-RE relocations have these outcomes, and which is written or refused.
-#[tactic(auto, using(crate::proofs::Judged::of_programs, crate::proofs::Judged::of_refused))]
 fn finished(
     alloc: Global,
     object: &Object,
@@ -212,24 +258,9 @@ fn finished(
         → IsWrittenAs kernel.now slots object.now written
         → IsVerdict object.now kernel.now v) }
 {
-    let has_empty_section = has_empty_section(object);
     match written {
-        Ok(written) => {
-            let WrittenObject {
-                object: unlinked,
-                lacking,
-            } = written;
-            let judged = judge_programs(alloc, object, kernel, records.as_slice(), &unlinked);
-            drop(unlinked);
-            with_programs(records, has_empty_section, lacking, judged)
-        }
-        Err(refusal) => Ok(Verdict {
-            records,
-            has_empty_section,
-            lacking: Items::new(alloc),
-            refusal: Some(refusal),
-            programs: Items::new(alloc),
-        }),
+        Ok(written) => of_written(alloc, object, kernel, records, written),
+        Err(refusal) => Ok(of_refused(alloc, object, records, refusal)),
     }
 }
 

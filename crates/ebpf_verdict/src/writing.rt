@@ -1,9 +1,10 @@
 //! An object, written for a kernel up to the linking of its programs.
 
-ghost use Rattle.std.specs.Prelude.{◌≡◌, [], Err, IfOk, OnOk, Some, None, true};
+ghost use Rattle.std.specs.Prelude.{◌≡◌, [], IfOk, OnOk, Some, None, true};
+ghost use Rattle.ebpf_model.specs.Memory.{is_memory_at};
 ghost use Rattle.ebpf_object.specs.Stages.{fds_fault, fds_written, given_fault, unwritten_fault};
 ghost use Rattle.ebpf_object.specs.WrittenSlots.{externs_fault, with_externs};
-ghost use Rattle.ebpf_verdict.specs.Writing.{HasSlots, IsWritten, IsWrittenAs, own_descriptors};
+ghost use Rattle.ebpf_verdict.specs.Writing.{HasSlots, IsUnstated, IsWritten, IsWrittenAs, own_descriptors};
 
 use crate::externs::{LackingExtern, resolve};
 use ebpf_base::{ByKey, Items};
@@ -43,7 +44,8 @@ fn check_maps(alloc: Global, object: &Object) -> Result<(), PrepareError>
 {
     let names = object.map_names(alloc)?;
     let descriptors = numbered_descriptors(alloc, names.as_slice())?;
-    check_descriptors(object, Some(&descriptors), true)
+    check_descriptors(object, Some(descriptors.as_slice()), true)?;
+    Ok(())
 }
 
 /// Writes the descriptors 1, 2, .. of the object's own maps, in byte order of their names.
@@ -76,7 +78,8 @@ fn write_externs(object: &mut Object) -> Result<(), PrepareError>
     ensures complete { OnOk result (unwritten_fault true true object.new ≡ None) }
 {
     relocate_externs(object)?;
-    check_externs(object, true, true)
+    check_externs(object, true, true)?;
+    Ok(())
 }
 
 /// Writes descriptors and externs into an object whose functions are relocated to a kernel's types. The externs that the
@@ -110,11 +113,14 @@ fn write_complete(
         lacking ≡ [] → IsWritten kernel.now copy.old copy.new) }
 {
     check_maps(alloc, object)?;
-    write_passes(alloc, copy, kernel)
+    let lacking = write_passes(alloc, copy, kernel)?;
+    Ok(lacking)
 }
 
 /// Whether an allocation failed.
-fn is_memory(error: &EbpfRelocationError) -> bool {
+pub fn is_memory(error: &EbpfRelocationError) -> bool
+    ensures { result ≡ is_memory_at error.now }
+{
     matches!(error.error, RelocationError::OutOfMemory)
 }
 
@@ -142,9 +148,10 @@ pub fn refusal_of(error: PrepareError) -> Result<PrepareError, AllocError>
 
 /// The object of a pass that refuses it.
 fn refused(error: PrepareError) -> Result<Result<WrittenObject, PrepareError>, AllocError>
-    ensures { IfOk result (λ r. (refusal : PrepareError) × (r ≡ Err refusal)) }
+    ensures { IfOk result IsUnstated }
 {
-    Ok(Err(refusal_of(error)?))
+    let refusal = refusal_of(error)?;
+    Ok(Err(refusal))
 }
 
 /// A copy of an object with the slots that CO-RE relocations write, descriptors of its own maps, and externs that are
@@ -154,7 +161,7 @@ fn refused(error: PrepareError) -> Result<Result<WrittenObject, PrepareError>, A
 ///
 /// - outer: an allocation failed.
 /// - inner: a pass refuses the object.
-#[tactic(auto, using(crate::proofs::Written::written_over))]
+#[tactic(auto, using(crate::proofs::Written::written_as))]
 pub fn written_object(
     alloc: Global,
     object: &Object,
@@ -171,7 +178,8 @@ pub fn written_object(
         })),
         Err(error) => {
             drop(copy);
-            refused(error)
+            let refusal = refused(error)?;
+            Ok(refusal)
         }
     }
 }
