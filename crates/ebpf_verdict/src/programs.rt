@@ -63,10 +63,10 @@ pub struct Judge<'a> {
 }
 
 /// Whether a CO-RE relocation is refused.
-pub fn is_refused(record: &RecordOutcome) -> bool
-    ensures { result ≡ is_refused record.now }
+pub fn is_refused(row: &RecordOutcome) -> bool
+    ensures { result ≡ is_refused row.now }
 {
-    match &record.result {
+    match &row.result {
         RecordResult::Refused(_) => true,
         RecordResult::Value(_) => false,
         RecordResult::Absent(_) => false,
@@ -83,11 +83,11 @@ fn is_copied(copies: &[CodeCopy], key: (usize, u64)) -> bool
 }
 
 /// Whether a CO-RE relocation of a program's copies is refused.
-fn is_refused_in(copies: &[CodeCopy], record: &RecordOutcome) -> bool
-    ensures { result ≡ is_refused_in copies.now record.now }
+fn is_refused_in(copies: &[CodeCopy], row: &RecordOutcome) -> bool
+    ensures { result ≡ is_refused_in copies.now row.now }
 {
-    match record.slot {
-        Some(slot) => is_refused(record) && is_copied(copies, slot.function),
+    match row.slot {
+        Some(slot) => is_refused(row) && is_copied(copies, slot.function),
         None => false,
     }
 }
