@@ -72,12 +72,12 @@ fn map_types(alloc: Global, object: &Object) -> Result<Items<u32>, AllocError>
 }
 
 /// The verdicts on the programs of an object, by functions with numbers.
-fn judge_each<'a>(
+fn judge_each(
     alloc: Global,
-    object: &'a Object,
-    numbers: &'a Numbers<'a>,
-    records: &'a [RecordOutcome],
-    functions: &'a NumberedFunctions<'a>,
+    object: &Object,
+    numbers: &Numbers<'_>,
+    records: &[RecordOutcome],
+    functions: &NumberedFunctions<'_>,
 ) -> Result<Items<ProgramVerdict>, AllocError>
     ensures { IfOk result (λ all.
         AreVerdicts numbers.now.kernel numbers.now.map_types.now records.now
@@ -93,12 +93,12 @@ fn judge_each<'a>(
 }
 
 /// The verdicts on the programs of an object, linked from an object that is written for the kernel.
-fn judge_linked<'a>(
+fn judge_linked(
     alloc: Global,
-    object: &'a Object,
-    numbers: &'a Numbers<'a>,
-    records: &'a [RecordOutcome],
-    unlinked: &'a Object,
+    object: &Object,
+    numbers: &Numbers<'_>,
+    records: &[RecordOutcome],
+    unlinked: &Object,
 ) -> Result<Items<ProgramVerdict>, AllocError>
     ensures { IfOk result (λ all.
         AreVerdicts numbers.now.kernel numbers.now.map_types.now records.now
@@ -113,12 +113,12 @@ fn judge_linked<'a>(
 }
 
 /// The verdicts on the programs of an object over a kernel's types, linked from an object that is written for them.
-fn judge_programs<'a>(
+fn judge_programs(
     alloc: Global,
-    object: &'a Object,
-    kernel: &'a Btf,
-    records: &'a [RecordOutcome],
-    unlinked: &'a Object,
+    object: &Object,
+    kernel: &Btf,
+    records: &[RecordOutcome],
+    unlinked: &Object,
 ) -> Result<Items<ProgramVerdict>, AllocError>
     ensures { IfOk result (λ all.
         AreVerdicts kernel.now (map_types object.now) records.now
