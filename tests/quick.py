@@ -2,7 +2,8 @@
 
 - the tests of each driver and crate, and each program that has a file stdout, whose output is compared with that file test
   case by test case; programs are built together where that is quicker (together.py);
-- one row of the driver of allocation failures.
+- one row of the driver of allocation failures;
+- what objects hold in memory, compared with what is counted of their files (limits/live_bytes.py).
 
 It also checks, without running anything:
 
@@ -24,13 +25,14 @@ from itertools import zip_longest
 from pathlib import Path
 
 TOP = Path(__file__).parents[1]
-sys.path.append(str(TOP / "tools"))
+sys.path += [str(TOP / "tools"), str(TOP / "tests/limits")]
 
 import api_page  # noqa: E402
 import definitions  # noqa: E402
 import documents  # noqa: E402
 import errors_page  # noqa: E402
 import library_page  # noqa: E402
+import live_bytes  # noqa: E402
 import mutants  # noqa: E402
 import mutants_test  # noqa: E402
 from driver_crates import listed  # noqa: E402
@@ -85,6 +87,12 @@ def run_alloc_failures(names):
     tallies = [alloc_failures.stored_output(driver, rows), *(row.judge(driver) for row in rows)]
     outcome = Outcome(sum(it.passed for it in tallies), [fault for it in tallies for fault in it.faults])
     return dict.fromkeys(names, outcome)
+
+
+def run_live_bytes(names):
+    """The files of which it is counted what their objects hold."""
+    count, faults = live_bytes.judged(live_bytes.all_files())
+    return dict.fromkeys(names, Outcome(count - len(faults), faults))
 
 
 def rows_of(text):
@@ -190,7 +198,9 @@ def tasks(names):
     parts = [(run_programs, held) for held in [drivers, *([run] for run in long), programs] if held]
     tests = [crate.name for crate in crates if crate.has_tests()]
     driver = [crate.name for crate in crates if crate.name == alloc_failures.NAME]
-    return runs, parts + [(run_tests, tests)] * bool(tests) + [(run_alloc_failures, driver)] * bool(driver)
+    owned = [crate.name for crate in crates if crate.name == live_bytes.NAME]
+    others = [(run_tests, tests), (run_alloc_failures, driver), (run_live_bytes, owned)]
+    return runs, parts + [part for part in others if part[1]]
 
 
 def timed(part):

@@ -8,7 +8,15 @@ import struct
 import sys
 from pathlib import Path
 
-ENTRY = 64
+# The sizes of docs/BEHAVIOUR.md, 'Limits'.
+OBJECT = 10992
+EXTERN, MAP, PROGRAM, FUNCTION, SYMBOL, SECTION = 160, 400, 192, 400, 208, 88
+RELOCATIONS, RELOCATION = 704, 88
+SLOT = 16
+TYPE_BYTE, STRING_BYTE, EXT_BYTE, EXTERN_TYPES = 3, 6, 10, 256
+# What the object has of `.BTF.ext`: a section of entries or of relocations, a relocation.
+INFO_SECTION, CORE_SECTION, CORE_RELO = 80, 64, 24
+
 NOBITS, PROGBITS, SYMTAB = 8, 1, 2
 
 
@@ -83,6 +91,18 @@ def slots_by_name(ext, part, strings):
     return found
 
 
+def core_counts(ext, part):
+    """The number of relocations of each section of CO-RE relocations."""
+    at, length = part
+    if not length:
+        return
+    size, end, at = struct.unpack_from("<I", ext, at)[0], at + length, at + 4
+    while at < end:
+        count = struct.unpack_from("<I", ext, at + 4)[0]
+        yield count
+        at += 8 + size * count
+
+
 class Counted:
     def __init__(self, data):
         self.elf = elf = Elf(data)
@@ -92,7 +112,7 @@ class Counted:
         if self.types:
             head, _, types, at, length = struct.unpack_from("<IIIII", self.types, 4)
             strings = self.types[head + at : head + at + length]
-            self.type_bytes = types + length
+            self.type_bytes = TYPE_BYTE * types + STRING_BYTE * length
         self.parts = parts(self.ext if self.types else None)
         self.funcs = slots_by_name(self.ext, self.parts[0], strings)
         self.lines = slots_by_name(self.ext, self.parts[1], strings)
@@ -100,7 +120,7 @@ class Counted:
         self.license = 3 if license is None else len(license)
 
     def name(self, name):
-        return ENTRY + (len(self.elf.data) if name is None else len(name))
+        return len(self.elf.data) if name is None else len(name)
 
     def records(self, i, first, count):
         """The bytes of the records at so many slots of a section."""
@@ -114,7 +134,7 @@ class Counted:
     def section(self, i):
         name, kind, size = self.elf.names[i], self.elf.kind(i), self.elf.rows[i][5]
         if kind in (".data", ".rodata", ".bss"):
-            return self.name(name) + size
+            return MAP + self.name(name) + size
         if kind in (".text", "program"):
             return 8 * len(self.funcs.get(name, [])) + 16 * len(self.lines.get(name, []))
         return 0
@@ -125,31 +145,35 @@ class Counted:
         return (value - start) % 2**64 // 8 if self.elf.kind(section) == ".text" else max(value - start, 0) // 8
 
     def symbol(self, row):
-        named = self.name(text(self.elf.texts, row[0]))
+        name = self.name(text(self.elf.texts, row[0]))
+        own = SYMBOL + EXTERN + 2 * name
         _, info, _, section, value, size = row
         if not 0 < section < min(len(self.elf.rows), 0xFF00):
-            return 2 * named
+            return own
         kind, is_text = self.elf.kind(section), info % 16 in (2, 10)
         if kind in ("maps", ".maps"):
-            return 3 * named
+            return own + MAP + name
         if kind not in (".text", "program") or not is_text:
-            return 2 * named
+            return own
         header = self.elf.rows[section]
         first = self.first_slot(section, value)
-        function = named + min(size, header[5]) + self.records(section, first, size // 8)
-        return 2 * named + function + (named + self.license if kind == "program" else 0)
+        function = FUNCTION + name + SLOT // 8 * min(size, header[5]) + self.records(section, first, size // 8)
+        return own + function + (PROGRAM + name + self.license if kind == "program" else 0)
 
     def relocations(self, row):
         if row[1] not in (4, 9) or row[6] != self.elf.table or not row[7]:
             return 0
-        return ENTRY * (row[5] // (16 if row[1] == 9 else 24)) if self.elf.kind(row[7]) in (".text", "program") else 0
+        if self.elf.kind(row[7]) not in (".text", "program"):
+            return 0
+        return RELOCATIONS + RELOCATION * (row[5] // (16 if row[1] == 9 else 24))
 
     def made(self):
         sections = range(1, len(self.elf.rows))
         return (
-            self.license
-            + sum(self.name(name) for name in self.elf.names[1:])
-            + ENTRY + self.type_bytes + sum(length for _, length in self.parts)
+            OBJECT
+            + self.license
+            + sum(SECTION + self.name(name) for name in self.elf.names[1:])
+            + EXTERN_TYPES + self.type_bytes + EXT_BYTE * sum(length for _, length in self.parts)
             + sum(self.section(i) for i in sections)
             + sum(self.symbol(row) for row in self.elf.symbols)
             + sum(self.relocations(row) for row in self.elf.rows[1:])
@@ -167,7 +191,8 @@ class Counted:
                 continue
             name = text(self.elf.texts, row[0])
             first = self.first_slot(section, value)
-            found[section, value] = self.name(name) + size + self.records(section, first, size // 8)
+            code = SLOT // 8 * size
+            found[section, value] = FUNCTION + self.name(name) + code + self.records(section, first, size // 8)
             programs |= {name} if kind == "program" else set()
         return found, programs
 
@@ -187,16 +212,20 @@ class Counted:
         license = self.license - (0 if elf.first(b"license") is None else 1)
         last = {elf.names[i]: elf.rows[i][5] for i in data}
         return (
-            license * (1 + len(programs))
+            OBJECT
+            + license * (1 + len(programs))
             + sum(functions.values())
-            + sum(self.name(name) for name in [*programs, *maps, *externs, *set(elf.names[1:])])
-            + sum(self.name(name) + size for name, size in last.items())
-            + sum(self.name(text(elf.texts, row[0])) for row in elf.symbols)
+            + sum(PROGRAM + self.name(name) for name in programs)
+            + sum(MAP + self.name(name) for name in maps)
+            + sum(MAP + self.name(name) + size for name, size in last.items())
+            + sum(EXTERN + self.name(name) for name in externs)
+            + sum(SECTION + self.name(name) for name in set(elf.names[1:]))
+            + sum(SYMBOL + self.name(text(elf.texts, row[0])) for row in elf.symbols)
             + sum(self.relocations(row) for row in elf.rows[1:])
             + self.type_bytes
-            + sum(8 * len(slots) for slots in self.funcs.values())
-            + sum(16 * len(slots) for slots in self.lines.values())
-            + self.parts[2][1]
+            + sum(INFO_SECTION + 8 * len(slots) for slots in self.funcs.values())
+            + sum(INFO_SECTION + 16 * len(slots) for slots in self.lines.values())
+            + sum(CORE_SECTION + CORE_RELO * count for count in core_counts(self.ext, self.parts[2]))
         )
 
 

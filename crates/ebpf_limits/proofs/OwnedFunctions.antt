@@ -37,7 +37,7 @@ use Rattle.ebpf_parts.specs.declared.program_section.ProgramSection.{ProgramSect
 use Rattle.ebpf_parts.specs.declared.parse_mode.ParseMode.{ParseMode}
 use Rattle.ebpf_limits.proofs.Counts.{filter_short, Among, Counted, covered, all_map, all_flat_map, all_filter, each_at, found_among, name_within}
 use Rattle.ebpf_limits.proofs.OwnedTables.{facts_in, function_in, its_facts, its_name, its_function, sections_all, symbols_all, facts_here, file_of, program_in, its_program}
-use Rattle.ebpf_limits.specs.OwnedBytes.{SectionFacts, entry_bytes, func_count, line_count, offset_by, first_slot, code_bytes, record_bytes, function_bytes, facts_of, facts_at, function_row, total, program_row}
+use Rattle.ebpf_limits.specs.OwnedBytes.{SectionFacts, function_size, program_size, slot_size, func_count, line_count, offset_by, first_slot, code_bytes, record_bytes, function_bytes, facts_of, facts_at, function_row, total, program_row}
 
 -- ---- the bytes of a function's code and records, no more than what is counted for its symbol.
 
@@ -99,11 +99,11 @@ place_in_text kind start address offset e here below = rw e (omega (arith, here,
 
 -- ---- a function's row
 
-pub row_within : (named short : ℕ) (f : SectionFacts) (e : SymbolEntry) (slots funcs lines : ℕ) → entry_bytes + short ≤ named → 8 * slots ≤ code_bytes f e
+pub row_within : (name short : ℕ) (f : SectionFacts) (e : SymbolEntry) (slots funcs lines : ℕ) → short ≤ name → 8 * slots ≤ code_bytes f e
     → funcs ≤ func_count f (first_slot f e) → lines ≤ line_count f (first_slot f e) (slot_of e.st_size)
-    → entry_bytes + short + 8 * slots + record_bytes funcs lines ≤ function_bytes named f e
+    → function_size + short + slot_size * slots + record_bytes funcs lines ≤ function_bytes name f e
 unfolding function_bytes
-row_within named short f e slots funcs lines a b c d = omega (arith, a, b, c, d)
+row_within name short f e slots funcs lines a b c d = omega (arith, a, b, c, d)
 
 pub function_here : (o : Option SectionFacts) (f : SectionFacts) (t : Bool) (named : ℕ) (e : SymbolEntry) → o ≡ Some f → t ≡ true → f.kind ≡ Programs → function_in o t named e ≡ function_bytes named f e
 function_here o f t named e a b c = rw (a, b, c) refl
@@ -232,8 +232,8 @@ module _ (file : List ℕ) (license : ℕ) where
 
 -- ---- the programs of a file, by its symbols.
 
-program_here : (o : Option SectionFacts) (f : SectionFacts) (t : Bool) (license named : ℕ) → o ≡ Some f → f.kind ≡ Programs → t ≡ true → program_in o t license named ≡ named + license
-program_here o f t license named a b c = rw (a, b, c) refl
+program_here : (o : Option SectionFacts) (f : SectionFacts) (t : Bool) (license name : ℕ) → o ≡ Some f → f.kind ≡ Programs → t ≡ true → program_in o t license name ≡ program_size + name + license
+program_here o f t license name a b c = rw (a, b, c) refl
 
 module _ (mode : ParseMode) (file : List ℕ) (license : ℕ) (ext : Option ExtInfo) where
   abbrev name_of : SymbolOf → List ℕ
@@ -248,7 +248,7 @@ module _ (mode : ParseMode) (file : List ℕ) (license : ℕ) (ext : Option ExtI
     unfolding symbol_of section_of section_with facts_of
     program_counted kind y here inside code is_text =
         let facts : its_facts file license (facts_in file ext) y ≡ Some (facts_of ext s) = ap (facts_at (facts_in file ext)) inside ∙ facts_here file ext s of_file in
-        let counts : its_program file license (facts_in file ext) y ≡ its_name file license (facts_in file ext) y + license = program_here (its_facts file license (facts_in file ext) y) (facts_of ext s) _ license (its_name file license (facts_in file ext) y) facts code is_text in
+        let counts : its_program file license (facts_in file ext) y ≡ program_size + its_name file license (facts_in file ext) y + license = program_here (its_facts file license (facts_in file ext) y) (facts_of ext s) _ license (its_name file license (facts_in file ext) y) facts code is_text in
         let named = name_within file (symbol_name y) in
         (y, here, refl, omega (arith, counts, named, short))
 

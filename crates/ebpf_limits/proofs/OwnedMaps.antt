@@ -16,7 +16,7 @@ use Rattle.ebpf_btf_decls.specs.declared.members.MapDefinitions.{MapDefinitions}
 use Rattle.ebpf_elf.specs.Sections.{SectionOf, header, sections, section_name}
 use Rattle.ebpf_elf.specs.Symbols.{SymbolOf, entry, symbols, symbol_name, symbol_section_index}
 use Rattle.ebpf_btf_ext.specs.ExtReading.{ExtInfo}
-use Rattle.ebpf_limits.specs.OwnedBytes.{SectionFacts, facts_of, facts_at, named_bytes, contents_by, contents_bytes, map_row, total}
+use Rattle.ebpf_limits.specs.OwnedBytes.{SectionFacts, facts_of, facts_at, name_bytes, map_size, contents_by, contents_bytes, map_row, total}
 use Rattle.ebpf_limits.proofs.Counts.{Among, Counted, covered, all_map, all_flat_map, all_of, name_within, total_append, total_map}
 use Rattle.ebpf_limits.proofs.OwnedFunctions.{data_short}
 use Rattle.ebpf_limits.proofs.OwnedTables.{facts_in, map_in, its_facts, its_name, its_map, sections_all, symbols_all, facts_here}
@@ -55,14 +55,14 @@ module _ {A B C : Type 0} (f : A → C) (g : B → C) where
 
 -- ---- what counts by a kind
 
-counts_data : (k : EbpfSectionKind) (named : ℕ) (f : SectionFacts) → k ≡ Data → contents_by k named f ≡ named + f.size
-counts_data k named f e = rw e refl
+counts_data : (k : EbpfSectionKind) (name : ℕ) (f : SectionFacts) → k ≡ Data → contents_by k name f ≡ map_size + name + f.size
+counts_data k name f e = rw e refl
 
-counts_rodata : (k : EbpfSectionKind) (named : ℕ) (f : SectionFacts) → k ≡ Rodata → contents_by k named f ≡ named + f.size
-counts_rodata k named f e = rw e refl
+counts_rodata : (k : EbpfSectionKind) (name : ℕ) (f : SectionFacts) → k ≡ Rodata → contents_by k name f ≡ map_size + name + f.size
+counts_rodata k name f e = rw e refl
 
-counts_bss : (k : EbpfSectionKind) (named : ℕ) (f : SectionFacts) → k ≡ Bss → contents_by k named f ≡ named + f.size
-counts_bss k named f e = rw e refl
+counts_bss : (k : EbpfSectionKind) (name : ℕ) (f : SectionFacts) → k ≡ Bss → contents_by k name f ≡ map_size + name + f.size
+counts_bss k name f e = rw e refl
 
 data_length : (k : EbpfSectionKind) (s : SectionValue) → k ≡ Data → length (data_bytes k s) ≡ length s.bytes
 data_length k s e = rw e refl
@@ -73,11 +73,11 @@ rodata_length k s e = rw e refl
 bss_length : (k : EbpfSectionKind) (s : SectionValue) → k ≡ Bss → length (data_bytes k s) ≡ s.size
 bss_length k s e = rw e (length-replicate s.size 0)
 
-map_here : (o : Option SectionFacts) (f : SectionFacts) (named : ℕ) → o ≡ Some f → f.kind ≡ Maps → map_in o named ≡ named
-map_here o f named a b = rw (a, b) refl
+map_here : (o : Option SectionFacts) (f : SectionFacts) (name : ℕ) → o ≡ Some f → f.kind ≡ Maps → map_in o name ≡ map_size + name
+map_here o f name a b = rw (a, b) refl
 
-btf_map_here : (o : Option SectionFacts) (f : SectionFacts) (named : ℕ) → o ≡ Some f → f.kind ≡ BtfMaps → map_in o named ≡ named
-btf_map_here o f named a b = rw (a, b) refl
+btf_map_here : (o : Option SectionFacts) (f : SectionFacts) (name : ℕ) → o ≡ Some f → f.kind ≡ BtfMaps → map_in o name ≡ map_size + name
+btf_map_here o f name a b = rw (a, b) refl
 
 module _ (file : List ℕ) (license : ℕ) (ext : Option ExtInfo) where
   abbrev Source : Type 0
@@ -103,7 +103,7 @@ module _ (file : List ℕ) (license : ℕ) (ext : Option ExtInfo) where
 
     -- ---- of data
 
-    data_counted : length (data_bytes (section_of s).kind (section_of s)) ≤ (header s).sh_size → contents_by (facts_of ext s).kind (named_bytes file (section_name s)) (facts_of ext s) ≡ named_bytes file (section_name s) + (header s).sh_size
+    data_counted : length (data_bytes (section_of s).kind (section_of s)) ≤ (header s).sh_size → contents_by (facts_of ext s).kind (name_bytes file (section_name s)) (facts_of ext s) ≡ map_size + name_bytes file (section_name s) + (header s).sh_size
         → AllByRecursion IsMap (data_maps (section_of s))
     unfolding data_map section_of section_with contents_bytes
     data_counted short counts =
@@ -115,27 +115,27 @@ module _ (file : List ℕ) (license : ℕ) (ext : Option ExtInfo) where
     of_data code =
         let short = data_short s in
         let same = data_length (section_of s).kind (section_of s) code in
-        data_counted (omega (arith, short, same)) (counts_data (facts_of ext s).kind (named_bytes file (section_name s)) (facts_of ext s) code)
+        data_counted (omega (arith, short, same)) (counts_data (facts_of ext s).kind (name_bytes file (section_name s)) (facts_of ext s) code)
 
     of_rodata : (section_of s).kind ≡ Rodata → AllByRecursion IsMap (data_maps (section_of s))
     unfolding section_of section_with facts_of
     of_rodata code =
         let short = data_short s in
         let same = rodata_length (section_of s).kind (section_of s) code in
-        data_counted (omega (arith, short, same)) (counts_rodata (facts_of ext s).kind (named_bytes file (section_name s)) (facts_of ext s) code)
+        data_counted (omega (arith, short, same)) (counts_rodata (facts_of ext s).kind (name_bytes file (section_name s)) (facts_of ext s) code)
 
     of_bss : (section_of s).kind ≡ Bss → AllByRecursion IsMap (data_maps (section_of s))
     unfolding section_of section_with facts_of
     of_bss code =
         let same = bss_length (section_of s).kind (section_of s) code in
-        data_counted (omega (arith, same)) (counts_bss (facts_of ext s).kind (named_bytes file (section_name s)) (facts_of ext s) code)
+        data_counted (omega (arith, same)) (counts_bss (facts_of ext s).kind (name_bytes file (section_name s)) (facts_of ext s) code)
 
     -- ---- of a symbol
 
     abbrev Names : List ℕ → Type 0
     Names name = (y : SymbolOf) × Among y (symbols file) × (unwrap_or (symbol_name y) [] ≡ name) × (symbol_section_index (entry y) ≡ Some s.index)
 
-    named_counted : (name : List ℕ) (m : Map) → Names name → bytes_of m ≡ [] → ((o : Option SectionFacts) (named : ℕ) → o ≡ Some (facts_of ext s) → map_in o named ≡ named) → IsMap (name, m)
+    named_counted : (name : List ℕ) (m : Map) → Names name → bytes_of m ≡ [] → ((o : Option SectionFacts) (named : ℕ) → o ≡ Some (facts_of ext s) → map_in o named ≡ map_size + named) → IsMap (name, m)
     named_counted name m of_symbol none counts =
         let y = of_symbol.0 in
         let facts : its_facts file license (facts_in file ext) y ≡ Some (facts_of ext s) = ap (facts_at (facts_in file ext)) of_symbol.3 ∙ facts_here file ext s of_file in

@@ -12,7 +12,7 @@ use Rattle.ebpf_elf.specs.Relocations.{relocation_sections, relocated_section, e
 use Rattle.ebpf_elf.specs.Sections.{SectionOf, sections}
 use Rattle.ebpf_elf.specs.declared.relocation.ElfRelocation.{ElfRelocation}
 use Rattle.ebpf_btf_ext.specs.ExtReading.{ExtInfo}
-use Rattle.ebpf_limits.specs.OwnedBytes.{entry_bytes, facts_of, facts_at, relocation_bytes, relocations_row, total}
+use Rattle.ebpf_limits.specs.OwnedBytes.{relocation_size, relocations_size, facts_of, facts_at, relocation_bytes, relocations_row, total}
 use Rattle.ebpf_limits.proofs.Counts.{Among, Counted, covered, all_map, all_flat_map, all_of}
 use Rattle.ebpf_limits.proofs.OwnedTables.{facts_in, sections_all, facts_here}
 use Rattle.ebpf_parsing.specs.Sections.{is_kind_of_code, object_sections}
@@ -41,10 +41,19 @@ table_short rs =
     each : (rs : List ElfRelocation) → AllByRecursion (Counted nat_cmp_total nat_cmp-IsAntisymmetric (λ (r : ElfRelocation). r.offset) (λ e. 1) (λ r. 1) rs) (map offset_of rs)
     each rs = all_map _ offset_of rs (all_of (λ r. Counted nat_cmp_total nat_cmp-IsAntisymmetric (λ (r : ElfRelocation). r.offset) (λ e. 1) (λ r. 1) rs (offset_of r)) rs (λ r here. (r, here, refl, omega arith)))
 
+-- the sections of relocations that patch a section, of some
+abbrev tables_for : SectionOf → List SectionOf → List SectionOf
+tables_for s tables = filter (λ t. relocated_section t == s.index) tables
+
+-- one at least, where there is a relocation
+one_table : (r : ElfRelocation) (rs : List ElfRelocation) (tables : List SectionOf) → r ∷ rs ≡ flat_map table_entries tables → 1 ≤ length tables
+one_table r rs [] same = absurd (let no : ⊥ = cc in no)
+one_table r rs (t ∷ tables) same = omega arith
+
 module _ (file : List ℕ) (ext : Option ExtInfo) where
   -- what counts for a section
   abbrev own_bytes : SectionOf → ℕ
-  own_bytes s = if is_kind_of_code (facts_of ext s).kind then entry_bytes * length (relocations s) else 0
+  own_bytes s = if is_kind_of_code (facts_of ext s).kind then relocations_size * length (tables_for s (relocation_sections s.file)) + relocation_size * length (relocations s) else 0
 
   abbrev IsTable : ℕ × FinMap nat_cmp ElfRelocation → Type 0
   IsTable = Counted nat_cmp_total nat_cmp-IsAntisymmetric (λ (s : SectionOf). s.index) relocations_row own_bytes (sections file)
@@ -57,8 +66,9 @@ module _ (file : List ℕ) (ext : Option ExtInfo) where
   table_counted s here code (r ∷ rs) same =
       let short = table_short (r ∷ rs) in
       let long : length (r ∷ rs) ≡ length (relocations s) = ap length same in
-      let counts = code_counts (facts_of ext s).kind (entry_bytes * length (relocations s)) code in
-      ((s, here, refl, omega (arith, short, long, counts)), tt)
+      let counts = code_counts (facts_of ext s).kind (relocations_size * length (tables_for s (relocation_sections s.file)) + relocation_size * length (relocations s)) code in
+      let one = one_table r rs (tables_for s (relocation_sections s.file)) same in
+      ((s, here, refl, omega (arith, short, long, counts, one)), tt)
 
   of_kind : (s : SectionOf) → Among s (sections file) → (kind : EbpfSectionKind) → (section_of s).kind ≡ kind → AllByRecursion IsTable (relocations_by kind (section_of s))
   unfolding section_of section_with facts_of
@@ -76,16 +86,16 @@ module _ (file : List ℕ) (ext : Option ExtInfo) where
 
   -- what some sections of relocations count for a section
   abbrev for_section : List SectionOf → SectionOf → ℕ
-  for_section tables s = if is_kind_of_code (facts_of ext s).kind then entry_bytes * length (entries_for s.index tables) else 0
+  for_section tables s = if is_kind_of_code (facts_of ext s).kind then relocations_size * length (tables_for s tables) + relocation_size * length (entries_for s.index tables) else 0
 
   abbrev one_for : SectionOf → SectionOf → ℕ
-  one_for r s = if relocated_section r == s.index then (if is_kind_of_code (facts_of ext s).kind then entry_bytes * entry_count r else 0) else 0
+  one_for r s = if relocated_section r == s.index then (if is_kind_of_code (facts_of ext s).kind then relocations_size + relocation_size * entry_count r else 0) else 0
 
   split : (r : SectionOf) (tables : List SectionOf) (s : SectionOf) → for_section (r ∷ tables) s ≡ one_for r s + for_section tables s
-  split r tables s = elim (relocated_section r == s.index) as (λ b. (if is_kind_of_code (facts_of ext s).kind then entry_bytes * length (flat_map table_entries (cond b (r ∷ filter (λ t. relocated_section t == s.index) tables) (filter (λ t. relocated_section t == s.index) tables))) else 0)
-      ≡ (if b then (if is_kind_of_code (facts_of ext s).kind then entry_bytes * entry_count r else 0) else 0) + for_section tables s) [
+  split r tables s = elim (relocated_section r == s.index) as (λ b. (if is_kind_of_code (facts_of ext s).kind then relocations_size * length (cond b (r ∷ tables_for s tables) (tables_for s tables)) + relocation_size * length (flat_map table_entries (cond b (r ∷ tables_for s tables) (tables_for s tables))) else 0)
+      ≡ (if b then (if is_kind_of_code (facts_of ext s).kind then relocations_size + relocation_size * entry_count r else 0) else 0) + for_section tables s) [
         | false ↦ omega arith
-        | true ↦ elim (is_kind_of_code (facts_of ext s).kind) as (λ c. (if c then entry_bytes * length (table_entries r ++ entries_for s.index tables) else 0) ≡ (if c then entry_bytes * entry_count r else 0) + (if c then entry_bytes * length (entries_for s.index tables) else 0)) [
+        | true ↦ elim (is_kind_of_code (facts_of ext s).kind) as (λ c. (if c then relocations_size * suc (length (tables_for s tables)) + relocation_size * length (table_entries r ++ entries_for s.index tables) else 0) ≡ (if c then relocations_size + relocation_size * entry_count r else 0) + (if c then relocations_size * length (tables_for s tables) + relocation_size * length (entries_for s.index tables) else 0)) [
           | false ↦ omega arith
           | true ↦ (let a = length-append (table_entries r) (entries_for s.index tables) in let b = length-map-range_with_len (λ k. table_entry r k) 0 (entry_count r) in omega (arith, a, b))
         ]
@@ -97,7 +107,7 @@ module _ (file : List ℕ) (ext : Option ExtInfo) where
 
   none_for : (ss : List SectionOf) → total (for_section []) ss ≡ 0
   none_for [] = refl
-  none_for (s ∷ ss) = let rest = none_for ss in elim (is_kind_of_code (facts_of ext s).kind) as (λ b. (if b then entry_bytes * 0 else 0) + total (for_section []) ss ≡ 0) [
+  none_for (s ∷ ss) = let rest = none_for ss in elim (is_kind_of_code (facts_of ext s).kind) as (λ b. (if b then relocations_size * 0 + relocation_size * 0 else 0) + total (for_section []) ss ≡ 0) [
     | true ↦ omega (arith, rest)
     | false ↦ omega (arith, rest)
   ]
@@ -113,21 +123,21 @@ module _ (file : List ℕ) (ext : Option ExtInfo) where
       let rest = behind r (a + 1) n (omega (arith, past)) in
       rw other (omega (arith, rest))
 
-  at_most : (r : SectionOf) (most a n : ℕ) → ((k : ℕ) → k < n → relocated_section r ≡ a + k → (if is_kind_of_code (facts_of ext (numbered (a + k))).kind then entry_bytes * entry_count r else 0) ≤ most)
+  at_most : (r : SectionOf) (most a n : ℕ) → ((k : ℕ) → k < n → relocated_section r ≡ a + k → (if is_kind_of_code (facts_of ext (numbered (a + k))).kind then relocations_size + relocation_size * entry_count r else 0) ≤ most)
       → total (one_for r) (map numbered (range_with_len a n)) ≤ most
   at_most r most a zero each = omega arith
   at_most r most a (suc n) each =
-      elim (relocated_section r == a) as (λ b. (relocated_section r == a) ≡ b → (if b then (if is_kind_of_code (facts_of ext (numbered a)).kind then entry_bytes * entry_count r else 0) else 0) + total (one_for r) (map numbered (range_with_len (a + 1) n)) ≤ most) [
+      elim (relocated_section r == a) as (λ b. (relocated_section r == a) ≡ b → (if b then (if is_kind_of_code (facts_of ext (numbered a)).kind then relocations_size + relocation_size * entry_count r else 0) else 0) + total (one_for r) (map numbered (range_with_len (a + 1) n)) ≤ most) [
         | true ↦ λ t.
             (let here : relocated_section r ≡ a = eqb-true _ a t in
             let zero_on : a + 0 ≡ a = omega arith in
-            let first = subst (λ i. (if is_kind_of_code (facts_of ext (numbered i)).kind then entry_bytes * entry_count r else 0) ≤ most) zero_on (each 0 (omega arith) (omega (arith, here))) in
+            let first = subst (λ i. (if is_kind_of_code (facts_of ext (numbered i)).kind then relocations_size + relocation_size * entry_count r else 0) ≤ most) zero_on (each 0 (omega arith) (omega (arith, here))) in
             let rest = behind r (a + 1) n (omega (arith, here)) in
             omega (arith, first, rest))
         | false ↦ λ t.
             (let rest = at_most r most (a + 1) n (λ k below there.
             let on : a + suc k ≡ a + 1 + k = omega arith in
-            subst (λ i. (if is_kind_of_code (facts_of ext (numbered i)).kind then entry_bytes * entry_count r else 0) ≤ most) on (each (suc k) (omega (arith, below)) (omega (arith, there)))) in
+            subst (λ i. (if is_kind_of_code (facts_of ext (numbered i)).kind then relocations_size + relocation_size * entry_count r else 0) ≤ most) on (each (suc k) (omega (arith, below)) (omega (arith, there)))) in
             omega (arith, rest))
       ] refl
 
@@ -137,7 +147,7 @@ module _ (file : List ℕ) (ext : Option ExtInfo) where
   at_number a (suc n) (suc k) below = at_number (a + 1) n k (omega (arith, below)) ∙ ap (λ i. Some (numbered i)) (let same : a + 1 + k ≡ a + suc k = omega arith in same)
 
   counts_at : (r : SectionOf) (i : ℕ) → relocated_section r ≡ i → facts_at (facts_in file ext) (Some i) ≡ Some (facts_of ext (numbered i))
-      → (if is_kind_of_code (facts_of ext (numbered i)).kind then entry_bytes * entry_count r else 0) ≤ relocation_bytes (facts_in file ext) r
+      → (if is_kind_of_code (facts_of ext (numbered i)).kind then relocations_size + relocation_size * entry_count r else 0) ≤ relocation_bytes (facts_in file ext) r
   unfolding relocation_bytes
   counts_at r i there facts = rw (there, facts) (omega arith)
 

@@ -33,7 +33,7 @@ use Rattle.ebpf_btf.specs.declared.members.DataSecEntry.{DataSecEntry}
 use Rattle.ebpf_btf_decls.specs.DataSections.{given, matched_entries}
 use Rattle.ebpf_btf_decls.specs.Externs.{extern_of, new_extern, extern_types, ksyms_datasec}
 use Rattle.ebpf_model.specs.declared.symbol.ExternDesc.{ExternDesc}
-use Rattle.ebpf_limits.specs.OwnedBytes.{facts_of, SectionFacts, facts_at, function_bytes, named_bytes, placed_by, placed_in, symbol_bytes, total, section_entry_bytes, named_row, symbol_row}
+use Rattle.ebpf_limits.specs.OwnedBytes.{facts_of, SectionFacts, facts_at, function_bytes, name_bytes, placed_by, placed_in, symbol_bytes, total, section_entry_bytes, extern_row, section_row, symbol_row, extern_size, map_size, program_size, symbol_size}
 use Rattle.ebpf_limits.proofs.Counts.{Among, Counted, covered, all_append, all_map, all_flat_map, all_filter, all_of, found_among, name_within, each_at}
 
 -- ---- what a symbol gives beside its own entry, in parts.
@@ -44,60 +44,66 @@ facts_in file ext = map (facts_of ext) (sections file)
 
 -- a function, a program, a map
 abbrev pub function_by : EbpfSectionKind → Bool → ℕ → SectionFacts → SymbolEntry → ℕ
-function_by Text true named f e = function_bytes named f e
-function_by Programs true named f e = function_bytes named f e
-function_by _ is_text named f e = 0
+function_by Text true name f e = function_bytes name f e
+function_by Programs true name f e = function_bytes name f e
+function_by _ is_text name f e = 0
 
 abbrev pub program_by : EbpfSectionKind → Bool → ℕ → ℕ → ℕ
-program_by Programs true license named = named + license
-program_by _ is_text license named = 0
+program_by Programs true license name = program_size + name + license
+program_by _ is_text license name = 0
 
 abbrev pub map_by : EbpfSectionKind → ℕ → ℕ
-map_by Maps named = named
-map_by BtfMaps named = named
-map_by _ named = 0
+map_by Maps name = map_size + name
+map_by BtfMaps name = map_size + name
+map_by _ name = 0
 
 abbrev pub function_in : Option SectionFacts → Bool → ℕ → SymbolEntry → ℕ
-function_in None is_text named e = 0
-function_in (Some f) is_text named e = function_by f.kind is_text named f e
+function_in None is_text name e = 0
+function_in (Some f) is_text name e = function_by f.kind is_text name f e
 
 abbrev pub program_in : Option SectionFacts → Bool → ℕ → ℕ → ℕ
-program_in None is_text license named = 0
-program_in (Some f) is_text license named = program_by f.kind is_text license named
+program_in None is_text license name = 0
+program_in (Some f) is_text license name = program_by f.kind is_text license name
 
 abbrev pub map_in : Option SectionFacts → ℕ → ℕ
-map_in None named = 0
-map_in (Some f) named = map_by f.kind named
+map_in None name = 0
+map_in (Some f) name = map_by f.kind name
 
 -- together they are what the symbol gives
-parts_by : (kind : EbpfSectionKind) (t : Bool) (license named : ℕ) (f : SectionFacts) (e : SymbolEntry)
-    → function_by kind t named f e + (program_by kind t license named + map_by kind named) ≤ placed_by kind t license named f e
-parts_by Text true license named f e = omega arith
-parts_by Text false license named f e = omega arith
-parts_by Programs true license named f e = omega arith
-parts_by Programs false license named f e = omega arith
-parts_by Maps t license named f e = omega arith
-parts_by BtfMaps t license named f e = omega arith
-parts_by Undefined t license named f e = omega arith
-parts_by Data t license named f e = omega arith
-parts_by Rodata t license named f e = omega arith
-parts_by Bss t license named f e = omega arith
-parts_by Btf t license named f e = omega arith
-parts_by BtfExt t license named f e = omega arith
-parts_by License t license named f e = omega arith
-parts_by Version t license named f e = omega arith
+parts_by : (kind : EbpfSectionKind) (t : Bool) (license name : ℕ) (f : SectionFacts) (e : SymbolEntry)
+    → function_by kind t name f e + (program_by kind t license name + map_by kind name) ≤ placed_by kind t license name f e
+parts_by Text true license name f e = omega arith
+parts_by Text false license name f e = omega arith
+parts_by Programs true license name f e = omega arith
+parts_by Programs false license name f e = omega arith
+parts_by Maps t license name f e = omega arith
+parts_by BtfMaps t license name f e = omega arith
+parts_by Undefined t license name f e = omega arith
+parts_by Data t license name f e = omega arith
+parts_by Rodata t license name f e = omega arith
+parts_by Bss t license name f e = omega arith
+parts_by Btf t license name f e = omega arith
+parts_by BtfExt t license name f e = omega arith
+parts_by License t license name f e = omega arith
+parts_by Version t license name f e = omega arith
 
-parts_in : (o : Option SectionFacts) (license named : ℕ) (e : SymbolEntry)
-    → function_in o (is_text_symbol (symbol_kind e)) named e + (program_in o (is_text_symbol (symbol_kind e)) license named + map_in o named) ≤ placed_in o license named e
-parts_in None license named e = omega arith
-parts_in (Some f) license named e = parts_by f.kind (is_text_symbol (symbol_kind e)) license named f e
+parts_in : (o : Option SectionFacts) (license name : ℕ) (e : SymbolEntry)
+    → function_in o (is_text_symbol (symbol_kind e)) name e + (program_in o (is_text_symbol (symbol_kind e)) license name + map_in o name) ≤ placed_in o license name e
+parts_in None license name e = omega arith
+parts_in (Some f) license name e = parts_by f.kind (is_text_symbol (symbol_kind e)) license name f e
 
 module _ (file : List ℕ) (license : ℕ) (all : List SectionFacts) where
   abbrev pub its_facts : SymbolOf → Option SectionFacts
   its_facts y = facts_at all (symbol_section_index (entry y))
 
   abbrev pub its_name : SymbolOf → ℕ
-  its_name y = named_bytes file (symbol_name y)
+  its_name y = name_bytes file (symbol_name y)
+
+  abbrev pub its_symbol : SymbolOf → ℕ
+  its_symbol y = symbol_size + its_name y
+
+  abbrev pub its_extern : SymbolOf → ℕ
+  its_extern y = extern_size + its_name y
 
   abbrev pub its_function : SymbolOf → ℕ
   its_function y = function_in (its_facts y) (is_text_symbol (symbol_kind (entry y))) (its_name y) (entry y)
@@ -108,13 +114,13 @@ module _ (file : List ℕ) (license : ℕ) (all : List SectionFacts) where
   abbrev pub its_map : SymbolOf → ℕ
   its_map y = map_in (its_facts y) (its_name y)
 
-  each_part : (y : SymbolOf) → its_name y + its_name y + (its_function y + (its_program y + its_map y)) ≤ symbol_bytes file license all y
+  each_part : (y : SymbolOf) → its_symbol y + its_extern y + (its_function y + (its_program y + its_map y)) ≤ symbol_bytes file license all y
   unfolding symbol_bytes
   each_part y = let parts = parts_in (its_facts y) license (its_name y) (entry y) in omega (arith, parts)
 
   -- so are those of all symbols
   pub all_parts : (ys : List SymbolOf)
-      → total its_name ys + total its_name ys + (total its_function ys + (total its_program ys + total its_map ys)) ≤ total (symbol_bytes file license all) ys
+      → total its_symbol ys + total its_extern ys + (total its_function ys + (total its_program ys + total its_map ys)) ≤ total (symbol_bytes file license all) ys
   all_parts [] = omega arith
   all_parts (y ∷ ys) = let first = each_part y in let rest = all_parts ys in omega (arith, first, rest)
 
@@ -168,18 +174,18 @@ module _ (file : List ℕ) where
 
   -- ---- the table of symbols
 
-  pub symbols_owned : total symbol_row (entries (symbol_table (file_symbols file))) ≤ total (λ y. named_bytes file (symbol_name y)) (symbols file)
+  pub symbols_owned : total symbol_row (entries (symbol_table (file_symbols file))) ≤ total (λ y. symbol_size + name_bytes file (symbol_name y)) (symbols file)
   unfolding symbol_of
   symbols_owned =
-      let P = Counted nat_cmp_total nat_cmp-IsAntisymmetric (λ (y : SymbolOf). y.index) symbol_row (λ y. named_bytes file (symbol_name y)) (symbols file) in
-      covered nat_cmp_total nat_cmp-IsAntisymmetric (λ (y : SymbolOf). y.index) symbol_row (λ y. named_bytes file (symbol_name y)) (map symbol_entry (file_symbols file)) (symbols file)
+      let P = Counted nat_cmp_total nat_cmp-IsAntisymmetric (λ (y : SymbolOf). y.index) symbol_row (λ y. symbol_size + name_bytes file (symbol_name y)) (symbols file) in
+      covered nat_cmp_total nat_cmp-IsAntisymmetric (λ (y : SymbolOf). y.index) symbol_row (λ y. symbol_size + name_bytes file (symbol_name y)) (map symbol_entry (file_symbols file)) (symbols file)
       (all_map P symbol_entry (file_symbols file) (all_map (λ y. P (symbol_entry y)) symbol_of (symbols file)
       (all_of (λ y. P (symbol_entry (symbol_of y))) (symbols file) (λ y here. (y, here, refl, (let short = name_within file (symbol_name y) in omega (arith, short)))))))
 
   -- ---- the names of sections
 
   abbrev IsSection : List ℕ × SectionIndex → Type 0
-  IsSection = Counted text_total text_exact name_or_empty named_row (section_entry_bytes file) (sections file)
+  IsSection = Counted text_total text_exact name_or_empty section_row (section_entry_bytes file) (sections file)
 
   entry_counted : (s : SectionOf) → Among s (sections file) → AllByRecursion IsSection (section_info_entry (section_of s))
   unfolding section_of section_with section_entry_bytes
@@ -207,10 +213,10 @@ module _ (file : List ℕ) where
   unfolding section_infos type_info_names
   same_table = put_all-append empty (type_names file ++ ext_names file) (name_entries file) ∙ ap (λ m. put_all m (name_entries file)) (put_all-append empty (type_names file) (ext_names file))
 
-  pub names_owned : total named_row (entries (section_infos file)) ≤ total (section_entry_bytes file) (sections file)
+  pub names_owned : total section_row (entries (section_infos file)) ≤ total (section_entry_bytes file) (sections file)
   names_owned =
-      subst (λ m. total named_row (entries m) ≤ total (section_entry_bytes file) (sections file)) same_table
-      (covered text_total text_exact name_or_empty named_row (section_entry_bytes file) ((type_names file ++ ext_names file) ++ name_entries file) (sections file) all_names)
+      subst (λ m. total section_row (entries m) ≤ total (section_entry_bytes file) (sections file)) same_table
+      (covered text_total text_exact name_or_empty section_row (section_entry_bytes file) ((type_names file ++ ext_names file) ++ name_entries file) (sections file) all_names)
 
 -- ---- the externs of a file, by its symbols.
 
@@ -219,10 +225,10 @@ module _ (file : List ℕ) where
   name_of y = unwrap_or (symbol_name y) []
 
   abbrev counted_of : SymbolOf → ℕ
-  counted_of y = named_bytes file (symbol_name y)
+  counted_of y = extern_size + name_bytes file (symbol_name y)
 
   abbrev IsExtern : List ℕ × ExternDesc → Type 0
-  IsExtern = Counted text_total text_exact name_of named_row counted_of (symbols file)
+  IsExtern = Counted text_total text_exact name_of extern_row counted_of (symbols file)
 
   abbrev AreExterns : Result (List ℕ × ExternDesc) BtfError → Type 0
   AreExterns r = AllByRecursion IsExtern (given r)
@@ -260,13 +266,13 @@ module _ (file : List ℕ) where
       after_ok (type_at info.types row.btf_type) _ (λ t. after_some _ _ _ (λ id. after_ok (type_name info t) _ (λ name.
       after_weak name (find (λ y. eq_by_cmp text_cmp name y.name) (file_symbols file)) refl _ _ (λ is_named w. after_ok (resolved info.types id) _ (λ r. (is_named (new_extern row.btf_type t w r), tt))))))
 
-  beside : (types : Option TypeInfo) → total named_row (entries (externs_beside (file_symbols file) types)) ≤ total counted_of (symbols file)
-  beside None = subst (λ es. total named_row es ≤ total counted_of (symbols file)) (sym (entries-empty text_cmp ExternDesc)) (omega arith)
+  beside : (types : Option TypeInfo) → total extern_row (entries (externs_beside (file_symbols file) types)) ≤ total counted_of (symbols file)
+  beside None = subst (λ es. total extern_row es ≤ total counted_of (symbols file)) (sym (entries-empty text_cmp ExternDesc)) (omega arith)
   beside (Some types) =
-      covered text_total text_exact name_of named_row counted_of (flat_map (λ row. given (extern_of (extern_types types) (weak_named (file_symbols file)) row)) (matched_entries (ksyms_datasec types))) (symbols file)
+      covered text_total text_exact name_of extern_row counted_of (flat_map (λ row. given (extern_of (extern_types types) (weak_named (file_symbols file)) row)) (matched_entries (ksyms_datasec types))) (symbols file)
       (all_flat_map IsExtern (λ row. given (extern_of (extern_types types) (weak_named (file_symbols file)) row)) (matched_entries (ksyms_datasec types))
       (all_of (λ row. AllByRecursion IsExtern (given (extern_of (extern_types types) (weak_named (file_symbols file)) row))) (matched_entries (ksyms_datasec types)) (λ row here. extern_counted (extern_types types) row)))
 
-  pub externs_owned : total named_row (entries (externs_of file)) ≤ total counted_of (symbols file)
+  pub externs_owned : total extern_row (entries (externs_of file)) ≤ total counted_of (symbols file)
   unfolding externs_of
   externs_owned = beside (btf_of file)

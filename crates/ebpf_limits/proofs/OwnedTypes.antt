@@ -46,7 +46,7 @@ use Rattle.ebpf_btf.specs.declared.error.BtfError.TheVariants.{InvalidHeader, In
 use Rattle.ebpf_btf_ext.specs.declared.ext_infos.FuncSecInfo.{FuncSecInfo}
 use Rattle.ebpf_btf_ext.specs.declared.ext_infos.LineSecInfo.{LineSecInfo}
 use Rattle.ebpf_btf_ext.specs.declared.relocation.Relocation.{Relocation}
-use Rattle.ebpf_limits.specs.OwnedBytes.{entry_bytes, license_bytes, types_in_bytes, types_bytes, readable_data, readable_types, readable_ext, ext_beside_types, data_in, funcs_row, lines_row, core_row, ext_bytes, part_bytes, ext_in_bytes, total}
+use Rattle.ebpf_limits.specs.OwnedBytes.{extern_types_size, type_byte_size, string_byte_size, license_bytes, types_in_bytes, types_bytes, readable_data, readable_types, readable_ext, ext_beside_types, data_in, funcs_row, lines_row, core_row, ext_bytes, part_bytes, ext_in_bytes, total}
 use Rattle.ebpf_limits.proofs.OwnedFunctions.{range_short}
 use Rattle.ebpf_limits.proofs.Counts.{Counted, covered, all_of}
 use Rattle.ebpf_limits.specs.OwnedBytes as made
@@ -87,7 +87,7 @@ license_owned mode file clear = license_within mode (first_section_named (codes 
 
 -- ---- types
 
-types_within : (o : Endianness) (bytes : List ℕ) (info : TypeInfo) → type_info_of o bytes ≡ Ok info → types_length info.types + length info.strings ≤ word o bytes 12 + word o bytes 20
+types_within : (o : Endianness) (bytes : List ℕ) (info : TypeInfo) → type_info_of o bytes ≡ Ok info → type_byte_size * types_length info.types + string_byte_size * length info.strings ≤ type_byte_size * word o bytes 12 + string_byte_size * word o bytes 20
 unfolding types_part types_end strings_in strings_end
 types_within o bytes info is =
     let spells = found_spelled o bytes (Ok info) is in
@@ -111,29 +111,29 @@ counted o bytes info is = rw (long o bytes info is) (types_within o bytes info i
 -- ---- what externs add to the types
 
 abbrev size_of : TypeInfo → ℕ
-size_of info = types_length info.types + length info.strings
+size_of info = type_byte_size * types_length info.types + string_byte_size * length info.strings
 
 length_more : (xs : List BtfType) (t : BtfType) → types_length (xs ++ t ∷ []) ≤ types_length xs + type_length t
 unfolding types_length
 length_more [] t = omega arith
 length_more (x ∷ xs) t = let more = sum_by_push type_length xs t in omega (arith, more)
 
-named_more : (info : TypeInfo) (name : List ℕ) (t : ℕ → BtfType) → type_length (t (length info.strings)) ≡ 16 → size_of (with_named info name t) ≤ size_of info + (17 + length name)
+named_more : (info : TypeInfo) (name : List ℕ) (t : ℕ → BtfType) → type_length (t (length info.strings)) ≡ 16 → size_of (with_named info name t) ≤ size_of info + (54 + 6 * length name)
 named_more info name t sixteen =
     let types : types_length (with_named info name t).types ≤ types_length info.types + type_length (t (length info.strings)) = length_more info.types (t (length info.strings)) in
     let strings : length (with_named info name t).strings ≡ length (info.strings ++ name) + 1 = length-append (info.strings ++ name) (0 ∷ []) in
     let behind : length (info.strings ++ name) ≡ length info.strings + length name = length-append info.strings name in
     omega (arith, types, strings, behind, sixteen)
 
-word_more : (info : TypeInfo) → size_of (with_word info) ≤ size_of info + 20
+word_more : (info : TypeInfo) → size_of (with_word info) ≤ size_of info + 72
 unfolding with_word type_length further_words kind_of count_of
 word_more info = by_id (word_id info)
   where
-    by_id : (o : Option ℕ) → size_of (if_some o (λ id. info) (with_named info (codes "int") int_at)) ≤ size_of info + 20
+    by_id : (o : Option ℕ) → size_of (if_some o (λ id. info) (with_named info (codes "int") int_at)) ≤ size_of info + 72
     by_id (Some id) = omega arith
     by_id None = let more = named_more info (codes "int") int_at refl in omega (arith, more)
 
-extern_more : (info : TypeInfo) (o : Option FunctionOrFault) → size_of (types_with info o) ≤ size_of info + entry_bytes
+extern_more : (info : TypeInfo) (o : Option FunctionOrFault) → size_of (types_with info o) ≤ size_of info + extern_types_size
 unfolding types_with type_length further_words kind_of count_of
 extern_more info None = omega arith
 extern_more info (Some (UnreadableType e)) = omega arith
@@ -145,21 +145,21 @@ extern_more info (Some Function) =
 -- ---- types and records that can be read are those of the file
 
 by_result : (o : Endianness) (bytes : List ℕ) (r : Result TypeInfo BtfError) → type_info_of o bytes ≡ r
-    → types_bytes (option_map extern_types (result_ok r)) ≤ entry_bytes + types_in_bytes o bytes (result_ok r)
+    → types_bytes (option_map extern_types (result_ok r)) ≤ extern_types_size + types_in_bytes o bytes (result_ok r)
 by_result o bytes (Err e) is = omega arith
 by_result o bytes (Ok info) is =
     let read = counted o bytes info is in
     let more = extern_more info (first_function_or_fault info (matched_entries (ksyms_datasec info))) in
     omega (arith, read, more)
 
-in_section : (o : Endianness) (s : Option SectionOf) → types_fault_in o s ≡ None → types_bytes (option_map extern_types (btf_in o s)) ≤ entry_bytes + types_in_bytes o (data_in s) (result_ok (type_info_of o (data_in s)))
+in_section : (o : Endianness) (s : Option SectionOf) → types_fault_in o s ≡ None → types_bytes (option_map extern_types (btf_in o s)) ≤ extern_types_size + types_in_bytes o (data_in s) (result_ok (type_info_of o (data_in s)))
 unfolding section_of section_with
 in_section o None clear = omega arith
 in_section o (Some s) clear =
     let sound = both_None (section_fault s) _ clear in
     rw (readable s sound.0) (by_result o (data_of s) (type_info_of o (data_of s)) refl)
 
-pub types_owned : (file : List ℕ) → btf_fault file ≡ None → types_bytes (types_of_file file) ≤ entry_bytes + types_in_bytes (ei_data file) (data_in (types_section file)) (readable_types file)
+pub types_owned : (file : List ℕ) → btf_fault file ≡ None → types_bytes (types_of_file file) ≤ extern_types_size + types_in_bytes (ei_data file) (data_in (types_section file)) (readable_types file)
 unfolding types_of_file btf_of btf_fault readable_types
 types_owned file clear = in_section (ei_data file) (types_section file) clear
 
@@ -220,7 +220,7 @@ long_enough least size (suc n) is =
 
 module _ {S : Type 0} (o : Endianness) (bytes : List ℕ) (least size end : ℕ) (records : ℕ → Result S BtfError) (count : S → ℕ)
     (counted : (offset : ℕ) (s : S) → records offset ≡ Ok s → count s ≤ num_info_at o bytes offset) where
-  one_section : (offset : ℕ) (found : S × ℕ) → checked_section o bytes least size end records offset ≡ Ok found → offset + least * count found.0 ≤ found.1
+  one_section : (offset : ℕ) (found : S × ℕ) → checked_section o bytes least size end records offset ≡ Ok found → offset + (8 + least * count found.0) ≤ found.1
   unfolding checked_section info_sec_fault
   one_section offset found is =
       let sound = no_fault (info_sec_fault o bytes least size offset end) _ found is in
@@ -229,35 +229,35 @@ module _ {S : Type 0} (o : Endianness) (bytes : List ℕ) (least size end : ℕ)
       let fewer : count parts.0 ≤ num_info_at o bytes offset = counted offset parts.0 parts.1 in
       let short : least * num_info_at o bytes offset ≤ size * num_info_at o bytes offset = long_enough least size (num_info_at o bytes offset) (second_fails _ _ _ _ _ _ sound.0) in
       let times : count parts.0 * least ≤ num_info_at o bytes offset * least = mul-le-mul_right least fewer in
-      subst (λ (f : S × ℕ). offset + least * count f.0 ≤ f.1) same (omega (arith, short, times))
+      subst (λ (f : S × ℕ). offset + (8 + least * count f.0) ≤ f.1) same (omega (arith, short, times))
 
--- ---- sections one after the other
+-- ---- sections one after the other, each of at most 10 times the bytes that it has in the file
 
-module _ {S : Type 0} (w : S → ℕ) (read : ℕ → Result (S × ℕ) BtfError) (end : ℕ) (steps : (offset : ℕ) (found : S × ℕ) → read offset ≡ Ok found → offset + w found.0 ≤ found.1) where
-  at_end : (offset : ℕ) (all : List S) → (offset == end) ≡ true → ◌≡◌ {A = Result (List S) BtfError} (Ok []) (Ok all) → offset + total w all ≤ end
+module _ {S : Type 0} (w : S → ℕ) (read : ℕ → Result (S × ℕ) BtfError) (end : ℕ) (steps : (offset : ℕ) (found : S × ℕ) → read offset ≡ Ok found → 10 * offset + w found.0 ≤ 10 * found.1) where
+  at_end : (offset : ℕ) (all : List S) → (offset == end) ≡ true → ◌≡◌ {A = Result (List S) BtfError} (Ok []) (Ok all) → 10 * offset + total w all ≤ 10 * end
   at_end offset all here is =
       let none : [] ≡ all = cc in
       let same : offset ≡ end = eqb-true offset end here in
-      subst (λ xs. offset + total w xs ≤ end) none (omega (arith, same))
+      subst (λ xs. 10 * offset + total w xs ≤ 10 * end) none (omega (arith, same))
 
-  all_read : (left offset : ℕ) (all : List S) → sections_from left read offset end ≡ Ok all → offset + total w all ≤ end
+  all_read : (left offset : ℕ) (all : List S) → sections_from left read offset end ≡ Ok all → 10 * offset + total w all ≤ 10 * end
   unfolding sections_from
   all_read zero offset all is =
-      elim (offset == end) as (λ b. (offset == end) ≡ b → (if b then Ok [] else Err InvalidInfo) ≡ Ok all → offset + total w all ≤ end) [
+      elim (offset == end) as (λ b. (offset == end) ≡ b → (if b then Ok [] else Err InvalidInfo) ≡ Ok all → 10 * offset + total w all ≤ 10 * end) [
         | true ↦ λ t e. at_end offset all t e
         | false ↦ λ t e. absurd (let no : ⊥ = cc in no)
       ] refl is
   all_read (suc left) offset all is =
-      elim (offset == end) as (λ b. (offset == end) ≡ b → (if b then Ok [] else if_ok (read offset) (λ found. if_ok (sections_from left read found.1 end) (λ more. Ok (found.0 ∷ more)))) ≡ Ok all → offset + total w all ≤ end) [
+      elim (offset == end) as (λ b. (offset == end) ≡ b → (if b then Ok [] else if_ok (read offset) (λ found. if_ok (sections_from left read found.1 end) (λ more. Ok (found.0 ∷ more)))) ≡ Ok all → 10 * offset + total w all ≤ 10 * end) [
         | true ↦ λ t e. at_end offset all t e
         | false ↦ λ t e.
             (let first = ok_parts (read offset) _ all e in
             let found = first.0 in
             let later = ok_parts (sections_from left read found.1 end) _ all first.2 in
             let same : found.0 ∷ later.0 ≡ all = cc in
-            let step : offset + w found.0 ≤ found.1 = steps offset found first.1 in
-            let rest : found.1 + total w later.0 ≤ end = all_read left found.1 later.0 later.1 in
-            subst (λ xs. offset + total w xs ≤ end) same (omega (arith, step, rest)))
+            let step : 10 * offset + w found.0 ≤ 10 * found.1 = steps offset found first.1 in
+            let rest : 10 * found.1 + total w later.0 ≤ 10 * end = all_read left found.1 later.0 later.1 in
+            subst (λ xs. 10 * offset + total w xs ≤ 10 * end) same (omega (arith, step, rest)))
       ] refl is
 
 -- ---- a part
@@ -311,7 +311,7 @@ module _ (o : Endianness) (bytes strings : List ℕ) where
       let count = length-map-range_with_len (core_relo_at bytes size (offset + 8)) 0 n in
       subst (λ (t : ℕ × List Relocation). length t.1 ≤ n) same (omega (arith, fewer, count))
 
-  funcs_within : (m : FinMap text_cmp FuncSecInfo) → func_sections o bytes strings ≡ Ok m → total funcs_row (entries m) ≤ part_length o bytes func_part
+  funcs_within : (m : FinMap text_cmp FuncSecInfo) → func_sections o bytes strings ≡ Ok m → total funcs_row (entries m) ≤ 10 * part_length o bytes func_part
   unfolding func_sections
   funcs_within m is =
       let size = record_size o bytes func_part in
@@ -319,12 +319,12 @@ module _ (o : Endianness) (bytes strings : List ℕ) where
       let sound = no_fault (part_fault o bytes func_part) _ m is in
       let parts = ok_parts (part_sections o bytes func_part (func_section o bytes strings size end)) _ m sound.1 in
       let same : put_all {R = text_cmp} empty parts.0 ≡ m = cc in
-      let read = all_read funcs_row (func_section o bytes strings size end) end (one_section o bytes 8 size end (named_func_info o bytes strings size) (λ (s : List ℕ × FuncSecInfo). length s.1.func_info) (func_count size)) _ (sections_start o bytes func_part) parts.0 parts.1 in
+      let read = all_read funcs_row (func_section o bytes strings size end) end (λ offset found is. (let step = one_section o bytes 8 size end (named_func_info o bytes strings size) (λ (s : List ℕ × FuncSecInfo). length s.1.func_info) (func_count size) offset found is in omega (arith, step))) _ (sections_start o bytes func_part) parts.0 parts.1 in
       let fewer = named_short funcs_row parts.0 in
       let room = part_room o bytes func_part in
-      subst (λ t. total funcs_row (entries t) ≤ part_length o bytes func_part) same (omega (arith, read, fewer, room))
+      subst (λ t. total funcs_row (entries t) ≤ 10 * part_length o bytes func_part) same (omega (arith, read, fewer, room))
 
-  lines_within : (m : FinMap text_cmp LineSecInfo) → line_sections o bytes strings ≡ Ok m → total lines_row (entries m) ≤ part_length o bytes line_part
+  lines_within : (m : FinMap text_cmp LineSecInfo) → line_sections o bytes strings ≡ Ok m → total lines_row (entries m) ≤ 10 * part_length o bytes line_part
   unfolding line_sections
   lines_within m is =
       let size = record_size o bytes line_part in
@@ -332,18 +332,18 @@ module _ (o : Endianness) (bytes strings : List ℕ) where
       let sound = no_fault (part_fault o bytes line_part) _ m is in
       let parts = ok_parts (part_sections o bytes line_part (line_section o bytes strings size end)) _ m sound.1 in
       let same : put_all {R = text_cmp} empty parts.0 ≡ m = cc in
-      let read = all_read lines_row (line_section o bytes strings size end) end (one_section o bytes 16 size end (named_line_info o bytes strings size) (λ (s : List ℕ × LineSecInfo). length s.1.line_info) (line_count size)) _ (sections_start o bytes line_part) parts.0 parts.1 in
+      let read = all_read lines_row (line_section o bytes strings size end) end (λ offset found is. (let step = one_section o bytes 16 size end (named_line_info o bytes strings size) (λ (s : List ℕ × LineSecInfo). length s.1.line_info) (line_count size) offset found is in omega (arith, step))) _ (sections_start o bytes line_part) parts.0 parts.1 in
       let fewer = named_short lines_row parts.0 in
       let room = part_room o bytes line_part in
-      subst (λ t. total lines_row (entries t) ≤ part_length o bytes line_part) same (omega (arith, read, fewer, room))
+      subst (λ t. total lines_row (entries t) ≤ 10 * part_length o bytes line_part) same (omega (arith, read, fewer, room))
 
-  core_within : (all : List (ℕ × List Relocation)) → core_relo_sections o bytes ≡ Ok all → total core_row all ≤ part_length o bytes core_relo_part
+  core_within : (all : List (ℕ × List Relocation)) → core_relo_sections o bytes ≡ Ok all → total core_row all ≤ 10 * part_length o bytes core_relo_part
   unfolding core_relo_sections
   core_within all is =
       let size = record_size o bytes core_relo_part in
       let end = sections_end o bytes core_relo_part in
       let sound = no_fault (part_fault o bytes core_relo_part) _ all is in
-      let read = all_read core_row (core_relo_section o bytes size end) end (one_section o bytes 16 size end (section_core_relos o bytes size) (λ (s : ℕ × List Relocation). length s.1) (core_count size)) _ (sections_start o bytes core_relo_part) all sound.1 in
+      let read = all_read core_row (core_relo_section o bytes size end) end (λ offset found is. (let step = one_section o bytes 16 size end (section_core_relos o bytes size) (λ (s : ℕ × List Relocation). length s.1) (core_count size) offset found is in omega (arith, step))) _ (sections_start o bytes core_relo_part) all sound.1 in
       let room = part_room o bytes core_relo_part in
       omega (arith, read, room)
 

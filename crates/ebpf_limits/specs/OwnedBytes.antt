@@ -1,15 +1,16 @@
 -- The number of bytes that an object owns, and an upper bound of it that is counted on the file.
 --
--- `owned_bytes` counts an object: its texts, its lists and its data, and 64 bytes for each entry of
--- a table. `made_bytes` counts a file before anything is made of it. `ObjectsOwnWhatIsMade` says
--- that the object of a file owns at most the bytes that are counted on the file.
+-- `owned_bytes` counts an object by the sizes of the table below. `made_bytes` counts a file by the
+-- same sizes, before the object is made. `ObjectsOwnWhatIsMade` says that the object of a file owns
+-- at most the bytes that are counted on the file. An object has things that contracts don't see,
+-- as a section of `.BTF.ext` behind which one of the same name counts: `made_bytes` counts them.
 --
 -- A worked example: a function `f` of 2 slots with one func info entry and two line info entries.
--- `function_row` counts 64 for the entry, 1 for the name, 2 * 8 for the slots, and `record_bytes 1
--- 2` = 1 * 8 + 2 * 16 = 40 for the info entries: 121 bytes. On the file `function_bytes` counts the
--- same 121 for the symbol `f`: `named_bytes` = 64 + 1, `code_bytes` = 16, `record_bytes 1 2` = 40.
--- The symbol also counts 2 * 65 in `symbol_bytes`, 65 for its entry among the symbols and 65 for an
--- extern that it may name. So the count of the file is greater where it names none.
+-- `function_row` counts 400 for the entry, 1 for the name, 2 * 16 for the slots, and `record_bytes
+-- 1 2` = 1 * 8 + 2 * 16 = 40 for the info entries: 473 bytes. On the file `function_bytes` counts
+-- the same 473 for the symbol `f`: 400 + 1, 2 * `code_bytes` = 2 * 16, `record_bytes 1 2` = 40. The
+-- symbol also counts 209 + 161 in `symbol_bytes`, for its entry among the symbols and for an extern
+-- that it may name. So the count of the file is greater where it names none.
 use Rattle.std.specs.Prelude.{ℕ, List, [], Option, Some, None, is_some, if◌then◌else◌, ◌+◌, ◌∷◌}
 use Rattle.std.specs.Prelude.{◌*◌, length, ◌-◌, ◌%◌, ◌^◌, Bool, true, false, map, filter, codes}
 use Rattle.std.specs.Prelude.{nat_lt, min, slice_get, ◌≡◌, ◌≤◌, ◌<◌, unwrap_or}
@@ -31,6 +32,7 @@ use Rattle.ebpf_elf.specs.Relocations.{relocation_sections, relocated_section, e
 use Rattle.ebpf_elf.specs.Symbols.{SymbolOf, entry, symbols, symbol_name, symbol_kind}
 use Rattle.ebpf_elf.specs.Symbols.{symbol_section_index}
 use Rattle.ebpf_elf.specs.declared.relocation.ElfRelocation.{ElfRelocation}
+use Rattle.ebpf_elf.specs.declared.section.SectionIndex.{SectionIndex}
 use Rattle.ebpf_elf.specs.declared.symbol.SymbolEntry.{SymbolEntry}
 use Rattle.ebpf_btf_ext.specs.ExtFormat.{func_part, line_part, core_relo_part, part_length}
 use Rattle.ebpf_btf_ext.specs.declared.ext_infos.FuncSecInfo.{FuncSecInfo}
@@ -41,6 +43,7 @@ use Rattle.ebpf_btf_ext.specs.declared.relocation.Relocation.{Relocation}
 use Rattle.ebpf_model.specs.Symbols.{FunctionKey}
 use Rattle.ebpf_model.specs.declared.function.Function.{Function}
 use Rattle.ebpf_model.specs.declared.function.Program.{Program}
+use Rattle.ebpf_model.specs.declared.symbol.ExternDesc.{ExternDesc}
 use Rattle.ebpf_model.specs.declared.symbol.Symbol.{Symbol}
 use Rattle.ebpf_object.specs.Objects.{object_as, parse_fault_as}
 use Rattle.ebpf_object.specs.declared.object.Object.{Object}
@@ -55,6 +58,95 @@ use Rattle.ebpf_parts.specs.declared.section.EbpfSectionKind.{EbpfSectionKind}
 use Rattle.ebpf_parts.specs.declared.section.EbpfSectionKind.TheVariants.{Maps, BtfMaps, Data}
 use Rattle.ebpf_parts.specs.declared.section.EbpfSectionKind.TheVariants.{Rodata, Bss, Text}
 use Rattle.ebpf_parts.specs.declared.section.EbpfSectionKind.TheVariants.{Program as Programs}
+
+-- ---- the sizes: the bytes of each thing that an object owns, in the memory of a 64-bit machine.
+--
+-- A list or a text that is made whole has the room that it needs. One that grows doubles its room,
+-- so it has at most twice what it needs.
+--
+-- A table by name, key or offset has nodes of 15 places, of which at least 7 are taken in each but
+-- one. A node of entries of `s` bytes takes at most 15 * s + 136: 8 for itself and 128 for the
+-- nodes below it. So an entry counts a seventh of that, and a table one node more. A text as a key
+-- has 24 bytes, beside its letters.
+
+-- An object: 640 of its own, one node of each of its six tables, 8,976, a group of its symbols,
+-- 928, and the least room of three lists in `.BTF.ext`, 448.
+abbrev pub object_size : ℕ
+object_size = 10992
+
+-- an extern: a name and 40 bytes
+abbrev pub extern_size : ℕ
+extern_size = 160
+
+-- a map: a name and 152 bytes
+abbrev pub map_size : ℕ
+map_size = 400
+
+-- a program: a name and 56 bytes
+abbrev pub program_size : ℕ
+program_size = 192
+
+-- a function: a key of 16 bytes and 144 bytes, 363 in all; and room for 4 slots
+abbrev pub function_size : ℕ
+function_size = 400
+
+-- a slot of 8 bytes, in a list that grows
+abbrev pub slot_size : ℕ
+slot_size = 16
+
+-- A symbol: 80 bytes, an index of 8 and a hash of 8 in a hashed table. It has groups of 9 symbols,
+-- with 64 bytes beside them, 928 in all, and up to twice the groups that it needs.
+abbrev pub symbol_size : ℕ
+symbol_size = 208
+
+-- a section's relocations: a number and 24 bytes in a table, 88, and one node of its own table
+abbrev pub relocations_size : ℕ
+relocations_size = 704
+
+-- a relocation: an offset and 24 bytes
+abbrev pub relocation_size : ℕ
+relocation_size = 88
+
+-- a section's index by its name: a name and 8 bytes
+abbrev pub section_size : ℕ
+section_size = 88
+
+-- A byte of types: itself, in a list that grows where an extern adds a type; and the 4 bytes of
+-- each type's offset, also in a list that grows. A type has 12 bytes or more.
+abbrev pub type_byte_size : ℕ
+type_byte_size = 3
+
+-- A byte of strings: itself, in a list that grows where an extern adds a name; and the names of
+-- sections that func info and line info copy, each in a list that grows up to all strings.
+abbrev pub string_byte_size : ℕ
+string_byte_size = 6
+
+-- the types `int` and `ksym_func_placeholder` that externs add: 32 bytes, and 26 of strings
+abbrev pub extern_types_size : ℕ
+extern_types_size = 256
+
+-- a section of func info or line info: 40 bytes in a list that grows
+abbrev pub info_section_size : ℕ
+info_section_size = 80
+
+-- a section of CO-RE relocations: 32 bytes in a list that grows
+abbrev pub core_section_size : ℕ
+core_section_size = 64
+
+-- a func info entry, a line info entry, a CO-RE relocation
+abbrev pub func_size : ℕ
+func_size = 8
+
+abbrev pub line_size : ℕ
+line_size = 16
+
+abbrev pub core_relo_size : ℕ
+core_relo_size = 24
+
+-- A byte of a part of `.BTF.ext` in the file. The part has 8 bytes for each of its sections, of
+-- which the object has at most `info_section_size`, 10 times as many; of an entry it has less.
+abbrev pub ext_byte_size : ℕ
+ext_byte_size = 10
 
 -- ---- the parts of a file's sections that can be read before any other fault of the file is known.
 -- Data outside the file, and type information with a fault, count as none: a file with such a
@@ -92,17 +184,16 @@ abbrev pub total : {X : Type 0} → (X → ℕ) → List X → ℕ
 total f [] = 0
 total f (x ∷ xs) = f x + total f xs
 
--- ---- how many bytes the records of `.BTF.ext` take in an object: 8 of func info, 16 of line info
--- and of CO-RE relocations
+-- ---- how many bytes the sections of `.BTF.ext` take in an object
 
 abbrev pub funcs_row : List ℕ × FuncSecInfo → ℕ
-funcs_row e = 8 * length e.1.func_info
+funcs_row e = info_section_size + func_size * length e.1.func_info
 
 abbrev pub lines_row : List ℕ × LineSecInfo → ℕ
-lines_row e = 16 * length e.1.line_info
+lines_row e = info_section_size + line_size * length e.1.line_info
 
 abbrev pub core_row : ℕ × List Relocation → ℕ
-core_row e = 16 * length e.1
+core_row e = core_section_size + core_relo_size * length e.1
 
 abbrev pub ext_bytes : Option ExtInfo → ℕ
 ext_bytes None = 0
@@ -112,24 +203,16 @@ ext_bytes (Some ext) =
     + total core_row ext.relocations
 
 -- ---- the bytes that are made of a file: a sum over the headers of its sections, over its symbols
--- and over its info entries, which is counted before anything is made of them. Each entry that is
--- put into a table of the object counts, also where a later one of its key replaces it
+-- and over its info entries, which is counted before the object is made. Each entry that is put
+-- into a table of the object counts, also where a later one of its key replaces it
 
--- ---- names and entries
-
--- the bytes of an entry of a table, without its name and its lists
-abbrev pub entry_bytes : ℕ
-entry_bytes = 64
+-- ---- names
 
 -- the length of a name. One that can't be read counts as the file does: a file with one is refused,
 -- and to look for its end took no longer.
 abbrev pub name_bytes : List ℕ → Option (List ℕ) → ℕ
 name_bytes file None = length file
 name_bytes file (Some name) = length name
-
--- an entry by a name
-abbrev pub named_bytes : List ℕ → Option (List ℕ) → ℕ
-named_bytes file name = entry_bytes + name_bytes file name
 
 -- ---- the license and the type information
 
@@ -146,7 +229,9 @@ license_bytes file = license_in (first_section_named (codes "license") file)
 abbrev pub types_in_bytes : Endianness → List ℕ → Option TypeInfo → ℕ
 types_in_bytes o bytes None = 0
 types_in_bytes o bytes (Some types) =
-    if nat_lt (length bytes) 24 then 0 else word o bytes 12 + word o bytes 20
+    if nat_lt (length bytes) 24
+    then 0
+    else type_byte_size * word o bytes 12 + string_byte_size * word o bytes 20
 
 -- the three parts of `.BTF.ext`
 abbrev pub part_bytes : Endianness → List ℕ → ℕ → ℕ
@@ -155,12 +240,15 @@ part_bytes o bytes at = if nat_lt (length bytes) (at + 8) then 0 else part_lengt
 abbrev pub ext_in_bytes : Endianness → List ℕ → Option ExtInfo → ℕ
 ext_in_bytes o bytes None = 0
 ext_in_bytes o bytes (Some ext) =
-    part_bytes o bytes func_part + part_bytes o bytes line_part + part_bytes o bytes core_relo_part
+    ext_byte_size
+    * (part_bytes o bytes func_part
+    + part_bytes o bytes line_part
+    + part_bytes o bytes core_relo_part)
 
--- both, where they can be read, and an entry for what externs add to the types
+-- both, where they can be read, and what externs add to the types
 unfoldable pub type_information_bytes : List ℕ → ℕ
 type_information_bytes file =
-    entry_bytes
+    extern_types_size
     + types_in_bytes (ei_data file) (data_in (types_section file)) (readable_types file)
     + ext_in_bytes (ei_data file) (data_in (ext_section file)) (readable_ext file)
 
@@ -168,7 +256,7 @@ type_information_bytes file =
 
 -- a section's index by its name
 unfoldable pub section_entry_bytes : List ℕ → SectionOf → ℕ
-section_entry_bytes file s = named_bytes file (section_name s)
+section_entry_bytes file s = section_size + name_bytes file (section_name s)
 
 -- the facts of a section that count for its symbols
 pub record SectionFacts : Type 0 where
@@ -187,23 +275,23 @@ facts_of ext s = record {
   lines = (line_info_at (line_info_of ext) (name_or_empty s)).line_info;
 }
 
--- the records of a section: 8 bytes each of func info, 16 each of line info
+-- info entries of a function
 abbrev pub record_bytes : ℕ → ℕ → ℕ
-record_bytes funcs lines = 8 * funcs + 16 * lines
+record_bytes funcs lines = func_size * funcs + line_size * lines
 
 -- a section of data is a map of its name with its data, `.bss` too; the records of a section of
 -- code are gathered
 abbrev pub contents_by : EbpfSectionKind → ℕ → SectionFacts → ℕ
-contents_by Data named f = named + f.size
-contents_by Rodata named f = named + f.size
-contents_by Bss named f = named + f.size
-contents_by Text named f = record_bytes (length f.funcs) (length f.lines)
-contents_by Programs named f = record_bytes (length f.funcs) (length f.lines)
-contents_by _ named f = 0
+contents_by Data name f = map_size + name + f.size
+contents_by Rodata name f = map_size + name + f.size
+contents_by Bss name f = map_size + name + f.size
+contents_by Text name f = record_bytes (length f.funcs) (length f.lines)
+contents_by Programs name f = record_bytes (length f.funcs) (length f.lines)
+contents_by _ name f = 0
 
 unfoldable pub contents_bytes : List ℕ → Option ExtInfo → SectionOf → ℕ
 contents_bytes file ext s =
-    contents_by (facts_of ext s).kind (named_bytes file (section_name s)) (facts_of ext s)
+    contents_by (facts_of ext s).kind (name_bytes file (section_name s)) (facts_of ext s)
 
 -- ---- symbols
 
@@ -235,26 +323,28 @@ first_slot f e = slot_of (offset_by f.kind f.address e.st_value)
 abbrev pub code_bytes : SectionFacts → SymbolEntry → ℕ
 code_bytes f e = min f.size e.st_size
 
--- a function: an entry by its name, its slots and its records
+-- a function: an entry, its name, its slots (`slot_size` is twice their bytes) and its records
 unfoldable pub function_bytes : ℕ → SectionFacts → SymbolEntry → ℕ
-function_bytes named f e =
-    named
-    + code_bytes f e
+function_bytes name f e =
+    function_size
+    + name
+    + 2 * code_bytes f e
     + record_bytes (func_count f (first_slot f e))
     (line_count f (first_slot f e) (slot_of e.st_size))
 
 -- the bytes of a symbol by its section: a function, and a program with the license; or a map
 abbrev pub placed_by : EbpfSectionKind → Bool → ℕ → ℕ → SectionFacts → SymbolEntry → ℕ
-placed_by Text true license named f e = function_bytes named f e
-placed_by Programs true license named f e = function_bytes named f e + named + license
-placed_by Maps is_text license named f e = named
-placed_by BtfMaps is_text license named f e = named
-placed_by _ is_text license named f e = 0
+placed_by Text true license name f e = function_bytes name f e
+placed_by Programs true license name f e =
+    function_bytes name f e + (program_size + name + license)
+placed_by Maps is_text license name f e = map_size + name
+placed_by BtfMaps is_text license name f e = map_size + name
+placed_by _ is_text license name f e = 0
 
 abbrev pub placed_in : Option SectionFacts → ℕ → ℕ → SymbolEntry → ℕ
-placed_in None license named e = 0
-placed_in (Some f) license named e =
-    placed_by f.kind (is_text_symbol (symbol_kind e)) license named f e
+placed_in None license name e = 0
+placed_in (Some f) license name e =
+    placed_by f.kind (is_text_symbol (symbol_kind e)) license name f e
 
 -- the facts of the section with an index, from 1 on
 abbrev pub facts_at : List SectionFacts → Option ℕ → Option SectionFacts
@@ -265,9 +355,11 @@ facts_at all (Some index) = slice_get all (index - 1)
 -- map
 unfoldable pub symbol_bytes : List ℕ → ℕ → List SectionFacts → SymbolOf → ℕ
 symbol_bytes file license all y =
-    2 * named_bytes file (symbol_name y)
+    symbol_size
+    + extern_size
+    + 2 * name_bytes file (symbol_name y)
     + placed_in (facts_at all (symbol_section_index (entry y))) license
-    (named_bytes file (symbol_name y)) (entry y)
+    (name_bytes file (symbol_name y)) (entry y)
 
 -- ---- relocations
 
@@ -275,11 +367,11 @@ abbrev pub relocated_kind : Option SectionFacts → Bool
 relocated_kind None = false
 relocated_kind (Some f) = is_kind_of_code f.kind
 
--- an entry for each relocation of a section of code
+-- the relocations of a section of code
 unfoldable pub relocation_bytes : List SectionFacts → SectionOf → ℕ
 relocation_bytes all r =
     if relocated_kind (facts_at all (Some (relocated_section r)))
-    then entry_bytes * entry_count r
+    then relocations_size + relocation_size * entry_count r
     else 0
 
 -- ---- the sum
@@ -290,59 +382,63 @@ all_facts file = map (facts_of (readable_ext file)) (sections file)
 
 abbrev pub made_bytes : List ℕ → ℕ
 made_bytes file =
-    (license_bytes file + total (section_entry_bytes file) (sections file))
+    (object_size + license_bytes file + total (section_entry_bytes file) (sections file))
     + (type_information_bytes file
     + total (contents_bytes file (readable_ext file)) (sections file)
     + (total (symbol_bytes file (license_bytes file) (all_facts file)) (symbols file)
     + total (relocation_bytes (all_facts file)) (relocation_sections file)))
 
--- ---- the bytes that an object owns: its texts, its lists and its data, and 64 bytes for each
--- entry of its tables
+-- ---- the bytes that an object owns
 
--- ---- a row of a table, by its key
+-- ---- a row of a table
 
-abbrev pub named_row : {X : Type 0} → List ℕ × X → ℕ
-named_row e = entry_bytes + length e.0
+abbrev pub extern_row : List ℕ × ExternDesc → ℕ
+extern_row e = extern_size + length e.0
+
+abbrev pub section_row : List ℕ × SectionIndex → ℕ
+section_row e = section_size + length e.0
 
 abbrev pub program_row : List ℕ × Program → ℕ
-program_row e = named_row e + length e.1.license
+program_row e = program_size + length e.0 + length e.1.license
 
 abbrev pub map_row : List ℕ × Map → ℕ
-map_row e = named_row e + length (bytes_of e.1)
+map_row e = map_size + length e.0 + length (bytes_of e.1)
 
 abbrev pub function_row : FunctionKey × Function → ℕ
 function_row e =
-    entry_bytes
+    function_size
     + length e.1.name
-    + 8 * length e.1.instructions
+    + slot_size * length e.1.instructions
     + record_bytes (length e.1.func_info.func_info) (length e.1.line_info.line_info)
 
 abbrev pub symbol_row : ℕ × Symbol → ℕ
-symbol_row e = entry_bytes + length (unwrap_or e.1.name [])
+symbol_row e = symbol_size + length (unwrap_or e.1.name [])
 
 abbrev pub relocations_row : ℕ × FinMap nat_cmp ElfRelocation → ℕ
-relocations_row e = entry_bytes * length (entries e.1)
+relocations_row e = relocations_size + relocation_size * length (entries e.1)
 
 -- ---- the type information
 
 abbrev pub types_bytes : Option TypeInfo → ℕ
 types_bytes None = 0
-types_bytes (Some types) = types_length types.types + length types.strings
+types_bytes (Some types) =
+    type_byte_size * types_length types.types + string_byte_size * length types.strings
 
 -- ---- the whole
 
 abbrev pub owned_bytes : Object → ℕ
 owned_bytes o =
-    length o.license
+    object_size
+    + length o.license
     + types_bytes o.btf
     + ext_bytes o.btf_ext
-    + total named_row (entries o.externs)
+    + total extern_row (entries o.externs)
     + total map_row (entries o.maps)
     + total program_row (entries o.programs)
     + total function_row (entries o.functions)
     + total symbol_row (entries o.symbol_table)
     + total relocations_row (entries o.relocations)
-    + total named_row (entries o.section_infos)
+    + total section_row (entries o.section_infos)
 
 -- The object of a file without a fault owns at most the bytes that are made of the file. As each
 -- slice, the file has fewer than 2 ^ 64 bytes.
@@ -362,7 +458,8 @@ Took (Some x) before after bytes = after + bytes ≡ before
 
 -- the sum in three parts
 abbrev pub first_bytes : List ℕ → ℕ
-first_bytes file = license_bytes file + total (section_entry_bytes file) (sections file)
+first_bytes file =
+    object_size + license_bytes file + total (section_entry_bytes file) (sections file)
 
 abbrev pub last_bytes : List ℕ → ℕ
 last_bytes file =

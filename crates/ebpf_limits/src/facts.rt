@@ -7,6 +7,7 @@ ghost use Rattle.ebpf_elf.specs.Sections.{header};
 ghost use Rattle.ebpf_elf.specs.Symbols.{entry, symbol_kind};
 ghost use Rattle.ebpf_sections.specs.Symbols.{is_text_symbol};
 
+use crate::sizes::{FUNC, FUNCTION, LINE, MAP, PROGRAM};
 use ebpf_btf_ext::{BtfExt, bpf_func_info, bpf_line_info};
 use ebpf_elf::{ElfFile, ElfSection, ElfSymbol, SymbolKind};
 use ebpf_parts::EbpfSectionKind;
@@ -141,59 +142,59 @@ impl<'e> Facts<'e> {
 
     /// The bytes of a symbol's function.
     #[tactic(auto, unfolding(crate::specs::OwnedBytes::function_bytes))]
-    fn function_bytes(&self, named: u128, symbol: &ElfSymbol<'_>) -> u128
-        requires { named < 2 ^ 65 }
-        ensures exact { result ≡ function_bytes named self.now (entry symbol.now) }
+    fn function_bytes(&self, name: u128, symbol: &ElfSymbol<'_>) -> u128
+        requires { name < 2 ^ 65 }
+        ensures exact { result ≡ function_bytes name self.now (entry symbol.now) }
         ensures few { result < 2 ^ 80 }
     {
         let first = self.first_slot(symbol);
         let funcs = self.func_count(first) as u128;
         let lines = self.line_count(first, symbol.size() / bpf_insn::SIZE as u64) as u128;
         let code = u128::from(self.size.min(symbol.size()));
-        named + code + record_bytes(funcs, lines)
+        FUNCTION + name + 2 * code + record_bytes(funcs, lines)
     }
 
     /// The number of bytes of a symbol in the section, without the symbol's own entry.
-    pub fn placed_bytes(&self, license: usize, named: u128, symbol: &ElfSymbol<'_>) -> u128
-        requires { named < 2 ^ 65 }
+    pub fn placed_bytes(&self, license: usize, name: u128, symbol: &ElfSymbol<'_>) -> u128
+        requires { name < 2 ^ 65 }
         ensures exact { result
             ≡ placed_by self.now.kind (is_text_symbol (symbol_kind (entry symbol.now))) license
-            named self.now (entry symbol.now) }
+            name self.now (entry symbol.now) }
         ensures few { result < 2 ^ 90 }
     {
         let is_text = matches!(symbol.kind(), SymbolKind::Text);
         match self.kind {
-            EbpfSectionKind::Text if is_text => self.function_bytes(named, symbol),
+            EbpfSectionKind::Text if is_text => self.function_bytes(name, symbol),
             EbpfSectionKind::Program if is_text => {
-                self.function_bytes(named, symbol) + named + license as u128
+                self.function_bytes(name, symbol) + (PROGRAM + name + license as u128)
             }
-            EbpfSectionKind::Maps | EbpfSectionKind::BtfMaps => named,
+            EbpfSectionKind::Maps | EbpfSectionKind::BtfMaps => MAP + name,
             _ => 0,
         }
     }
 }
 
-/// The number of bytes of info entries: 8 for each func info entry, 16 for each line info entry.
+/// The number of bytes of the info entries of a function.
 fn record_bytes(funcs: u128, lines: u128) -> u128
     requires few_funcs { funcs < 2 ^ 64 }
     requires few_lines { lines < 2 ^ 64 }
     ensures exact { result ≡ record_bytes funcs lines }
     ensures few { result < 2 ^ 70 }
 {
-    8 * funcs + 16 * lines
+    FUNC * funcs + LINE * lines
 }
 
 /// The number of bytes of a section itself, before its info entries are counted.
 pub fn contents_bytes(
     kind: EbpfSectionKind,
-    named: u128,
+    name: u128,
     section: &ElfSection<'_>,
     funcs: &[bpf_func_info],
     lines: &[bpf_line_info],
 ) -> u128
-    requires { named < 2 ^ 65 }
+    requires { name < 2 ^ 65 }
     ensures { result
-        ≡ contents_by kind named
+        ≡ contents_by kind name
         (record {
           kind = kind;
           address = (header section.now).sh_addr;
@@ -204,7 +205,7 @@ pub fn contents_bytes(
 {
     match kind {
         EbpfSectionKind::Data | EbpfSectionKind::Rodata | EbpfSectionKind::Bss => {
-            named + u128::from(section.size())
+            MAP + name + u128::from(section.size())
         }
         EbpfSectionKind::Text | EbpfSectionKind::Program => {
             record_bytes(funcs.len() as u128, lines.len() as u128)

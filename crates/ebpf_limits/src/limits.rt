@@ -13,7 +13,8 @@ ghost use Rattle.ebpf_parts.specs.declared.error.ParseError.TheVariants.{ElfErro
 
 use crate::facts::{Facts, code_names};
 use crate::readable::{license_bytes, readable_ext, readable_types, type_information_bytes};
-use crate::symbols::{ENTRY, facts_at, take_names, take_sections, take_symbols};
+use crate::sizes::{OBJECT, RELOCATION, RELOCATIONS};
+use crate::symbols::{facts_at, take_names, take_sections, take_symbols};
 use ebpf_elf::{ElfFile, ElfRelocationSection};
 use ebpf_object::Object;
 use ebpf_parts::{EbpfSectionKind, ParseError, ParseMode};
@@ -45,17 +46,18 @@ impl Room {
 /// The limit on the bytes that are made of a file.
 #[derive(Clone, Copy, Debug, PartialEq, Eq)]
 pub struct Limits {
-    /// The maximum number of bytes that the object may own.
+    /// The maximum number of bytes that may count for a file. The object owns no more.
     pub most_bytes: u64,
 }
 
-/// Takes the bytes of the section names and the license. Names come first, since sections are searched by name next.
+/// Takes the bytes of the object itself, the section names and the license. Names come before the license, since it is
+/// searched by name.
 fn take_first(room: &mut Room, bytes: &[u8], file: &ElfFile<'_>) -> bool
     requires { file.now ≡ bytes.now }
     ensures fits { OnTrue result (room.new.left + first_bytes file.now ≡ room.old.left) }
     ensures over { OnFalse result (room.old.left < first_bytes file.now) }
 {
-    take_names(room, bytes, file) && room.take(license_bytes(file) as u128)
+    room.take(OBJECT) && take_names(room, bytes, file) && room.take(license_bytes(file) as u128)
 }
 
 /// Takes the bytes of the symbols and the relocations.
@@ -120,7 +122,7 @@ fn patches_code(all: &[Facts<'_>], section: &ElfRelocationSection<'_>) -> bool
     }
 }
 
-/// The bytes of the entries of a section of relocations.
+/// The bytes of a section of relocations.
 #[tactic(auto, unfolding(crate::specs::OwnedBytes::relocation_bytes))]
 fn relocation_bytes(all: &[Facts<'_>], section: &ElfRelocationSection<'_>) -> u128
     ensures { result ≡ relocation_bytes all.now section.now }
@@ -128,10 +130,10 @@ fn relocation_bytes(all: &[Facts<'_>], section: &ElfRelocationSection<'_>) -> u1
     if !patches_code(all, section) {
         return 0;
     }
-    ENTRY * section.extent().count as u128
+    RELOCATIONS + RELOCATION * section.extent().count as u128
 }
 
-/// Takes an entry for each relocation of a section of code.
+/// Takes the bytes of the relocations of sections of code.
 pub fn take_relocations(room: &mut Room, file: &ElfFile<'_>, all: &[Facts<'_>]) -> bool
     ensures fits { OnTrue result
         (room.new.left + total (relocation_bytes all.now) (relocation_sections file.now)
@@ -174,17 +176,22 @@ fn check_size(alloc: Global, bytes: &[u8], most_bytes: u64) -> Result<(), ParseE
 
 /// Returns the object in the bytes of an ELF64 file, where the bytes that it owns are within a limit.
 ///
-/// The object is the one that `Object::parse_as` returns for the parse mode. Before anything is allocated, these bytes
-/// are counted and compared with `most_bytes`:
+/// The object is the one that `Object::parse_as` returns for the parse mode. Before it is made, these bytes are counted
+/// and compared with `most_bytes`. To count, the type information is read; what that takes is given back.
 ///
-/// - 8 bytes for each slot.
+/// - 10,992 bytes for the object itself.
 /// - 1 byte for each byte of data, of the license and of names. The license counts once more for each program.
-/// - 64 bytes for each entry of a table, also where a later entry replaces it.
-/// - 64 bytes and the name once more for each symbol, since it may name an extern.
-/// - 8 bytes for each func info entry, 16 bytes for each line info entry. The info entries of a section of code count
+/// - For each entry of a table, also where a later entry replaces it: 400 bytes for a map and for a function, 192 for a
+///   program, 208 for a symbol, 88 for a relocation and for a section, and 704 for a section of relocations.
+/// - 160 bytes and the name once more for each symbol, since it may name an extern.
+/// - 16 bytes for each slot.
+/// - 8 bytes for each func info entry of a function, 16 bytes for each line info entry. Those of a section of code count
 ///   once more. All of them count at each function of the section where they are not sorted by slot.
-/// - The type information with its length in the file.
+/// - 3 bytes for each byte of types, 6 for each byte of their strings, 10 for each byte of `.BTF.ext`, and 256.
 /// - The length of the file for each name that can't be read.
+///
+/// The sizes are upper bounds of what is allocated: they have the spare room of lists and the nodes of tables. What
+/// parsing holds besides the object doesn't count.
 ///
 /// # Errors
 ///

@@ -6,7 +6,7 @@ ghost use Rattle.ebpf_btf.specs.Reading.{type_info_of};
 ghost use Rattle.ebpf_btf_ext.specs.ExtReading.{read_ext};
 ghost use Rattle.ebpf_limits.specs.OwnedBytes.{license_bytes, type_information_bytes, types_in_bytes, part_bytes, ext_in_bytes, readable_data, data_named, readable_types, readable_ext};
 
-use crate::symbols::ENTRY;
+use crate::sizes::{EXT_BYTE, EXTERN_TYPES, STRING_BYTE, TYPE_BYTE};
 use ebpf_base::numbers::read_u32;
 use ebpf_btf::{Btf, BtfError, Endianness};
 use ebpf_btf_ext::BtfExt;
@@ -104,12 +104,13 @@ pub fn license_bytes(file: &ElfFile<'_>) -> usize
 /// The number of bytes of the types and strings in `.BTF`.
 fn types_bytes(order: Endianness, bytes: &[u8], types: &Option<Btf>) -> u128
     ensures exact { result ≡ types_in_bytes order bytes.now types.now }
-    ensures few { result < 2 ^ 33 }
+    ensures few { result < 2 ^ 36 }
 {
     if types.is_none() || bytes.len() < 24 {
         return 0;
     }
-    u128::from(read_u32(order, bytes, 12)) + u128::from(read_u32(order, bytes, 20))
+    TYPE_BYTE * u128::from(read_u32(order, bytes, 12))
+        + STRING_BYTE * u128::from(read_u32(order, bytes, 20))
 }
 
 /// The number of bytes of a part of `.BTF.ext`, whose offset and length are at `at` in the header.
@@ -128,12 +129,15 @@ fn part_bytes(order: Endianness, bytes: &[u8], at: usize) -> u128
 /// The number of bytes of the parts of `.BTF.ext`.
 fn ext_bytes(order: Endianness, bytes: &[u8], ext: &Option<BtfExt>) -> u128
     ensures exact { result ≡ ext_in_bytes order bytes.now ext.now }
-    ensures few { result < 2 ^ 34 }
+    ensures few { result < 2 ^ 38 }
 {
     if ext.is_none() {
         return 0;
     }
-    part_bytes(order, bytes, 8) + part_bytes(order, bytes, 16) + part_bytes(order, bytes, 24)
+    let funcs = part_bytes(order, bytes, 8);
+    let lines = part_bytes(order, bytes, 16);
+    let relocations = part_bytes(order, bytes, 24);
+    EXT_BYTE * (funcs + lines + relocations)
 }
 
 /// The number of bytes of a file's type information.
@@ -145,5 +149,5 @@ pub fn type_information_bytes(file: &ElfFile<'_>, types: &Option<Btf>, ext: &Opt
 {
     let order = file.endianness();
     let types = types_bytes(order, data_named(file, ".BTF"), types);
-    ENTRY + types + ext_bytes(order, data_named(file, ".BTF.ext"), ext)
+    EXTERN_TYPES + types + ext_bytes(order, data_named(file, ".BTF.ext"), ext)
 }

@@ -5,10 +5,11 @@ ghost use Rattle.std.specs.Bool.{OnTrue, OnFalse};
 ghost use Rattle.std.specs.Option.{option_copied};
 ghost use Rattle.ebpf_elf.specs.Sections.{section_name, sections};
 ghost use Rattle.ebpf_elf.specs.Symbols.{entry, symbols, symbol_name};
-ghost use Rattle.ebpf_limits.specs.OwnedBytes.{total, facts_at, placed_in, symbol_bytes, named_bytes, section_entry_bytes, contents_bytes, facts_of, Took};
+ghost use Rattle.ebpf_limits.specs.OwnedBytes.{total, facts_at, placed_in, symbol_bytes, name_bytes, section_entry_bytes, contents_bytes, facts_of, Took};
 
 use crate::facts::{Facts, contents_bytes};
 use crate::limits::Room;
+use crate::sizes::{EXTERN, SECTION, SYMBOL};
 use ebpf_elf::{ElfFile, ElfSection, ElfSymbol};
 use ebpf_parts::EbpfSectionKind;
 use ebpf_sections::section_records::FoundRecords;
@@ -26,16 +27,16 @@ pub fn facts_at<'f, 'e>(all: &'f [Facts<'e>], index: Option<usize>) -> Option<&'
 fn placed_bytes(
     facts: Option<&Facts<'_>>,
     license: usize,
-    named: u128,
+    name: u128,
     symbol: &ElfSymbol<'_>,
 ) -> u128
-    requires { named < 2 ^ 65 }
+    requires { name < 2 ^ 65 }
     ensures exact { result
-        ≡ placed_in (option_copied facts.entry) license named (entry symbol.now) }
+        ≡ placed_in (option_copied facts.entry) license name (entry symbol.now) }
     ensures few { result < 2 ^ 90 }
 {
     match facts {
-        Some(facts) => facts.placed_bytes(license, named, symbol),
+        Some(facts) => facts.placed_bytes(license, name, symbol),
         None => 0,
     }
 }
@@ -45,9 +46,9 @@ fn placed_bytes(
 fn symbol_bytes(bytes: &[u8], license: usize, all: &[Facts<'_>], symbol: &ElfSymbol<'_>) -> u128
     ensures { result ≡ symbol_bytes bytes.now license all.now symbol.now }
 {
-    let named = symbol_named_bytes(bytes, symbol);
+    let name = symbol_name_bytes(bytes, symbol);
     let facts = facts_at(all, symbol.section_index());
-    2 * named + placed_bytes(facts, license, named, symbol)
+    SYMBOL + EXTERN + 2 * name + placed_bytes(facts, license, name, symbol)
 }
 
 /// Takes the bytes of the symbols. No name is read behind the one that passes the limit.
@@ -72,28 +73,25 @@ pub fn take_symbols(
     true
 }
 
-/// The number of bytes of an entry of a table, without its name and its lists.
-pub const ENTRY: u128 = 64;
-
-/// The number of bytes of an entry with a section's name.
-pub fn section_named_bytes(bytes: &[u8], section: &ElfSection<'_>) -> u128
-    ensures exact { result ≡ named_bytes bytes.now (section_name section.now) }
+/// The number of bytes of a section's name.
+pub fn section_name_bytes(bytes: &[u8], section: &ElfSection<'_>) -> u128
+    ensures exact { result ≡ name_bytes bytes.now (section_name section.now) }
     ensures few { result < 2 ^ 65 }
 {
     match section.name() {
-        Ok(name) => ENTRY + name.len() as u128,
-        Err(_) => ENTRY + bytes.len() as u128,
+        Ok(name) => name.len() as u128,
+        Err(_) => bytes.len() as u128,
     }
 }
 
-/// The number of bytes of an entry with a symbol's name.
-pub fn symbol_named_bytes(bytes: &[u8], symbol: &ElfSymbol<'_>) -> u128
-    ensures exact { result ≡ named_bytes bytes.now (symbol_name symbol.now) }
+/// The number of bytes of a symbol's name.
+pub fn symbol_name_bytes(bytes: &[u8], symbol: &ElfSymbol<'_>) -> u128
+    ensures exact { result ≡ name_bytes bytes.now (symbol_name symbol.now) }
     ensures few { result < 2 ^ 65 }
 {
     match symbol.name() {
-        Ok(name) => ENTRY + name.len() as u128,
-        Err(_) => ENTRY + bytes.len() as u128,
+        Ok(name) => name.len() as u128,
+        Err(_) => bytes.len() as u128,
     }
 }
 
@@ -102,7 +100,7 @@ pub fn symbol_named_bytes(bytes: &[u8], symbol: &ElfSymbol<'_>) -> u128
 fn entry_bytes(bytes: &[u8], section: &ElfSection<'_>) -> u128
     ensures { result ≡ section_entry_bytes bytes.now section.now }
 {
-    section_named_bytes(bytes, section)
+    SECTION + section_name_bytes(bytes, section)
 }
 
 /// Takes the sections' entries by their names. No name is read behind the one that passes the limit.
@@ -137,8 +135,8 @@ fn take_section<'e>(
     let kind = EbpfSectionKind::from_elf(name, section);
     let funcs = records.funcs(name).records;
     let lines = records.lines(name).records;
-    let named = section_named_bytes(bytes, section);
-    if !room.take(contents_bytes(kind, named, section, funcs, lines)) {
+    let name_bytes = section_name_bytes(bytes, section);
+    if !room.take(contents_bytes(kind, name_bytes, section, funcs, lines)) {
         return None;
     }
     Some(Facts::new(kind, section, funcs, lines))

@@ -56,7 +56,7 @@ flag_some : (x : Option Registers) (b : Registers) → x ≡ Some b → Some (is
 flag_some None b h = cc
 flag_some (Some a) b h = refl
 
-told_at : (A : Assignment) (i : ℕ) (b : Registers) → state_at A i ≡ Some b → slice_get (reached A) i ≡ Some true
+pub told_at : (A : Assignment) (i : ℕ) (b : Registers) → state_at A i ≡ Some b → slice_get (reached A) i ≡ Some true
 told_at [] i b h = cc
 told_at (x ∷ A) zero b h = flag_some x b h
 told_at (x ∷ A) (suc i) b h = told_at A i b h

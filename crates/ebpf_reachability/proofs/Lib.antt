@@ -3,3 +3,8 @@ pub mod Order
 pub mod Flows
 pub mod Visiting
 pub mod Lawful
+pub mod MachineNumbers
+pub mod Agreement
+pub mod Executions
+pub mod Examples
+pub mod Progress

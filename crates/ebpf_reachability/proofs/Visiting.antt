@@ -4,7 +4,6 @@ use Rattle.std.proofs.lemmas.List.Sums.{sum_by-set}
 use Rattle.std.proofs.lemmas.Bool.Decides.{eqb_tells, leb_tells}
 use Rattle.std.proofs.lemmas.List.{get_or-replicate, get_or_past, length-replicate}
 use Rattle.std.specs.Prelude.{slice_get, IsSome}
-use Rattle.std.specs.Option.{option_and_then}
 use Rattle.std.proofs.lemmas.Option.{slice_get_within}
 use Rattle.ebpf_linker.specs.Functions.{Among, Flow, Return, PseudoCall, WideLoad, Jump, Branch, Next, flow, slot_at_integer}
 use Rattle.ebpf_linker.specs.Machine.{State, StepResult, Goes, Ends, Waits, Leaves, run_steps, begin, flat_code, step_at, follow, after_step}
@@ -18,7 +17,7 @@ use Rattle.ebpf_reachability.specs.PrivateContracts.{least_upper_bound}
 use Rattle.ebpf_reachability.specs.Reached.{changes_left, Assignment, IsStateBelow, state_at, TakesIn, work_left, Holds, IsClosed, Searched, steps_if_reached}
 use Rattle.ebpf_reachability.specs.Steps.{steps_to, steps}
 use Rattle.ebpf_reachability.specs.Steps as ours
-use Rattle.ebpf_reachability.specs.Visits.{AllReached, AllVisitsAreReached, Heeds, HeedsAt, HeedsOne, HeedsTurn, KnowsNothing, VisitsAreReached, known_way}
+use Rattle.ebpf_reachability.specs.Visits.{AllReached, AllVisitsAreReached, Heeds, HeedsAt, HeedsOne, HeedsTurn, DecidesNothing, VisitsAreReached, known_way}
 use Rattle.ebpf_reachability.specs.declared.registers.Registers.{Registers}
 use Rattle.ebpf_reachability.specs.declared.steps.SlotState.{SlotState}
 
@@ -207,13 +206,6 @@ leads_ready : (slots : List bpf_insn) (A : Assignment) (x : ℤ) (a : Registers)
 leads_ready slots A (negsuc n) a h = tt
 leads_ready slots A (pos n) a h = λ within. some_above a (state_at A n) (leads_held slots A n a within h)
 
-no_operand : {X Y : Type 0} (f : X → Option Y) (x : Option X) → x ≡ None → option_and_then f x ≡ None
-no_operand f None h = refl
-no_operand f (Some x) h = cc
-
-nothing_decided : (slot : bpf_insn) (a : Registers) → ((r : ℕ) → known a r ≡ None) → effects.decided slot a ≡ None
-nothing_decided slot a h = no_operand _ (known a (dst_of slot)) (h (dst_of slot))
-
 chosen_ready : (slots : List bpf_insn) (A : Assignment) (d : Bool) (there here : ℤ) → Ready slots A there → Ready slots A here → Ready slots A (cond d there here)
 chosen_ready slots A true there here p q = p
 chosen_ready slots A false there here p q = q
@@ -282,20 +274,11 @@ nothing_heeded : (z : Option Bool) (decisions : List Bool) → z ≡ None → He
 nothing_heeded None decisions h = tt
 nothing_heeded (Some d) decisions h = cc
 
-no_way : (z : Option Registers) (slot : bpf_insn) (f : Flow) → ((a : Registers) → z ≡ Some a → (r : ℕ) → known a r ≡ None) → known_way z slot f ≡ None
-no_way z slot Return h = refl
-no_way z slot PseudoCall h = refl
-no_way z slot WideLoad h = refl
-no_way z slot (Jump d) h = refl
-no_way None slot (Branch d) h = refl
-no_way (Some a) slot (Branch d) h = nothing_decided slot a (h a refl)
-no_way z slot Next h = refl
-
-heeds_at : (A : Assignment) (place : ℤ) (x : Option bpf_insn) (decisions : List Bool) → KnowsNothing A → HeedsAt A place x decisions
-heeds_at A (negsuc i) x decisions nothing = tt
-heeds_at A (pos i) None decisions nothing = tt
-heeds_at A (pos i) (Some slot) decisions nothing =
-    nothing_heeded (known_way (state_at A i) slot (flow slot)) decisions (no_way (state_at A i) slot (flow slot) (λ a is r. nothing i r a is))
+heeds_at : (slots : List bpf_insn) (A : Assignment) (place : ℤ) (x : Option bpf_insn) (decisions : List Bool) → DecidesNothing slots A → slot_at_integer slots place ≡ x → HeedsAt A place x decisions
+heeds_at slots A (negsuc i) x decisions nothing there = tt
+heeds_at slots A (pos i) None decisions nothing there = tt
+heeds_at slots A (pos i) (Some slot) decisions nothing there =
+    nothing_heeded (known_way (state_at A i) slot (flow slot)) decisions (nothing i slot there)
 
 turn_heeds : (rest : State ℤ → Type 0) → ((s : State ℤ) → rest s) → (t : StepResult ℤ) → HeedsTurn rest t
 turn_heeds rest h (Goes s) = h s
@@ -303,10 +286,10 @@ turn_heeds rest h Ends = tt
 turn_heeds rest h Waits = tt
 turn_heeds rest h Leaves = tt
 
-heeds : (slots : List bpf_insn) (A : Assignment) → KnowsNothing A → (n : ℕ) (s : State ℤ) → Heeds slots A n s
+heeds : (slots : List bpf_insn) (A : Assignment) → DecidesNothing slots A → (n : ℕ) (s : State ℤ) → Heeds slots A n s
 heeds slots A nothing zero s = tt
 heeds slots A nothing (suc n) s =
-    (heeds_at A s.place (slot_at_integer slots s.place) s.decisions nothing, turn_heeds (Heeds slots A n) (heeds slots A nothing n) (step_at (flat_code slots) s (slot_at_integer slots s.place)))
+    (heeds_at slots A s.place (slot_at_integer slots s.place) s.decisions nothing refl, turn_heeds (Heeds slots A n) (heeds slots A nothing n) (step_at (flat_code slots) s (slot_at_integer slots s.place)))
 
 pub all_visits_are_reached : AllVisitsAreReached
 all_visits_are_reached slots A closed nothing decisions n =

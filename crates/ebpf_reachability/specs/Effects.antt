@@ -1,4 +1,4 @@
--- What is known of the registers where a slot is reached (RFC 9669, section 2.1: a program has r0
+-- What is known of the registers where a slot is reached (RFC 9669, section 3.1: a program has r0
 -- to r10).
 use Rattle.std.specs.Prelude.{◌≡◌, ℕ, Option, Some, None, length, replicate, slice_index_or}
 use Rattle.std.specs.Prelude.{slice_set, ◌+◌, ◌*◌, ◌/◌, ◌%◌, ◌^◌, pos, Bool, List, slice_get}
@@ -29,8 +29,8 @@ learned a r n = record { numbers = slice_set a.numbers r n }
 abbrev pub forgotten : Registers → ℕ → Registers
 forgotten a r = learned a r None
 
--- The same behind a call: r0 has its answer, r1 to r5 are the caller's to save (RFC 9669, section
--- 2.1).
+-- The same behind a call: r0 has its result, r1 to r5 are the caller's to save (the kernel's
+-- Documentation/bpf/standardization/abi.rst).
 abbrev pub called : Registers → Registers
 called a = forgotten (forgotten (forgotten (forgotten (forgotten (forgotten a 0) 1) 2) 3) 4) 5
 

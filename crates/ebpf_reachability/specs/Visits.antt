@@ -67,16 +67,19 @@ VisitsAreReached =
     → Heeds slots A n (begin (pos 0) decisions)
     → AllReached A (run_steps (flat_code slots) n (begin (pos 0) decisions)).visited
 
--- an assignment that nowhere knows a number
-abbrev pub KnowsNothing : Assignment → Type 0
-KnowsNothing A = (i r : ℕ) (a : Registers) → state_at A i ≡ Some a → known a r ≡ None
+-- At no conditional jump do the numbers that an assignment knows decide the way.
+abbrev pub DecidesNothing : List bpf_insn → Assignment → Type 0
+DecidesNothing slots A =
+    (i : ℕ) (slot : bpf_insn)
+    → slice_get slots i ≡ Some slot
+    → known_way (state_at A i) slot (flow slot) ≡ None
 
 -- There each place is reached that any run visits, whatever it decides.
 abbrev pub AllVisitsAreReached : Type 0
 AllVisitsAreReached =
     (slots : List bpf_insn) (A : Assignment)
     → IsClosed slots A
-    → KnowsNothing A
+    → DecidesNothing slots A
     → (decisions : List Bool) (n : ℕ)
     → AllReached A (run_steps (flat_code slots) n (begin (pos 0) decisions)).visited
 

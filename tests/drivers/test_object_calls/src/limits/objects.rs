@@ -20,7 +20,7 @@ pub const LICENSES: [&str; 14] = [
 ];
 
 /// What is made of it, in bytes.
-pub const LICENSES_MADE: u64 = 1397;
+pub const LICENSES_MADE: u64 = 14837;
 
 /// Functions that overlap: each has its own slots.
 pub const FUNCTIONS: [&str; 13] = [
@@ -40,7 +40,7 @@ pub const FUNCTIONS: [&str; 13] = [
 ];
 
 /// What is made of it, in bytes.
-pub const FUNCTIONS_MADE: u64 = 1497;
+pub const FUNCTIONS_MADE: u64 = 15673;
 
 /// The same with records in the order of their slots: each function has its own.
 pub const RECORDS: [&str; 19] = [
@@ -66,7 +66,7 @@ pub const RECORDS: [&str; 19] = [
 ];
 
 /// What is made of it, in bytes.
-pub const RECORDS_MADE: u64 = 1978;
+pub const RECORDS_MADE: u64 = 17091;
 
 /// Records that aren't in order: each function counts all of them.
 pub const DISORDERED: [&str; 19] = [
@@ -92,7 +92,7 @@ pub const DISORDERED: [&str; 19] = [
 ];
 
 /// What is made of it, in bytes.
-pub const DISORDERED_MADE: u64 = 2074;
+pub const DISORDERED_MADE: u64 = 17187;
 
 /// Zeros that the file hasn't.
 pub const ZEROS: [&str; 12] = [
@@ -111,7 +111,7 @@ pub const ZEROS: [&str; 12] = [
 ];
 
 /// What is made of it, in bytes.
-pub const ZEROS_MADE: u64 = 1761;
+pub const ZEROS_MADE: u64 = 14113;
 
 /// Names of sections and of symbols that are the tails of one.
 pub const TAILS: [&str; 20] = [
@@ -138,7 +138,7 @@ pub const TAILS: [&str; 20] = [
 ];
 
 /// What is made of it, in bytes.
-pub const TAILS_MADE: u64 = 1935;
+pub const TAILS_MADE: u64 = 14983;
 
 /// Maps, relocations and functions of small size.
 pub const ENTRIES: [&str; 20] = [
@@ -165,4 +165,4 @@ pub const ENTRIES: [&str; 20] = [
 ];
 
 /// What is made of it, in bytes.
-pub const ENTRIES_MADE: u64 = 1798;
+pub const ENTRIES_MADE: u64 = 16966;
