@@ -165,7 +165,8 @@ pub fn judge(alloc: Global, object: &Object, kernel: &Btf) -> Result<Verdict, Al
         written: slots,
     } = outcomes_over(object, kernel)?;
     let written = written_object(alloc, object, kernel, slots)?;
-    finished(alloc, object, kernel, records, written)
+    let verdict = finished(alloc, object, kernel, records, written)?;
+    Ok(verdict)
 }
 
 /// The verdict on an object that no pass refuses, unless memory was refused.
