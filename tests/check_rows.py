@@ -338,9 +338,10 @@ def lacks(rows):
     ran = rows.row("no map type", ["check", "memdrop.o", "no-map"], 1)
     rows.expect("no map type: line", "  map counts  <map_type>  no map type 1\n    on 1 of 1\n    on_shrink slot 60 (count+3)  " in ran.stdout, True)
     rows.write("no-hook", small_kernel(hook="shrink_nodes"))
-    ran = rows.row("no hook", ["check", "memdrop.o", "no-hook"], 1)
+    ran = rows.row("no hook", ["check", "memdrop.o", "no-hook"], 0)
     wanted = "  fentry/shrink_node  <attach>  no such type shrink_node (a module's?)\n    on 1 of 1\n    on_shrink\n"
     rows.expect("no hook: line", wanted in ran.stdout, True)
+    rows.row("no hook, strict", ["check", "memdrop.o", "no-hook", "--strict"], 1)
     shutil.copy(WATCH / "watch.o", rows.folder)
     shutil.copy(WATCH / "kernel.btf", rows.folder)
     rows.row("an extern that is there", ["check", "watch.o", "kernel.btf"], 0)

@@ -3,7 +3,7 @@
 # Prints the options of a command.
 _ebpf_options() {
     case $1 in
-    check) echo '--object --program --all --json --help --version' ;;
+    check) echo '--object --program --all --strict --json --help --version' ;;
     list) echo '--object --json --help --version' ;;
     link) echo '--object --btf --kallsyms --kconfig --kernel --program --bytes --lines --help --version' ;;
     inspect) echo '--object --btf --kallsyms --kconfig --kernel --program --json --help --version' ;;

@@ -13,6 +13,7 @@ complete -c ebpf -n $all -l object -x -d 'select one of several objects'
 complete -c ebpf -n '__fish_seen_subcommand_from check link inspect' -l program -x -d 'select a program'
 complete -c ebpf -n '__fish_seen_subcommand_from check list inspect' -s j -l json -d 'print JSON'
 complete -c ebpf -n '__fish_seen_subcommand_from check' -l all -d 'name all kernels and changed values'
+complete -c ebpf -n '__fish_seen_subcommand_from check' -l strict -d 'fail also without an attach target'
 complete -c ebpf -n $prepares -l btf -r -F -d "the kernel's BTF"
 complete -c ebpf -n $prepares -l kallsyms -r -F -d "the kernel's symbols"
 complete -c ebpf -n $prepares -l kconfig -r -F -d "the kernel's configuration"

@@ -1,4 +1,6 @@
 """What else a kernel may lack: functions and variables, helpers, types of maps, what programs are attached to."""
+import json
+
 from checked.objects import (
     GLOBAL,
     JEQ,
@@ -186,27 +188,46 @@ def ends(section):
 
 
 def attached(rows):
-    """A FUNC or, of `tp_btf`, a TYPEDEF of the name."""
+    """A FUNC or, of `tp_btf`, a TYPEDEF of the name. A program without a target doesn't break: a module may have it."""
     for section, name, is_typedef in ATTACHED:
         own, other = typedef(name, 1), function_type(name, 2)
         own, other = (own, other) if is_typedef else (other, own)
         absent = [found(f"{section}  <attach>  no such type {name} (a module's?)", "p")]
         one_kernel(rows, f"{section}, found", ends(section), btf(INT, prototype(1), own))
-        one_kernel(rows, f"{section}, not found", ends(section), btf(INT, prototype(1), struct_of(name, 4)), absent)
-        one_kernel(rows, f"{section}, of another kind", ends(section), btf(INT, prototype(1), other), absent)
+        without = btf(INT, prototype(1), struct_of(name, 4))
+        one_kernel(rows, f"{section}, not found", ends(section), without, untargeted=absent)
+        one_kernel(rows, f"{section}, of another kind", ends(section), btf(INT, prototype(1), other), untargeted=absent)
     for section in FREE:
         one_kernel(rows, f"{section}, not looked for", ends(section), NEITHER)
     module = [found("fentry/m:x  <attach>  no such type m:x (a module's?)", "p")]
-    one_kernel(rows, "a module's function", ends("fentry/m:x"), btf(INT, prototype(1), function_type("x", 2)), module)
+    one_kernel(rows, "a module's function", ends("fentry/m:x"), btf(INT, prototype(1), function_type("x", 2)), untargeted=module)
     two = object_of([Code("fentry/x", "p", [EXIT]), Code("fexit/x", "q", [EXIT])])
     both = [
         found("fentry/x  <attach>  no such type x (a module's?)", "p"),
         found("fexit/x  <attach>  no such type x (a module's?)", "q"),
     ]
-    one_kernel(rows, "two programs", two, NEITHER, both, breaking=2, count=2)
+    one_kernel(rows, "two programs", two, NEITHER, untargeted=both, lacking=2, count=2)
+    one_kernel(rows, "one of two programs, by name", two, NEITHER, untargeted=both[:1], words=["--program=p"])
     shared = object_of([Code("fentry/x", "p", [EXIT]), Code("fentry/x", "q", [EXIT])])
-    breaks = [found("fentry/x  <attach>  no such type x (a module's?)", "p", "q")]
-    one_kernel(rows, "two programs of one section", shared, NEITHER, breaks, breaking=2, count=2)
+    absent = [found("fentry/x  <attach>  no such type x (a module's?)", "p", "q")]
+    one_kernel(rows, "two programs of one section", shared, NEITHER, untargeted=absent, lacking=2, count=2)
 
 
-ROWS = [externs, extern_names, other_externs, weak_externs, helpers, map_types, attached]
+def strict(rows):
+    """With `--strict` a program without a target makes the status 1; what is printed is the same."""
+    absent = [found("fentry/x  <attach>  no such type x (a module's?)", "p")]
+    one_kernel(rows, "no target, strict", ends("fentry/x"), NEITHER, untargeted=absent, words=["--strict"], status=1)
+    one_kernel(rows, "no target wanted, strict", ends("kprobe/x"), NEITHER, words=["--strict"])
+    both = object_of([Code("fentry/x", "p", [EXIT]), program(helper(9), EXIT, section="kprobe/q", name="q")])
+    kernel = btf(enum_of("bpf_func_id", ("BPF_FUNC_one", 1)))
+    breaks = [found("helper 9  <helper>  no such helper function", "q slot 0")]
+    one_kernel(rows, "no target beside a program that breaks", both, kernel, breaks, count=2, untargeted=absent, lacking=1)
+    rows.write("object", both)
+    rows.write("kernel", kernel)
+    ran = rows.row("no target, JSON", ["check", "object", "kernel", "--json"], 1)
+    told = json.loads(ran.stdout)
+    rows.expect("no target, JSON: kernels", told["kernels"], [{"name": "kernel", "breaks": ["q"], "no_target": ["p"]}])
+    rows.expect("no target, JSON: findings", [each["name"] for each in told["no_target"]], ["fentry/x"])
+
+
+ROWS = [externs, extern_names, other_externs, weak_externs, helpers, map_types, attached, strict]

@@ -176,24 +176,32 @@ def found(line, *places, on="on 1 of 1"):
     return "".join(f"{text}\n" for text in [f"  {line}", f"    {on}", *(f"    {place}" for place in places)])
 
 
-def told(breaking, count, breaks=(), guarded=(), more=""):
-    """What is printed of the object `object` on the one kernel `kernel`."""
-    running = f"breaks  {breaking}" if breaking else f"ok      {count}"
-    out = f"{running}/{count} programs  kernel\n\n"
+def told(breaking, count, breaks=(), guarded=(), more="", untargeted=(), lacking=0):
+    """What is printed of the object `object` on the one kernel `kernel`. `untargeted` has what is told of programs without a
+    target, and `lacking` is how many programs have none and no other reason to break."""
+    running = f"breaks  {breaking}" if breaking else f"ok      {count - lacking}"
+    out = f"{running}/{count} programs  kernel" + (f"  ({lacking} no target)" if lacking else "") + "\n\n"
     findings = "BREAKS\n" + "".join(breaks) if breaks else ""
+    findings += "NO TARGET (not found, and not counted as broken)\n" + "".join(untargeted) if untargeted else ""
     findings += "GUARDED (absent, not reached)\n" + "".join(guarded) if guarded else ""
     findings += more
     out += findings + "\n" if findings else ""
     if breaking:
         return f"{out}object: breaks on 1 of 1 kernels, {breaking} of {count} programs\n"
-    return f"{out}object: ok on 1 of 1 kernels, {count} of {count} programs\n"
+    left_out = f", if {lacking} program{'s' if lacking > 1 else ''} without a target {'are' if lacking > 1 else 'is'} left out" if lacking else ""
+    return f"{out}object: ok on 1 of 1 kernels, {count - lacking} of {count} programs{left_out}\n"
 
 
-def one_kernel(rows, name, data, kernel, breaks=(), guarded=(), more="", breaking=None, count=1, words=()):
+def one_kernel(
+    rows, name, data, kernel, breaks=(), guarded=(), more="", breaking=None, count=1, words=(), untargeted=(), lacking=None, status=None
+):
     """A row of an object and a kernel: what breaks, what is guarded and what else is told. Where something breaks it is one
-    program, where nothing else is said, and the status is 1."""
+    program, where nothing else is said, and the status is 1. Where programs have no target, one has none and doesn't break,
+    where nothing else is said."""
     breaking = (1 if breaks else 0) if breaking is None else breaking
+    lacking = (1 if untargeted and not breaking else 0) if lacking is None else lacking
     rows.write("object", data)
     rows.write("kernel", kernel)
-    out = told(breaking, count, breaks, guarded, more)
-    rows.row(name, ["check", "object", "kernel", *words], 1 if breaking else 0, out)
+    out = told(breaking, count, breaks, guarded, more, untargeted, lacking)
+    wanted = (1 if breaking else 0) if status is None else status
+    rows.row(name, ["check", "object", "kernel", *words], wanted, out)

@@ -49,7 +49,7 @@ def marked(rows):
     attached = object_of([Code("?fentry/x", "p", [EXIT])])
     absent = [found("?fentry/x  <attach>  no such type x (a module's?)", "p")]
     one_kernel(rows, "a marked program's target", attached, LACKS_B, count=0)
-    one_kernel(rows, "a marked program's target, by name", attached, LACKS_B, absent, words=["--program=p"])
+    one_kernel(rows, "a marked program's target, by name", attached, LACKS_B, words=["--program=p"], untargeted=absent)
     shared = object_of([program(call("f"), EXIT), Code("?kprobe/q", "q", [call("f"), EXIT]), function("f", GONE, EXIT)])
     one_kernel(rows, "a function that a marked program shares", shared, LACKS_B, [found(NO_B, "p slot 2 (f+0)")])
 
@@ -301,11 +301,9 @@ def unusual_files(rows):
         rows.expect(f"a pipe as {piped}", (ran.returncode, ran.stdout.decode(), ran.stderr), (1, wanted, b""))
     typeless = File().code("fentry/x", helper(9) + EXIT).symbol("p", FUNCTION, 3, 0, 16).bytes()
     kernel = btf(enum_of("bpf_func_id", ("BPF_FUNC_one", 1)))
-    breaks = [
-        found("fentry/x  <attach>  no such type x (a module's?)", "p"),
-        found("helper 9  <helper>  no such helper function", "p slot 0"),
-    ]
-    one_kernel(rows, "an object without types", typeless, kernel, breaks)
+    breaks = [found("helper 9  <helper>  no such helper function", "p slot 0")]
+    absent = [found("fentry/x  <attach>  no such type x (a module's?)", "p")]
+    one_kernel(rows, "an object without types", typeless, kernel, breaks, untargeted=absent)
     rows.write("big", File(BIG).code("kprobe/p", EXIT).symbol("p", FUNCTION, 3, 0, 8).bytes())
     said = "ebpf: big: the file is big-endian and has code (parse: BigEndianCode)"
     rows.row("an object of the other byte order", ["check", "big", "kernel"], 1, "", said)

@@ -1,12 +1,32 @@
 //! What `ebpf check --json` prints.
 
 use crate::session::{Judgement, KernelAnswer, Session};
+use crate::verdict::Fate;
 use crate::verdict::findings::{Finding, FindingKey, Severity, SourceLocation};
 use cli_common::json::{JsonWriter, write_document};
 use cli_common::kinds::Kind;
 use std::io::{self, Write};
 
-/// Writes a kernel: the names of the programs that break on it, or why its types can't be read.
+/// Writes the names of the programs that have a fate on a kernel.
+fn write_fate<W: Write>(
+    json: &mut JsonWriter<'_, W>,
+    session: &Session,
+    kernel: &KernelAnswer,
+    key: &str,
+    fate: Fate,
+) -> io::Result<()> {
+    json.array(key, |json| {
+        for (number, program) in session.loaded.needs.programs.iter().enumerate() {
+            if kernel.has_fate(number, fate) {
+                json.value(program.name.as_str())?;
+            }
+        }
+        Ok(())
+    })
+}
+
+/// Writes a kernel: the names of the programs that break on it, and of those without a target, or why its types can't be
+/// read.
 fn write_kernel<W: Write>(
     json: &mut JsonWriter<'_, W>,
     session: &Session,
@@ -14,14 +34,13 @@ fn write_kernel<W: Write>(
 ) -> io::Result<()> {
     json.member("name", kernel.name.as_str())?;
     match &kernel.answer {
-        Judgement::Judged(_) => json.array("breaks", |json| {
-            for (number, program) in session.loaded.needs.programs.iter().enumerate() {
-                if kernel.breaks(number) {
-                    json.value(program.name.as_str())?;
-                }
+        Judgement::Judged(_) => {
+            write_fate(json, session, kernel, "breaks", Fate::Breaks)?;
+            if kernel.untargeted() == 0 {
+                return Ok(());
             }
-            Ok(())
-        }),
+            write_fate(json, session, kernel, "no_target", Fate::NoTarget)
+        }
         Judgement::Unread(refusal) => json.member("error", refusal.text.as_str()),
     }
 }
@@ -157,6 +176,9 @@ pub fn write_json<W: Write>(out: &mut W, session: &Session) -> io::Result<()> {
             write_kernel(json, session, kernel)
         })?;
         write_severity(json, session, "breaks", Severity::Breaks)?;
+        if session.has(Severity::NoTarget) {
+            write_severity(json, session, "no_target", Severity::NoTarget)?;
+        }
         write_severity(json, session, "guarded", Severity::Guarded)?;
         write_severity(json, session, "changed", Severity::Changed)?;
         json.values("kconfig", needs.settings.iter().map(|name| name.as_str()))

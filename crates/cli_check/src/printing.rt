@@ -1,6 +1,7 @@
 //! The text output of `ebpf check`.
 
 use crate::session::{Judgement, KernelAnswer, Session};
+use crate::verdict::Fate;
 use crate::verdict::findings::{Finding, FindingKey, Severity, SourceLocation};
 use cli_common::kinds::Kind;
 use cli_common::names::{EscapedName, last_part, write_value};
@@ -21,10 +22,24 @@ pub fn write_kernel<W: Write>(
     match &kernel.answer {
         Judgement::Unread(_) => writeln!(out, "unread  -/{programs} programs  {name}"),
         Judgement::Judged(_) if breaking > 0 => {
-            writeln!(out, "breaks  {breaking}/{programs} programs  {name}")
+            write!(out, "breaks  {breaking}/{programs} programs  {name}")?;
+            write_untargeted(out, kernel)
         }
-        Judgement::Judged(_) => writeln!(out, "ok      {programs}/{programs} programs  {name}"),
+        Judgement::Judged(_) => {
+            let running = programs.saturating_sub(kernel.untargeted());
+            write!(out, "ok      {running}/{programs} programs  {name}")?;
+            write_untargeted(out, kernel)
+        }
     }
+}
+
+/// Ends the line of a kernel: with the number of programs that have no target, where there are some.
+fn write_untargeted<W: Write>(out: &mut W, kernel: &KernelAnswer) -> io::Result<()> {
+    let untargeted = kernel.untargeted();
+    if untargeted > 0 {
+        write!(out, "  ({untargeted} no target)")?;
+    }
+    writeln!(out, "")
 }
 
 /// The name of the kernel of a number.
@@ -189,6 +204,7 @@ fn write_changed<W: Write>(
 fn heading(severity: Severity) -> &'static str {
     match severity {
         Severity::Breaks => "BREAKS",
+        Severity::NoTarget => "NO TARGET (not found, and not counted as broken)",
         Severity::Guarded => "GUARDED (absent, not reached)",
         Severity::Changed => "CHANGED (written; nothing to do)",
     }
@@ -229,13 +245,34 @@ fn write_settings<W: Write>(out: &mut W, session: &Session) -> io::Result<()> {
     Ok(())
 }
 
+/// Writes that no program breaks, and the number of programs for which that isn't said: those without a target.
+fn write_ok<W: Write>(out: &mut W, session: &Session) -> io::Result<()> {
+    let file = EscapedName(session.file.as_str());
+    let judged = session.judged();
+    let programs = session.loaded.needs.programs.len();
+    let untargeted = session.programs_with(Fate::NoTarget);
+    let running = programs.saturating_sub(untargeted);
+    write!(
+        out,
+        "{file}: ok on {judged} of {judged} kernels, {running} of {programs} programs"
+    )?;
+    match untargeted {
+        0 => Ok(()),
+        1 => write!(out, ", if 1 program without a target is left out"),
+        _ => write!(
+            out,
+            ", if {untargeted} programs without a target are left out"
+        ),
+    }
+}
+
 /// Writes the last line: on how many kernels how many programs break or run.
 fn write_summary<W: Write>(out: &mut W, session: &Session) -> io::Result<()> {
     let file = EscapedName(session.file.as_str());
     let judged = session.judged();
     let programs = session.loaded.needs.programs.len();
     let broken = session.broken();
-    let breaking = session.breaking_programs();
+    let breaking = session.programs_with(Fate::Breaks);
     if judged == 0 {
         write!(out, "{file}: no kernel to tell of")?;
     } else if broken > 0 {
@@ -244,10 +281,7 @@ fn write_summary<W: Write>(out: &mut W, session: &Session) -> io::Result<()> {
             "{file}: breaks on {broken} of {judged} kernels, {breaking} of {programs} programs"
         )?;
     } else {
-        write!(
-            out,
-            "{file}: ok on {judged} of {judged} kernels, {programs} of {programs} programs"
-        )?;
+        write_ok(out, session)?;
     }
     let unread = session.unread();
     if unread > 0 {
@@ -260,6 +294,7 @@ fn write_summary<W: Write>(out: &mut W, session: &Session) -> io::Result<()> {
 pub fn write_findings<W: Write>(out: &mut W, session: &Session) -> io::Result<()> {
     writeln!(out, "")?;
     write_severity(out, session, Severity::Breaks)?;
+    write_severity(out, session, Severity::NoTarget)?;
     write_severity(out, session, Severity::Guarded)?;
     write_severity(out, session, Severity::Changed)?;
     write_settings(out, session)?;

@@ -4,13 +4,14 @@ use crate::json::write_json;
 use crate::kernel_files::{KernelFile, kernel_files};
 use crate::printing::{write_findings, write_kernel};
 use crate::session::{Judgement, Session};
-use crate::verdict::loaded::{Loaded, Needs};
+use crate::verdict::loaded::{Loaded, Needs, externs_with_values};
 use cli_common::object_file::{parsed_object, read_object};
 use cli_common::programs::ObjectProgram;
 use cli_common::refusal::{FileRefusal, READING};
 use cli_common::refuse::{Stop, chosen_programs, tell};
 use cli_common::vmlinux_btf::read_kernel;
-use ebpf_base::{Items, Text};
+use ebpf_base::{ByName, Items, Text};
+use ebpf_model::ExternDesc;
 use ebpf_object::Object;
 use std::alloc::{AllocError, Global};
 use std::io::{self, BufWriter, Stdout, Write};
@@ -28,6 +29,8 @@ pub struct CheckWords {
     pub programs: Items<Text>,
     /// Whether every kernel and each changed value is listed.
     pub all: bool,
+    /// Whether a program without a target makes the status 1.
+    pub strict: bool,
     /// Whether the output is JSON.
     pub json: bool,
 }
@@ -63,21 +66,38 @@ fn programs_that_count(
     Ok(programs)
 }
 
+/// The needs of an object, and its externs as they are judged.
+#[derive(Drop)]
+struct Asked {
+    needs: Needs,
+    externs: ByName<ExternDesc>,
+}
+
 /// The needs of the object of a file's bytes, with the programs that count.
 fn needs_of(
     rt: &HostRuntime,
     words: &CheckWords,
     file: &[u8],
     object: &Object,
-) -> Result<Needs, Stop> {
+) -> Result<Asked, Stop> {
+    let alloc = rt.alloc();
     let programs = programs_that_count(rt, words, file, object)?;
-    Ok(Needs::of(rt.alloc(), object, programs, words.all)?)
+    let needs = Needs::of(alloc, object, programs, words.all)?;
+    let externs = externs_with_values(alloc, object, needs.settings.as_slice())?;
+    Ok(Asked { needs, externs })
 }
 
 /// An object with its needs.
-fn with_needs(object: Object, needs: Result<Needs, Stop>) -> Result<Loaded, Stop> {
-    match needs {
-        Ok(needs) => Ok(Loaded { object, needs }),
+fn with_needs(object: Object, asked: Result<Asked, Stop>) -> Result<Loaded, Stop> {
+    match asked {
+        Ok(asked) => {
+            let mut object = object;
+            object.externs = asked.externs;
+            Ok(Loaded {
+                object,
+                needs: asked.needs,
+            })
+        }
         Err(stop) => {
             drop(object);
             Err(stop)
@@ -90,8 +110,8 @@ fn load(rt: &HostRuntime, words: &CheckWords) -> Result<Loaded, Stop> {
     let path = words.file.as_str();
     let file = read_object(rt, words.json, path, words.object)?;
     let object = parsed_object(rt, words.json, path, &file)?;
-    let needs = needs_of(rt, words, &file, &object);
-    with_needs(object, needs)
+    let asked = needs_of(rt, words, &file, &object);
+    with_needs(object, asked)
 }
 
 /// Judges the programs over the kernel of a file.
@@ -204,6 +224,6 @@ fn check_kernels(rt: &HostRuntime, words: &CheckWords, session: &mut Session) ->
 pub fn check(rt: &HostRuntime, words: &CheckWords) -> Result<u8, Stop> {
     let name = words.file.clone()?;
     let loaded = load(rt, words)?;
-    let mut session = Session::new(rt.alloc(), name, loaded, words.all);
+    let mut session = Session::new(rt.alloc(), name, loaded, words.all, words.strict);
     check_kernels(rt, words, &mut session)
 }

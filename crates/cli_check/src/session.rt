@@ -4,8 +4,8 @@ ghost use Rattle.std.specs.Prelude.{◌≡◌};
 ghost use Rattle.cli_check.specs.Statuses.{status_of};
 
 use crate::verdict::findings::{Findings, Severity};
-use crate::verdict::judge_kernel;
 use crate::verdict::loaded::Loaded;
+use crate::verdict::{Fate, judge_kernel};
 use cli_common::refusal::FileRefusal;
 use ebpf_base::Text;
 use ebpf_btf::Btf;
@@ -14,8 +14,8 @@ use std::alloc::{AllocError, Global};
 /// The verdict on a kernel.
 #[derive(Drop)]
 pub enum Judgement {
-    /// Whether each program that counts breaks on the kernel.
-    Judged(Vec<bool>),
+    /// The fate on the kernel of each program that counts.
+    Judged(Vec<Fate>),
     /// The reason why the kernel's types can't be read.
     Unread(FileRefusal),
 }
@@ -36,6 +36,8 @@ pub struct Session {
     pub file: Text,
     /// Whether every kernel is named.
     pub all: bool,
+    /// Whether a program without a target makes the status 1.
+    strict: bool,
     /// The object.
     pub loaded: Loaded,
     /// The kernels so far.
@@ -55,12 +57,22 @@ fn status_of(unread: usize, broken: usize) -> u8
 }
 
 impl KernelAnswer {
-    /// The number of programs that break; 0 where the kernel's types can't be read.
-    pub fn breaking(&self) -> usize {
+    /// The number of programs with a fate; 0 where the kernel's types can't be read.
+    fn with_fate(&self, fate: Fate) -> usize {
         match &self.answer {
-            Judgement::Judged(programs) => programs.iter().filter(|breaks| **breaks).count(),
+            Judgement::Judged(fates) => fates.iter().filter(|found| **found == fate).count(),
             Judgement::Unread(_) => 0,
         }
+    }
+
+    /// The number of programs that break; 0 where the kernel's types can't be read.
+    pub fn breaking(&self) -> usize {
+        self.with_fate(Fate::Breaks)
+    }
+
+    /// The number of programs without a target that have no other reason to break.
+    pub fn untargeted(&self) -> usize {
+        self.with_fate(Fate::NoTarget)
     }
 
     /// Whether the kernel's types were read.
@@ -68,10 +80,10 @@ impl KernelAnswer {
         matches!(self.answer, Judgement::Judged(_))
     }
 
-    /// Whether the program of a number breaks on the kernel.
-    pub fn breaks(&self, program: usize) -> bool {
+    /// Whether the program of a number has a fate on the kernel.
+    pub fn has_fate(&self, program: usize, fate: Fate) -> bool {
         match &self.answer {
-            Judgement::Judged(programs) => programs.get(program).copied().unwrap_or(false),
+            Judgement::Judged(fates) => fates.get(program).copied() == Some(fate),
             Judgement::Unread(_) => false,
         }
     }
@@ -79,10 +91,11 @@ impl KernelAnswer {
 
 impl Session {
     /// An object, over no kernel yet.
-    pub fn new(alloc: Global, file: Text, loaded: Loaded, all: bool) -> Session {
+    pub fn new(alloc: Global, file: Text, loaded: Loaded, all: bool, strict: bool) -> Session {
         Session {
             file,
             all,
+            strict,
             loaded,
             kernels: Vec::new(alloc),
             findings: Findings::new(alloc),
@@ -130,22 +143,41 @@ impl Session {
             .count()
     }
 
-    /// Whether the program of a number breaks on some kernel.
-    fn breaks_somewhere(&self, program: usize) -> bool {
-        self.kernels.iter().any(|kernel| kernel.breaks(program))
-    }
-
-    /// The number of programs that break on some kernel.
-    pub fn breaking_programs(&self) -> usize {
-        let count = self.loaded.needs.programs.len();
-        (0..count)
-            .filter(|program| self.breaks_somewhere(*program))
+    /// The number of kernels on which some program has no target.
+    fn lacking_targets(&self) -> usize {
+        self.kernels
+            .iter()
+            .filter(|kernel| kernel.untargeted() > 0)
             .count()
     }
 
-    /// The exit status: 2 where the types of a kernel can't be read, else 1 where some program breaks on some kernel, else 0.
+    /// Whether the program of a number has a fate on some kernel.
+    fn has_fate_somewhere(&self, program: usize, fate: Fate) -> bool {
+        self.kernels
+            .iter()
+            .any(|kernel| kernel.has_fate(program, fate))
+    }
+
+    /// The number of programs that have a fate on some kernel.
+    pub fn programs_with(&self, fate: Fate) -> usize {
+        let count = self.loaded.needs.programs.len();
+        (0..count)
+            .filter(|program| self.has_fate_somewhere(*program, fate))
+            .count()
+    }
+
+    /// The number of kernels on which some program fails: breaks or, where that counts, has no target.
+    fn failing(&self) -> usize {
+        if self.strict {
+            self.broken().saturating_add(self.lacking_targets())
+        } else {
+            self.broken()
+        }
+    }
+
+    /// The exit status: 2 where the types of a kernel can't be read, else 1 where some program fails on some kernel, else 0.
     pub fn status(&self) -> u8 {
-        status_of(self.unread(), self.broken())
+        status_of(self.unread(), self.failing())
     }
 
     /// Whether there is a finding of a severity.

@@ -1,13 +1,12 @@
-//! The programs of an object that break on a kernel, the causes, and the values that change.
+//! The verdicts of kernels on the programs of an object, as findings, and the values that change.
 
-mod calls;
-mod externs;
+mod causes;
 pub mod findings;
 mod judged_program;
 mod judging;
-mod kernel_symbols;
 pub mod loaded;
 mod own_values;
 mod slots;
+mod whole_object;
 
-pub use judging::judge_kernel;
+pub use judging::{Fate, judge_kernel};

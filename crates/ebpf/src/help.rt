@@ -5,7 +5,7 @@ pub const USAGE: &str = "usage: ebpf check | inspect | link | list FILE ..   (se
 
 /// The usage line of `ebpf check`.
 pub const CHECK_USAGE: &str =
-    "usage: ebpf check FILE [KERNEL ..] [--object N] [--program NAME ..] [--all] [--json]";
+    "usage: ebpf check FILE [KERNEL ..] [--object N] [--program NAME ..] [--all] [--strict] [--json]";
 
 /// What `ebpf --help` prints.
 pub const HELP: &str = "usage: ebpf COMMAND ..
@@ -29,6 +29,7 @@ fields, types and enumerators that they need and the kernel lacks.
                   folder of such files; default: /sys/kernel/btf/vmlinux
   --program NAME  check this program only; may be repeated
   --all           list every kernel, and each field whose offset changes
+  --strict        exit with 1 also if the kernel has no type of a program's attach target
   -j, --json      print JSON
   -h, --help      print this help
   -V, --version   print the version

@@ -114,6 +114,7 @@ enum Choice {
     Kconfig,
     Kernel,
     All,
+    Strict,
     Bytes,
     Lines,
     Json,
@@ -131,6 +132,7 @@ fn choice_of(verb: Verb, name: &str) -> Option<Choice> {
         "--kconfig" if verb.links() => Some(Choice::Kconfig),
         "--kernel" if verb.links() => Some(Choice::Kernel),
         "--all" if verb == Verb::Check => Some(Choice::All),
+        "--strict" if verb == Verb::Check => Some(Choice::Strict),
         "--bytes" if verb == Verb::Link => Some(Choice::Bytes),
         "--lines" if verb == Verb::Link => Some(Choice::Lines),
         "-j" | "--json" if verb != Verb::Link => Some(Choice::Json),
@@ -277,6 +279,7 @@ impl<'a> Options<'a> {
             kernels: texts_of(alloc, kernels)?,
             programs: texts_of(alloc, &self.programs)?,
             all: self.has(Choice::All),
+            strict: self.has(Choice::Strict),
             json: self.has(Choice::Json),
         }))
     }

@@ -10,6 +10,8 @@ use std::collections::{BTreeMap, BTreeSet};
 pub enum Severity {
     /// A program breaks.
     Breaks,
+    /// The kernel has no type of a program's attach target.
+    NoTarget,
     /// Something is absent, and no program reaches it.
     Guarded,
     /// A value differs from the object's own.

@@ -1,20 +1,33 @@
-//! The verdict of a kernel on each program.
+//! The verdict of a kernel on each program, as findings.
 
-use crate::verdict::externs::{KernelExterns, Lacking, kernel_externs};
-use crate::verdict::findings::{FindingKey, Findings, SourceLocation};
-use crate::verdict::judged_program::{JudgedProgram, Linker, RefusalText, written_object};
+use crate::verdict::findings::{FindingKey, Findings, Severity, SourceLocation};
+use crate::verdict::judged_program::JudgedProgram;
 use crate::verdict::loaded::Loaded;
 use cli_common::kinds::Kind;
 use cli_common::programs::ObjectProgram;
 use ebpf_base::{ByKey, Items};
-use ebpf_btf::Btf;
-use ebpf_core_relo::{RecordOutcome, RecordOutcomes};
-use ebpf_load_info::{AttachTarget, KernelNumbers, attach_target};
-use ebpf_object::Object;
-use ebpf_object::relocation::LinkedFunction;
+use ebpf_btf::{Btf, BtfError};
+use ebpf_core_relo::RecordOutcome;
+use ebpf_ksyms::KsymsError;
+use ebpf_object::prepare::PrepareError;
+use ebpf_verdict::{
+    JudgedProgram as ProgramReasons, LackingExtern, ProgramCode, ProgramVerdict, Target, Verdict,
+    find_target, judge,
+};
 use std::alloc::{AllocError, Global};
 
-/// A kernel's answers to an object.
+/// The fate of a program on a kernel.
+#[derive(Clone, Copy, PartialEq, Eq)]
+pub enum Fate {
+    /// It runs.
+    Runs,
+    /// The kernel's types have no type of its attach target. It has no other reason to break.
+    NoTarget,
+    /// It breaks.
+    Breaks,
+}
+
+/// A kernel's verdict on an object.
 #[derive(Drop)]
 pub struct Answers<'a> {
     /// The object.
@@ -23,14 +36,10 @@ pub struct Answers<'a> {
     types: &'a Btf,
     /// The kernel's number.
     kernel: usize,
-    /// Whether the kernel lacks an extern, so that no program is loaded.
-    lacks: bool,
-    /// The outcome of each CO-RE relocation.
-    pub outcomes: &'a [RecordOutcome],
+    /// The verdict.
+    pub verdict: &'a Verdict,
     /// The numbers of the CO-RE relocations of functions, by the functions' keys.
     pub by_function: &'a ByKey<Items<usize>>,
-    /// The numbers of helpers and map types that the kernel knows.
-    pub numbers: KernelNumbers<'a>,
 }
 
 /// The judge of an object's programs on one kernel.
@@ -75,12 +84,37 @@ fn numbers_by_function(
     Ok(numbers)
 }
 
-/// Whether programs of a section replace those of another object, whose types are asked.
-fn replaces(section: &str) -> bool {
-    section
-        .strip_prefix('?')
-        .unwrap_or(section)
-        .starts_with("freplace")
+/// The reason why a kernel has no extern.
+fn extern_reason(alloc: Global, error: &KsymsError) -> Result<String, AllocError> {
+    let words = match error {
+        KsymsError::FunctionNotFound { .. } => "no such function (a module's?)",
+        KsymsError::VariableNotFound { .. } => "no such variable (a module's?)",
+        KsymsError::IncompatibleFunctionSignature { .. } => "another signature",
+        KsymsError::IncompatibleVariableType { .. } => "another type",
+        KsymsError::BtfError(error) => return format!(in alloc; "{error}"),
+        KsymsError::InvalidExternType { .. } => {
+            let error = BtfError::InvalidDatasec;
+            return format!(in alloc; "{error}");
+        }
+        error => return format!(in alloc; "{error}"),
+    };
+    String::from_str(alloc, words)
+}
+
+/// The verdict of a kernel on an object. Nothing is stated of it, so that what calls this isn't proved over all that is
+/// stated of verdicts.
+fn verdict_on(alloc: Global, loaded: &Loaded, kernel: &Btf) -> Result<Verdict, AllocError> {
+    judge(alloc, &loaded.object, kernel)
+}
+
+/// The position of the verdict on the program of a name.
+fn verdict_of<'a>(verdict: &'a Verdict, name: &str) -> Option<&'a ProgramVerdict> {
+    for program in verdict.programs.iter() {
+        if program.name.is(name) {
+            return Some(program);
+        }
+    }
+    None
 }
 
 impl Judge<'_> {
@@ -104,161 +138,162 @@ impl Judge<'_> {
         self.findings.add_changed(key, kernel, own, value)
     }
 
+    /// Adds an extern that the kernel lacks.
+    fn note_extern(&mut self, lacking: &LackingExtern) -> Result<(), AllocError> {
+        let alloc = self.alloc;
+        let name = String::from_str(alloc, lacking.name.as_str())?;
+        let reason = extern_reason(alloc, &lacking.error)?;
+        let key = FindingKey::breaking(alloc, name, Kind::Ksym, reason);
+        self.note(key, None)
+    }
+
     /// Adds the externs that the kernel lacks; then no program is loaded.
-    fn note_lacking(&mut self, lacking: Vec<Lacking>) -> Result<(), AllocError> {
-        for extern_ in lacking {
-            let name = extern_.name.into_string();
-            let key = FindingKey::breaking(self.alloc, name, Kind::Ksym, extern_.reason);
-            self.note(key, None)?;
+    fn note_lacking(&mut self) -> Result<(), AllocError> {
+        let answers = self.answers;
+        for lacking in answers.verdict.lacking.iter() {
+            self.note_extern(lacking)?;
         }
         Ok(())
     }
 
     /// Judges the attach target of a program: whether the kernel has no type for it, which is noted.
-    fn judge_attach(&mut self, number: usize, section: &str) -> Result<bool, AllocError> {
+    fn judge_target(&mut self, number: usize, section: &str) -> Result<bool, AllocError> {
         let alloc = self.alloc;
-        if replaces(section) {
-            return Ok(false);
-        }
-        let target = attach_target(alloc, section, self.answers.types)?;
-        let AttachTarget::NotFound { name } = target else {
+        let target = find_target(alloc, section, self.answers.types)?;
+        let Target::NotFound { name } = target else {
             return Ok(false);
         };
         let section = String::from_str(alloc, section)?;
         let reason = format!(in alloc; "no such type {} (a module's?)", name.as_str())?;
-        let key = FindingKey::breaking(alloc, section, Kind::Attach, reason);
+        let key = FindingKey {
+            severity: Severity::NoTarget,
+            ..FindingKey::breaking(alloc, section, Kind::Attach, reason)
+        };
         self.note(key, Some(SourceLocation::of_program(alloc, number)))?;
         Ok(true)
     }
 
-    /// Notes that a program can't be linked.
+    /// Notes that programs can't be linked, under a name, at a location where they have one.
     fn note_refused(
+        &mut self,
+        name: String,
+        error: &PrepareError,
+        place: Option<SourceLocation>,
+    ) -> Result<(), AllocError> {
+        let alloc = self.alloc;
+        let explained = self.answers.loaded.object.explain(error);
+        let sentence = format!(in alloc; "{explained}")?;
+        let key = FindingKey::breaking(alloc, name, Kind::Linking, sentence);
+        self.note(key, place)
+    }
+
+    /// Notes the reasons of a linked program, and the values that its slots carry.
+    fn note_linked(&mut self, number: usize, linked: &ProgramReasons) -> Result<(), AllocError> {
+        let program = JudgedProgram::new(self.alloc, number, linked)?;
+        for copy in program.copies {
+            self.note_records(&program, copy)?;
+        }
+        self.note_reasons(&program)
+    }
+
+    /// Notes the reasons of a program by its outcome.
+    fn note_code(
         &mut self,
         number: usize,
         name: &str,
-        sentence: RefusalText,
+        code: &ProgramCode,
     ) -> Result<(), AllocError> {
-        let alloc = self.alloc;
-        let name = format!(in alloc; "program {name}")?;
-        let key = FindingKey::breaking(alloc, name, Kind::Linking, sentence);
-        self.note(key, Some(SourceLocation::of_program(alloc, number)))
-    }
-
-    /// Judges the copies of functions in a linked program; whether the program breaks.
-    fn judge_linked(&mut self, number: usize, linked: &LinkedFunction) -> Result<bool, AllocError> {
-        let program = JudgedProgram::new(self.alloc, number, linked)?;
-        let mut breaks = false;
-        for copy in program.copies {
-            breaks = self.judge_copy(&program, copy)? || breaks;
-        }
-        Ok(breaks)
-    }
-
-    /// Judges the program of a number; whether it breaks.
-    fn judge_program(
-        &mut self,
-        linker: &Linker<'_>,
-        number: usize,
-        program: &ObjectProgram,
-    ) -> Result<bool, AllocError> {
-        let unattached = self.judge_attach(number, program.section.as_str())?;
-        match linker.linked(self.alloc, program)? {
-            Ok(linked) => {
-                let breaks = self.judge_linked(number, &linked)?;
-                Ok(breaks || unattached)
-            }
-            Err(sentence) => {
-                self.note_refused(number, program.name.as_str(), sentence)?;
-                Ok(true)
+        match code {
+            ProgramCode::Linked(linked) => self.note_linked(number, linked),
+            ProgramCode::Refused(error) => {
+                let alloc = self.alloc;
+                let name = format!(in alloc; "program {name}")?;
+                let place = SourceLocation::of_program(alloc, number);
+                self.note_refused(name, error, Some(place))
             }
         }
     }
 
-    /// Judges each program; whether each breaks.
-    fn judge_programs(&mut self, linker: &Linker<'_>) -> Result<Vec<bool>, AllocError> {
+    /// Notes the reasons of a program; whether it breaks by one of them.
+    fn note_program(&mut self, number: usize, name: &str) -> Result<bool, AllocError> {
+        let answers = self.answers;
+        match verdict_of(answers.verdict, name) {
+            Some(program) => {
+                self.note_code(number, name, &program.code)?;
+                Ok(!program.is_ok())
+            }
+            None => Ok(true),
+        }
+    }
+
+    /// The fate of the program of a number.
+    fn fate_of(&mut self, number: usize, program: &ObjectProgram) -> Result<Fate, AllocError> {
+        let is_untargeted = self.judge_target(number, program.section.as_str())?;
+        let breaks = self.note_program(number, program.name.as_str())?;
+        if breaks {
+            return Ok(Fate::Breaks);
+        }
+        if is_untargeted {
+            return Ok(Fate::NoTarget);
+        }
+        Ok(Fate::Runs)
+    }
+
+    /// The fate of each program; `is_refused` says that the object isn't loaded as a whole.
+    fn fates(&mut self, is_refused: bool) -> Result<Vec<Fate>, AllocError> {
         let answers = self.answers;
         let programs = &answers.loaded.needs.programs;
         let mut all = Vec::with_capacity(self.alloc, programs.len())?;
         for (number, program) in programs.iter().enumerate() {
-            let breaks = self.judge_program(linker, number, program)?;
-            all.push(breaks || answers.lacks)?;
+            let fate = self.fate_of(number, program)?;
+            all.push(if is_refused { Fate::Breaks } else { fate })?;
         }
         Ok(all)
     }
 
-    /// Judges each program of an object that is written for the kernel; whether each breaks.
-    fn judge_object(&mut self, object: &Object) -> Result<Vec<bool>, AllocError> {
-        let sections = object.text_sections(self.alloc)?;
-        let linker = Linker::new(object, &sections)?;
-        self.judge_programs(&linker)
-    }
-
     /// Notes that no program can be linked; each breaks.
-    fn note_unwritten(&mut self, sentence: RefusalText) -> Result<Vec<bool>, AllocError> {
+    fn note_unwritten(&mut self, error: &PrepareError) -> Result<Vec<Fate>, AllocError> {
         let alloc = self.alloc;
         let name = String::from_str(alloc, "all programs")?;
-        self.note(
-            FindingKey::breaking(alloc, name, Kind::Linking, sentence),
-            None,
-        )?;
+        self.note_refused(name, error, None)?;
         let count = self.answers.loaded.needs.programs.len();
-        Ok(vec![in alloc; true; count]?)
+        Ok(vec![in alloc; Fate::Breaks; count]?)
     }
 
-    /// Judges each program of an object that is written for the kernel, or notes why it isn't; whether each breaks.
-    fn judge_written(
-        &mut self,
-        written: Result<Object, RefusalText>,
-    ) -> Result<Vec<bool>, AllocError> {
-        match written {
-            Ok(object) => {
-                let judged = self.judge_object(&object);
-                drop(object);
-                judged
-            }
-            Err(sentence) => self.note_unwritten(sentence),
+    /// The fate of each program by the verdict.
+    fn judge_all(&mut self) -> Result<Vec<Fate>, AllocError> {
+        let answers = self.answers;
+        let verdict = answers.verdict;
+        self.note_lacking()?;
+        if let Some(error) = &verdict.refusal {
+            return self.note_unwritten(error);
         }
+        let is_refused = self.note_whole()?;
+        self.fates(is_refused || !verdict.lacking.is_empty())
     }
 }
 
-/// The outcomes of an object's CO-RE relocations over a kernel's types. Nothing is stated of it, so that what calls this isn't
-/// proved over all that is stated of records.
-fn outcomes_over(object: &Object, kernel: &Btf) -> Result<RecordOutcomes, AllocError> {
-    object.record_outcomes(kernel)
-}
-
-/// Adds the findings on a kernel of a number for the programs that count; whether each breaks.
+/// Adds the findings on a kernel of a number for the programs that count; the fate of each.
 pub fn judge_kernel(
     alloc: Global,
     findings: &mut Findings,
     loaded: &Loaded,
     kernel: &Btf,
     number: usize,
-) -> Result<Vec<bool>, AllocError> {
-    let KernelExterns {
-        written: externs,
-        lacking,
-    } = kernel_externs(alloc, loaded, kernel)?;
-    let RecordOutcomes {
-        records,
-        written: slots,
-    } = outcomes_over(&loaded.object, kernel)?;
-    let by_function = numbers_by_function(alloc, records.as_slice())?;
+) -> Result<Vec<Fate>, AllocError> {
+    let verdict = verdict_on(alloc, loaded, kernel)?;
+    let by_function = numbers_by_function(alloc, verdict.records.as_slice())?;
     let answers = Answers {
         loaded,
         types: kernel,
         kernel: number,
-        lacks: !lacking.is_empty(),
-        outcomes: records.as_slice(),
+        verdict: &verdict,
         by_function: &by_function,
-        numbers: KernelNumbers::of(kernel),
     };
     let mut judge = Judge {
         alloc,
         findings,
         answers: &answers,
     };
-    judge.note_lacking(lacking)?;
-    let written = written_object(alloc, loaded, slots, externs)?;
-    judge.judge_written(written)
+    judge.judge_all()
 }

@@ -2,9 +2,9 @@
 
 use crate::verdict::own_values::own_value;
 use cli_common::kconfig_externs::object_settings;
-use cli_common::map_uses::{MapUse, map_uses};
 use cli_common::programs::ObjectProgram;
-use ebpf_base::{ByKey, ByName, Items, Text};
+use cli_common::unknown_externs::{add_settings, add_unknown};
+use ebpf_base::{ByName, Items, Text};
 use ebpf_btf::Btf;
 use ebpf_btf_ext::Relocation;
 use ebpf_model::ExternDesc;
@@ -27,10 +27,6 @@ pub struct Needs {
     pub programs: Vec<ObjectProgram>,
     /// The CO-RE relocations, section by section and in order.
     pub records: Vec<Record>,
-    /// The maps that functions use, by the functions' keys.
-    pub map_uses: ByKey<Items<MapUse>>,
-    /// The externs with a type.
-    pub typed: ByName<ExternDesc>,
     /// The names of the externs that the kernel's configuration gives.
     pub settings: Items<Text>,
 }
@@ -38,7 +34,8 @@ pub struct Needs {
 /// An object with its needs.
 #[derive(Drop)]
 pub struct Loaded {
-    /// The object, parsed leniently.
+    /// The object, parsed leniently, whose externs without a type stand for a type's id, so that nothing is said of their
+    /// values.
     pub object: Object,
     /// The needs of the object.
     pub needs: Needs,
@@ -74,7 +71,7 @@ fn records_of(alloc: Global, object: &Object, all: bool) -> Result<Vec<Record>, 
     Ok(records)
 }
 
-/// The externs with a type.
+/// The externs with a type, as they are.
 fn typed_externs(alloc: Global, object: &Object) -> Result<ByName<ExternDesc>, AllocError> {
     let mut typed = ByName::new(alloc);
     for (name, known) in object.externs.iter() {
@@ -84,6 +81,19 @@ fn typed_externs(alloc: Global, object: &Object) -> Result<ByName<ExternDesc>, A
         typed.insert(name.clone()?, *known)?;
     }
     Ok(typed)
+}
+
+/// The externs with a type as they are, and all others with a value: those that the kernel's configuration gives, and those
+/// whose addresses a kernel's symbols tell.
+pub fn externs_with_values(
+    alloc: Global,
+    object: &Object,
+    settings: &[Text],
+) -> Result<ByName<ExternDesc>, AllocError> {
+    let mut externs = typed_externs(alloc, object)?;
+    add_unknown(&object.externs, &mut externs)?;
+    add_settings(settings, &mut externs)?;
+    Ok(externs)
 }
 
 impl Needs {
@@ -96,14 +106,10 @@ impl Needs {
         all: bool,
     ) -> Result<Needs, AllocError> {
         let records = records_of(alloc, object, all)?;
-        let map_uses = map_uses(alloc, object)?;
-        let typed = typed_externs(alloc, object)?;
         let settings = object_settings(alloc, object)?;
         Ok(Needs {
             programs,
             records,
-            map_uses,
-            typed,
             settings,
         })
     }

@@ -1,11 +1,10 @@
-//! The verdict of a kernel on the slots of a linked program.
+//! The CO-RE relocations of a linked program over a kernel, as findings.
 
 use crate::verdict::findings::{FindingKey, Severity, SourceLocation};
 use crate::verdict::judged_program::{JudgedProgram, SlotRef};
 use crate::verdict::judging::Judge;
 use crate::verdict::loaded::Record;
 use cli_common::kinds::Kind;
-use cli_common::map_uses::MapUse;
 use cli_common::record_names::{absence_words, has_sign, record_name};
 use ebpf_base::{ByKey, Items};
 use ebpf_btf::Btf;
@@ -78,34 +77,31 @@ impl Judge<'_> {
         self.note(key, Some(place))
     }
 
-    /// Notes a CO-RE relocation whose value is absent; whether its program breaks.
-    fn judge_absent(
+    /// Notes a CO-RE relocation whose value is absent: its program breaks where the slot is one of its reasons.
+    fn note_absent(
         &mut self,
         slot: SlotRef<'_>,
         record: &Record,
         absence: Absence,
-    ) -> Result<bool, AllocError> {
-        let breaks = slot.is_reached();
-        let severity = if breaks {
+    ) -> Result<(), AllocError> {
+        let severity = if slot.is_poisoned() {
             Severity::Breaks
         } else {
             Severity::Guarded
         };
         let reason = String::from_str(self.alloc, absence_words(absence))?;
-        self.note_record(slot, record, severity, reason)?;
-        Ok(breaks)
+        self.note_record(slot, record, severity, reason)
     }
 
     /// Notes a CO-RE relocation that is refused.
-    fn judge_refused(
+    fn note_refusal(
         &mut self,
         slot: SlotRef<'_>,
         record: &Record,
         error: &RelocationError,
-    ) -> Result<bool, AllocError> {
+    ) -> Result<(), AllocError> {
         let reason = format!(in self.alloc; "refused: {error}")?;
-        self.note_record(slot, record, Severity::Breaks, reason)?;
-        Ok(true)
+        self.note_record(slot, record, Severity::Breaks, reason)
     }
 
     /// Notes a value of a kind where the object's own types give a different one.
@@ -153,17 +149,19 @@ impl Judge<'_> {
         self.note_value(record, Kind::ByteSize, Some(own), Some(found))
     }
 
-    /// Judges the CO-RE relocation of a number in a copy, given the copy's first slot; whether the program breaks by it.
-    fn judge_record(&mut self, first: SlotRef<'_>, number: usize) -> Result<bool, AllocError> {
+    /// Notes the CO-RE relocation of a number in a copy, given the copy's first slot.
+    fn note_outcome(&mut self, first: SlotRef<'_>, number: usize) -> Result<(), AllocError> {
         let answers = self.answers;
         let records = &answers.loaded.needs.records;
-        let (Some(outcome), Some(record)) = (answers.outcomes.get(number), records.get(number))
-        else {
-            return Ok(false);
+        let (Some(outcome), Some(record)) = (
+            answers.verdict.records.get(number),
+            records.get(number),
+        ) else {
+            return Ok(());
         };
         let slot = match outcome.slot {
             Some(place) => place.slot,
-            None => return Ok(false),
+            None => return Ok(()),
         };
         let leads = loads_number(&answers.loaded.object, first.copy, slot);
         let slot = SlotRef {
@@ -172,38 +170,18 @@ impl Judge<'_> {
             ..first
         };
         match &outcome.result {
-            RecordResult::Value(outcome) => {
-                self.note_written(slot, record, outcome)?;
-                Ok(false)
-            }
-            RecordResult::Absent(absence) => self.judge_absent(slot, record, *absence),
-            RecordResult::Refused(error) => self.judge_refused(slot, record, error),
+            RecordResult::Value(outcome) => self.note_written(slot, record, outcome),
+            RecordResult::Absent(absence) => self.note_absent(slot, record, *absence),
+            RecordResult::Refused(error) => self.note_refusal(slot, record, error),
         }
     }
 
-    /// Judges a map that a slot uses; whether the kernel has no type of its number.
-    fn judge_map(&mut self, slot: SlotRef<'_>, used: &MapUse) -> Result<bool, AllocError> {
-        let (alloc, answers) = (self.alloc, self.answers);
-        let number = used.map_type;
-        if answers.numbers.knows_map_type(number) != Some(false) {
-            return Ok(false);
-        }
-        let place = slot.location(alloc, answers.loaded.object.btf.as_ref())?;
-        let name = used.name.as_str();
-        let name = format!(in alloc; "map {name}")?;
-        let reason = format!(in alloc; "no map type {number}")?;
-        let key = FindingKey::breaking(alloc, name, Kind::MapType, reason);
-        self.note(key, Some(place))?;
-        Ok(true)
-    }
-
-    /// Judges a copy of a function in a linked program by its CO-RE relocations, its maps and its calls; whether the program
-    /// breaks by it.
-    pub fn judge_copy(
+    /// Notes the CO-RE relocations of a copy of a function in a linked program.
+    pub fn note_records(
         &mut self,
         program: &JudgedProgram<'_>,
         copy: &CodeCopy,
-    ) -> Result<bool, AllocError> {
+    ) -> Result<(), AllocError> {
         let answers = self.answers;
         let first = SlotRef {
             program,
@@ -211,17 +189,9 @@ impl Judge<'_> {
             slot: 0,
             leads: false,
         };
-        let mut breaks = false;
         for number in items_at(answers.by_function, copy.key) {
-            breaks = self.judge_record(first, *number)? || breaks;
+            self.note_outcome(first, *number)?;
         }
-        for used in items_at(&answers.loaded.needs.map_uses, copy.key) {
-            let slot = used.slot;
-            breaks = self.judge_map(SlotRef { slot, ..first }, used)? || breaks;
-        }
-        for slot in 0..copy.slots {
-            breaks = self.judge_call(SlotRef { slot, ..first })? || breaks;
-        }
-        Ok(breaks)
+        Ok(())
     }
 }

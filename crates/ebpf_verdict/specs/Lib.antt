@@ -1,0 +1,5 @@
+pub mod Causes
+pub mod Reasons
+pub mod Writing
+pub mod Targets
+pub mod Verdicts
