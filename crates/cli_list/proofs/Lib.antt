@@ -1,3 +1,4 @@
 pub mod Using
 pub mod Counted
 pub mod Listed
+pub mod Examples

@@ -81,8 +81,9 @@ keeps : (o : Object) (settings : List (List ℕ)) (after : Object) (is_written :
 keeps o settings after true is = subst (λ (a : Object). Keeps o a) (sym is) (keeps_written o settings)
 keeps o settings after false is = subst (λ (a : Object). Keeps o a) (sym is.0) (keeps_known o settings)
 
-pub listed : (parsed o : Object) (w : ObjectContents) (made : List ListedLayout) (l : ObjectListing) → IsWanted parsed w → AreObjectLayouts parsed w o made → IsListing o w made l → IsListed parsed l
-listed parsed o w made l wanted layouts is =
+pub listed : (file : List ℕ) (parsed o : Object) (w : ObjectContents) (made : List ListedLayout) (l : ObjectListing) → IsWanted file parsed w → AreObjectLayouts parsed w o made → IsListing o w made l
+    → IsListed file parsed l
+listed file parsed o w made l wanted layouts is =
     let here : AreObjectLayouts parsed l.wanted.now l.object.now l.layouts.now =
     subst (λ (x : Object). AreObjectLayouts parsed l.wanted.now x l.layouts.now) (sym is.object)
     (subst (λ (x : ObjectContents). AreObjectLayouts parsed x o l.layouts.now) (sym is.wanted)
@@ -95,7 +96,7 @@ listed parsed o w made l wanted layouts is =
     in
     record {
       object = keeps parsed l.wanted.now.settings l.object.now here.is_written here.written;
-      wanted = subst (λ (x : ObjectContents). IsWanted parsed x) (sym is.wanted) wanted;
+      wanted = subst (λ (x : ObjectContents). IsWanted file parsed x) (sym is.wanted) wanted;
       layouts = here;
       listing = told;
     }

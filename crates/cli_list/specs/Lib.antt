@@ -1,3 +1,4 @@
 pub mod Listings
+pub mod TypeLabels
 pub mod RecordCounts
 pub mod PrivateContracts

@@ -1,16 +1,27 @@
 -- What `ebpf list` writes from: the object's tables, row by row, in their order. The maps are read
 -- of the object itself.
 use Rattle.std.specs.Prelude.{ℕ, Bool, true, false, List, map, Option, Some, None, slice_get, ◌≡◌}
-use Rattle.std.specs.Prelude.{MatchBool, ◌⊎◌, ◌-◌, ◌^◌, min, [], ◌∷◌, not}
+use Rattle.std.specs.Prelude.{MatchBool, ◌⊎◌, ◌-◌, ◌^◌, min, [], ◌∷◌, not, length, codes}
+use Rattle.std.specs.Prelude.{Result, Ok, Err, if◌then◌else◌}
 use Rattle.std.specs.FinMap.{entries, get, FinMap}
-use Rattle.std.specs.List.{AllZip, filter, list_any, enumerate_from}
+use Rattle.std.specs.FinMap as finite
+use Rattle.std.specs.List.{AllZip, filter, find, list_any, enumerate_from}
 use Rattle.std.specs.Map.{keys_of}
 use Rattle.std.specs.Ordering.{eq_by_cmp}
 use Rattle.std.specs.declared.cmp.Ordering.{Ordering}
+use Rattle.ebpf_base.specs.Faults.{first_in, first_of}
+use Rattle.ebpf_base.specs.declared.endianness.Endianness.{Endianness}
+use Rattle.ebpf_btf.specs.Reading.{type_info_of}
 use Rattle.ebpf_btf.specs.TypeInfo.{TypeInfo}
+use Rattle.ebpf_btf.specs.declared.error.BtfError.{BtfError}
 use Rattle.ebpf_btf.specs.declared.types.BtfType.{BtfType}
 use Rattle.ebpf_btf.specs.declared.types.BtfType.TheVariants.{Func}
+use Rattle.ebpf_elf.specs.Faults.{faults}
+use Rattle.ebpf_elf.specs.Names.{is_name}
+use Rattle.ebpf_elf.specs.Sections.{SectionOf, data_faults, data_of, section_name, sections}
+use Rattle.ebpf_elf.specs.declared.error.ElfReadError.{ElfReadError}
 use Rattle.ebpf_model.specs.declared.error.EbpfRelocationError.{EbpfRelocationError}
+use Rattle.ebpf_model.specs.declared.function.Function.{Function}
 use Rattle.ebpf_model.specs.declared.symbol.ExternDesc.{ExternDesc}
 use Rattle.ebpf_object.specs.WrittenSlots.{with_externs, externs_fault}
 use Rattle.ebpf_object.specs.declared.object.Object.{Object}
@@ -30,6 +41,7 @@ use Rattle.ebpf_model.specs.Symbols.{FunctionKey}
 use Rattle.cli_common.specs.HelperCalls.{calls_helper}
 use Rattle.cli_common.specs.declared.map_uses.MapUse.{MapUse}
 use Rattle.cli_common.specs.FunctionMaps.{function_maps}
+use Rattle.cli_list.specs.RecordCounts.{AreCounts}
 use Rattle.cli_list.specs.declared.listing.Extern.{Extern}
 use Rattle.cli_list.specs.declared.layout.ListedLayout.{ListedLayout}
 use Rattle.cli_list.specs.declared.listing.ObjectListing.{ObjectListing}
@@ -62,6 +74,62 @@ extern_row types name x =
 -- those of an object, in byte order of their names
 abbrev pub extern_rows : Object → List Extern
 extern_rows o = map (λ e. extern_row o.btf e.0 e.1) (entries o.externs)
+
+-- ---- the number of types of a file.
+--
+-- A worked example: the section `.BTF` of a file has the types 1 to 7 behind void. The file has 7
+-- types, also where reading the object adds the variable of the kernel's functions.
+
+-- the number of types that are read, void aside; none where they can't be read
+abbrev pub read_type_count : Result TypeInfo BtfError → Option ℕ
+read_type_count (Ok types) = Some (length types.types - 1)
+read_type_count (Err _) = None
+
+abbrev pub type_count_in : Endianness → List ℕ → Option ElfReadError → Option ℕ
+type_count_in order bytes None = read_type_count (type_info_of order bytes)
+type_count_in order bytes (Some _) = None
+
+-- the number of types in a section
+abbrev pub section_type_count : Endianness → Option SectionOf → Option ℕ
+section_type_count order None = None
+section_type_count order (Some s) = type_count_in order (data_of s) (first_of (data_faults s))
+
+-- the first section `.BTF` of a file
+abbrev pub types_section : List ℕ → Option SectionOf
+types_section file = find (λ s. is_name (codes ".BTF") (section_name s)) (sections file)
+
+abbrev pub sound_type_count : Endianness → List ℕ → Option ElfReadError → Option ℕ
+sound_type_count order file None = section_type_count order (types_section file)
+sound_type_count order file (Some _) = None
+
+-- the number of types in a file's section `.BTF`, void aside; none where it has no such section, or
+-- none that can be read
+unfoldable pub file_type_count : Endianness → List ℕ → Option ℕ
+file_type_count order file = sound_type_count order file (first_in (faults file))
+
+-- ---- single facts of an object
+
+-- the license that the file states (its section `license`)
+abbrev pub stated_license : Object → Option (List ℕ)
+stated_license o =
+    if finite.contains_key o.section_infos (codes "license") then Some o.license else None
+
+-- the number of slots of a function; 0 where there is none
+abbrev pub slots_in : Option Function → ℕ
+slots_in None = 0
+slots_in (Some f) = length f.instructions
+
+-- the number of slots of the function at a key, before it is linked
+abbrev pub slot_count : Object → FunctionKey → ℕ
+slot_count o key = slots_in (get o.functions key)
+
+-- the numbers of the programs that use a thing; none where no program does
+abbrev pub numbers_or_none : Option (List ℕ) → List ℕ
+numbers_or_none None = []
+numbers_or_none (Some numbers) = numbers
+
+abbrev pub users_of : FinMap text_cmp (List ℕ) → List ℕ → List ℕ
+users_of users name = numbers_or_none (get users name)
 
 -- ---- an object whose externs are written as if a kernel had them all, so that what calls them is
 -- no reference to a function
@@ -167,13 +235,14 @@ uses_map uses name layout = list_any (λ key. has_use (get uses key) name) layou
 -- ---- what `ebpf list` writes from: the object's tables, row by row, in their order. The maps are
 -- read of the object itself.
 
--- the contents of a parsed object: its programs, its externs, those that the kernel's
--- configuration gives, and the maps that its functions use
-pub record IsWanted (o : Object) (w : ObjectContents) : Type 0 where
+-- the contents of the parsed object of a file: its programs, its externs, those that the kernel's
+-- configuration gives, the maps that its functions use, and the number of the file's types
+pub record IsWanted (file : List ℕ) (o : Object) (w : ObjectContents) : Type 0 where
   pub programs : map program_row w.programs.items ≡ program_rows o.programs
   pub externs : w.externs ≡ extern_rows o
   pub settings : w.settings ≡ object_settings o.btf
   pub map_uses : w.map_uses ≡ function_maps o
+  pub types : w.types ≡ file_type_count o.endianness file
 
 -- what each of its programs is made of, once its externs are written as if a kernel had them all; a
 -- program alone where one of them can't be written
@@ -186,7 +255,7 @@ pub record AreObjectLayouts (before : Object) (w : ObjectContents) (after : Obje
       (AllZip IsOfOne w.programs.items made)
 
 -- what is told of an object with these layouts: which of its programs use which maps and helper
--- functions, and the functions that none of them reaches
+-- functions, the number of CO-RE records of each group, and the functions that no program reaches
 pub record IsListing (o : Object) (w : ObjectContents) (made : List ListedLayout)
     (l : ObjectListing)
     : Type 0 where
@@ -195,13 +264,15 @@ pub record IsListing (o : Object) (w : ObjectContents) (made : List ListedLayout
   pub layouts : l.layouts.now ≡ made
   pub map_users : AreUsers (uses_map w.map_uses) made l.map_users
   pub helper_users : AreUsers (calls o) made l.helper_users
+  pub records : AreCounts o l.records
   pub unreached : l.unreached.items ≡ unreached_keys o made
 
--- Of a parsed object: all that is told, where the layouts are those of its programs. But for its
--- externs and the slots of its functions the object is as it was parsed, its maps among the rest.
-pub record IsListed (parsed : Object) (l : ObjectListing) : Type 0 where
+-- Of the parsed object of a file: all that is printed, where the layouts are those of its programs.
+-- But for its externs and the slots of its functions the object is as it was parsed, its maps, its
+-- license and its CO-RE records among the rest.
+pub record IsListed (file : List ℕ) (parsed : Object) (l : ObjectListing) : Type 0 where
   pub object : l.object.now
       ≡ record parsed { externs = l.object.now.externs; functions = l.object.now.functions }
-  pub wanted : IsWanted parsed l.wanted.now
+  pub wanted : IsWanted file parsed l.wanted.now
   pub layouts : AreObjectLayouts parsed l.wanted.now l.object.now l.layouts.now
   pub listing : IsListing l.object.now l.wanted.now l.layouts.now l

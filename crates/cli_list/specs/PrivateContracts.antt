@@ -1,18 +1,22 @@
 -- What contracts of private functions name and no public one.
-use Rattle.std.specs.Prelude.{◌≡◌, ℕ, ◌+◌, ◌-◌, ◌^◌, ◌<◌, ◌==◌, min, count_by, Bool, false, List}
+use Rattle.std.specs.Prelude.{◌≡◌, ℕ, ◌+◌, ◌-◌, ◌^◌, ◌==◌, min, count_by, Bool, false, List}
 use Rattle.std.specs.Prelude.{[], ◌∷◌, ◌++◌, fold, map, length, slice_get, Option, Some, None}
-use Rattle.std.specs.Prelude.{unwrap_or, if◌then◌else◌}
+use Rattle.std.specs.Prelude.{string_bytes, unwrap_or, if◌then◌else◌}
 use Rattle.std.specs.BTreeMap.{BTreeMap}
+use Rattle.std.specs.BTreeMap as counting
 use Rattle.std.specs.BTreeSet.{BTreeSet}
 use Rattle.std.specs.FinMap.{FinMap, get, insert}
 use Rattle.std.specs.List.{flat_map}
 use Rattle.std.specs.declared.cmp.Ordering.{Ordering}
 use Rattle.ebpf_base.specs.Maps.{key_cmp}
+use Rattle.ebpf_btf.specs.TypeInfo.{TypeInfo}
 use Rattle.ebpf_btf_ext.specs.declared.relocation.Relocation.{Relocation}
-use Rattle.cli_list.specs.RecordCounts.{asks, count_at}
+use Rattle.cli_common.specs.RecordKinds.{kind_of}
+use Rattle.cli_list.specs.TypeLabels.{type_label}
+use Rattle.cli_list.specs.RecordCounts.{asks, group_cmp}
 use Rattle.cli_list.specs.declared.layout.ListedLayout.{ListedLayout}
+use Rattle.cli_list.specs.declared.records.RecordGroup.{RecordGroup}
 use Rattle.ebpf_model.specs.Symbols.{FunctionKey}
-use Rattle.cli_common.specs.declared.kinds.Kind.{Kind}
 use Rattle.cli_common.specs.declared.map_uses.MapUse.{MapUse}
 
 -- ---- the numbers of programs, noted as they rise
@@ -80,13 +84,19 @@ reached_keys layouts = flat_map (λ l. l.functions.items) layouts
 
 -- ---- records, counted one after the other
 
-abbrev pub with_one : ℕ → Bool → ℕ
-with_one n counts = if counts then min (n + 1) (2 ^ 64 - 1) else n
+-- the group of a record
+pub record IsGroupOf (types : TypeInfo) (r : Relocation) (group : RecordGroup) : Type 0 where
+  pub name : string_bytes group.name ≡ type_label types r.type_id
+  pub kind : group.kind ≡ kind_of r.kind
 
--- the counts with those of some records, as far as 64 bits hold them
-abbrev pub CountsMore : BTreeMap (ℕ × Kind) ℕ → List Relocation → BTreeMap (ℕ × Kind) ℕ → Type 0
-CountsMore before records after =
-    (asked : ℕ × Kind) → count_at before asked < 2 ^ 64
-    → (count_at after asked < 2 ^ 64)
-    × (count_at after asked
-    ≡ min (count_at before asked + count_by (asks asked) records) (2 ^ 64 - 1))
+-- what is counted, with n more
+abbrev pub with_more : Option ℕ → ℕ → Option ℕ
+with_more found n = if n == 0 then found else Some (min (unwrap_or found 0 + n) (2 ^ 64 - 1))
+
+-- the counts with those of some records
+abbrev pub CountsMore : TypeInfo → BTreeMap RecordGroup ℕ → List Relocation
+    → BTreeMap RecordGroup ℕ → Type 0
+CountsMore types before records after =
+    (group : RecordGroup)
+    → counting.get group_cmp after group
+    ≡ with_more (counting.get group_cmp before group) (count_by (asks types group) records)

@@ -2,6 +2,7 @@
 #![tactic(auto)]
 
 mod json;
+mod labels;
 mod layout;
 mod listing;
 mod records;

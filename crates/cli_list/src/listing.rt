@@ -1,24 +1,26 @@
 //! What an object has.
 
-ghost use Rattle.std.specs.Prelude.{◌≡◌, IfOk};
+ghost use Rattle.std.specs.Prelude.{◌≡◌, ℕ, List, IfOk, Some};
 ghost use Rattle.std.specs.Option.{option_copied};
 ghost use Rattle.cli_list.specs.Listings.{extern_row, extern_rows, is_func, is_function, AreObjectLayouts, IsListed, IsListing, IsWanted};
+ghost use Rattle.cli_list.specs.Listings.{file_type_count, read_type_count, section_type_count, slot_count, stated_license, types_section, users_of};
+ghost use Rattle.cli_list.specs.RecordCounts.{record_total};
+ghost use Rattle.ebpf_btf.specs.Reading.{type_info_of};
 ghost use Rattle.ebpf_object.specs.declared.object.Object.{Object};
 
 use crate::layout::{ListedLayout, layouts_if, unreached, write_externs};
-use crate::records::{RecordGroup, counted_records};
+use crate::records::{RecordCounts, counted_records, record_total};
 use crate::users::{helper_users, map_users};
 use cli_common::kconfig_externs::object_settings;
 use cli_common::map_uses::{MapUse, map_uses};
 use cli_common::names::EscapedName;
 use cli_common::programs::{ObjectProgram, object_programs};
 use ebpf_base::{ByKey, ByName, ByNumber, Items, Text};
-use ebpf_btf::{Btf, BtfError, BtfType};
-use ebpf_elf::ElfFile;
+use ebpf_btf::{Btf, BtfError, BtfType, Endianness};
+use ebpf_elf::{ElfFile, ElfSection};
 use ebpf_model::ExternDesc;
 use ebpf_object::Object;
 use std::alloc::{AllocError, Global};
-use std::collections::BTreeMap;
 use std::{fmt, str};
 
 /// Bytes as text shows them: a text as a name is shown, and other bytes one by one, `\xNN` where they aren't printable
@@ -89,7 +91,7 @@ pub struct ObjectListing<'a> {
     /// The programs that call a helper function, by its number.
     pub helper_users: ByNumber<Items<usize>>,
     /// How many CO-RE records ask what of which type.
-    pub records: BTreeMap<RecordGroup, usize>,
+    pub records: RecordCounts,
     /// The functions that no program reaches.
     pub unreached: Vec<(usize, u64)>,
 }
@@ -143,34 +145,66 @@ fn externs(alloc: Global, object: &Object) -> Result<Items<Extern>, AllocError>
     Ok(all)
 }
 
-/// How many types a file has, without void; None where it has none. To those of its object the variable is added that
-/// stands for the kernel's functions.
-fn file_types(alloc: Global, file: &[u8], object: &Object) -> Result<Option<usize>, AllocError> {
-    let Ok(file) = ElfFile::parse(file) else {
-        return Ok(None);
-    };
-    let Some(section) = file.section_by_name(".BTF") else {
-        return Ok(None);
-    };
-    let Ok(bytes) = section.data() else {
-        return Ok(None);
-    };
-    match Btf::parse(alloc, bytes, object.endianness) {
+/// Returns the number of types in the bytes of a section `.BTF`, void aside; none where they can't be read.
+fn type_count(alloc: Global, bytes: &[u8], order: Endianness) -> Result<Option<usize>, AllocError>
+    ensures { IfOk result (λ count. count ≡ read_type_count (type_info_of order bytes.now)) }
+{
+    match Btf::parse(alloc, bytes, order) {
         Ok(types) => Ok(Some(types.len().saturating_sub(1))),
         Err(BtfError::OutOfMemory) => Err(AllocError),
         Err(_) => Ok(None),
     }
 }
 
+/// Returns the number of types in a section `.BTF`.
+fn section_types(
+    alloc: Global,
+    section: &ElfSection<'_>,
+    order: Endianness,
+) -> Result<Option<usize>, AllocError>
+    ensures { IfOk result (λ count. count ≡ section_type_count order (Some section.now)) }
+{
+    match section.data() {
+        Ok(bytes) => type_count(alloc, bytes, order),
+        Err(_) => Ok(None),
+    }
+}
+
+/// Returns the number of types in the section `.BTF` of a file that is read.
+fn named_types(
+    alloc: Global,
+    file: &ElfFile<'_>,
+    order: Endianness,
+) -> Result<Option<usize>, AllocError>
+    ensures { IfOk result (λ count. count ≡ section_type_count order (types_section file.now)) }
+{
+    match file.section_by_name(".BTF") {
+        Some(section) => section_types(alloc, &section, order),
+        None => Ok(None),
+    }
+}
+
+/// Returns the number of types in a file's section `.BTF`, void aside; none where it has none. Those of its object may be
+/// more, by the variable that stands for the kernel's functions.
+#[tactic(auto, unfolding(crate::specs::Listings::file_type_count))]
+fn file_types(alloc: Global, file: &[u8], order: Endianness) -> Result<Option<usize>, AllocError>
+    ensures { IfOk result (λ count. count ≡ file_type_count order file.now) }
+{
+    match ElfFile::parse(file) {
+        Ok(file) => named_types(alloc, &file, order),
+        Err(_) => Ok(None),
+    }
+}
+
 /// What stands in an object.
 pub fn wanted_by(alloc: Global, file: &[u8], object: &Object) -> Result<ObjectContents, AllocError>
-    ensures { IfOk result (λ wanted. IsWanted object.now wanted) }
+    ensures { IfOk result (λ wanted. IsWanted file.now object.now wanted) }
 {
     let programs = object_programs(alloc, file, object)?;
     let externs = externs(alloc, object)?;
     let settings = object_settings(alloc, object)?;
     let map_uses = map_uses(alloc, object)?;
-    let types = file_types(alloc, file, object)?;
+    let types = file_types(alloc, file, object.endianness)?;
     Ok(ObjectContents {
         programs,
         externs,
@@ -200,10 +234,10 @@ pub fn listing_of<'a>(
     layouts: &'a Items<ListedLayout>,
 ) -> Result<ObjectListing<'a>, AllocError>
     ensures tables { IfOk result (λ listing. IsListing object.now wanted.now layouts.now listing) }
-    ensures listed { (parsed : Object)
-        → IsWanted parsed wanted.now
+    ensures listed { (file : List ℕ) (parsed : Object)
+        → IsWanted file parsed wanted.now
         → AreObjectLayouts parsed wanted.now object.now layouts.now
-        → IfOk result (λ listing. IsListed parsed listing) }
+        → IfOk result (λ listing. IsListed file parsed listing) }
 {
     let made = layouts.as_slice();
     let map_users = map_users(alloc, &wanted.map_uses, made)?;
@@ -222,8 +256,10 @@ pub fn listing_of<'a>(
 }
 
 impl<'a> ObjectListing<'a> {
-    /// The license, where the file states one.
-    pub fn license(&self) -> Option<&[u8]> {
+    /// Returns the license, where the file states one.
+    pub fn license(&self) -> Option<&[u8]>
+        ensures { option_copied result ≡ stated_license self.now.object.now }
+    {
         if self.object.states_license() {
             Some(self.object.license.as_slice())
         } else {
@@ -231,23 +267,27 @@ impl<'a> ObjectListing<'a> {
         }
     }
 
-    /// How many CO-RE records there are.
-    pub fn record_count(&self) -> usize {
-        self.records
-            .iter()
-            .fold(0_usize, |all, (_, count)| all.saturating_add(*count))
+    /// Returns the number of CO-RE relocations.
+    pub fn record_count(&self) -> usize
+        ensures { result ≡ record_total self.now.object.now }
+    {
+        record_total(self.object)
     }
 
-    /// How many slots the function of a key has.
-    pub fn slots_of(&self, key: (usize, u64)) -> usize {
+    /// Returns the number of slots of the function at a key; 0 where there is none.
+    pub fn slots_of(&self, key: (usize, u64)) -> usize
+        ensures { result ≡ slot_count self.now.object.now key }
+    {
         match self.object.functions.get(key) {
             Some(function) => function.instructions.len(),
             None => 0,
         }
     }
 
-    /// The numbers of the programs that use the map of a name.
-    pub fn users_of_map(&self, name: &str) -> &[usize] {
+    /// Returns the numbers of the programs that use the map of a name.
+    pub fn users_of_map(&self, name: &str) -> &[usize]
+        ensures { result.now ≡ users_of self.now.map_users name.now }
+    {
         match self.map_users.get(name) {
             Some(numbers) => numbers.as_slice(),
             None => &[],

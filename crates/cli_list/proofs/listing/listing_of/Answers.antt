@@ -22,6 +22,7 @@ returns c =
       layouts = refl;
       map_users = subst (λ layouts. AreUsers (uses_map w.map_uses) layouts c.in_ok-map_users.map_users) made c.in_ok-map_users.ensures;
       helper_users = subst (λ layouts. AreUsers (calls o) layouts c.in_ok-helper_users.helper_users) made c.in_ok-helper_users.ensures;
+      records = c.in_ok-records.ensures;
       unreached = c.in_ok-unreached.ensures ∙ ap (unreached_keys o) made;
     } in
-    record { tables = tables; listed = λ parsed wanted layouts. listed parsed o w c.args.layouts.now _ wanted layouts tables }
+    record { tables = tables; listed = λ file parsed wanted layouts. listed file parsed o w c.args.layouts.now _ wanted layouts tables }

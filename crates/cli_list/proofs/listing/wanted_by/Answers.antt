@@ -6,4 +6,5 @@ returns c = record {
   externs = c.in_ok-externs.ensures;
   settings = c.in_ok-settings.ensures;
   map_uses = c.in_ok-map_uses.ensures;
+  types = c.in_ok-types.ensures;
 }
