@@ -52,8 +52,8 @@ pub record IsWritten (kernel : TypeInfo) (relocated unlinked : Object) : Type 0 
   pub externs : unlinked ≡ with_externs resolved
   pub complete : unwritten_fault true true unlinked ≡ None
 
--- the same from an object with the slots that CO-RE relocations write, where each slot's own map has
--- a descriptor
+-- the same from an object with the slots that CO-RE relocations write, where each slot's own map
+-- has a descriptor
 pub record IsWrittenOver (kernel : TypeInfo) (slots : Written) (o unlinked : Object)
     : Type 0 where
   pub given : given_fault (Some (own_descriptors o)) true o ≡ None
