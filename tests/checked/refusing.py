@@ -230,7 +230,7 @@ def passes():
             "maps", "MapAddressOverflow", "what is referred to lies 2 GiB or more into its section",
         ),
         "a type without types": (
-            kf, None, None, 'the extern "kf" has a type, and no kernel\'s types are given', "externs", "TypedKsymRequiresKernelBtf", GIVE_TYPES,
+            kf, None, None, 'the extern "kf" has a type, and the kernel\'s BTF is not given', "externs", "TypedKsymRequiresKernelBtf", GIVE_TYPES,
         ),
         "a function that isn't there": (
             kf, btf(*NEITHER), None, 'the kernel has no function "kf"', "externs", "FunctionNotFound",
