@@ -273,6 +273,40 @@ impl Judge<'_> {
     }
 }
 
+/// The fate of each program by a kernel's answers.
+fn fates_by(
+    alloc: Global,
+    findings: &mut Findings,
+    answers: &Answers<'_>,
+) -> Result<Vec<Fate>, AllocError> {
+    let mut judge = Judge {
+        alloc,
+        findings,
+        answers,
+    };
+    judge.judge_all()
+}
+
+/// The fate of each program by the verdict of a kernel of a number.
+fn fates_on(
+    alloc: Global,
+    findings: &mut Findings,
+    loaded: &Loaded,
+    kernel: &Btf,
+    number: usize,
+    verdict: &Verdict,
+) -> Result<Vec<Fate>, AllocError> {
+    let by_function = numbers_by_function(alloc, verdict.records.as_slice())?;
+    let answers = Answers {
+        loaded,
+        types: kernel,
+        kernel: number,
+        verdict,
+        by_function: &by_function,
+    };
+    fates_by(alloc, findings, &answers)
+}
+
 /// Adds the findings on a kernel of a number for the programs that count; the fate of each.
 pub fn judge_kernel(
     alloc: Global,
@@ -282,18 +316,5 @@ pub fn judge_kernel(
     number: usize,
 ) -> Result<Vec<Fate>, AllocError> {
     let verdict = verdict_on(alloc, loaded, kernel)?;
-    let by_function = numbers_by_function(alloc, verdict.records.as_slice())?;
-    let answers = Answers {
-        loaded,
-        types: kernel,
-        kernel: number,
-        verdict: &verdict,
-        by_function: &by_function,
-    };
-    let mut judge = Judge {
-        alloc,
-        findings,
-        answers: &answers,
-    };
-    judge.judge_all()
+    fates_on(alloc, findings, loaded, kernel, number, &verdict)
 }
