@@ -18,7 +18,7 @@ from pathlib import Path
 
 from checked.embedded import executable
 from checked.listing import FINE
-from checked.objects import function, object_of
+from checked.objects import Code, function, object_of
 from rows.elf import EXIT
 from shown import commands, forms
 from shown.blocks import blocks_of
@@ -43,6 +43,9 @@ LANGUAGES = {
     ("docs/C.md", "python"): "tests/c_interface.sh: Python on the library",
 }
 
+# Objects that together have each kind of finding that `ebpf check` prints.
+CHECKED = ["examples/check/memdrop.o", "targets.o"]
+
 # Objects that together have each part that `ebpf list` lists.
 COUNTER = "tests/drivers/test_rows/data/counter.o"
 LISTED = [COUNTER, "tests/objects/kernel_parts_19.o", "unreached.o"]
@@ -55,7 +58,7 @@ FORMS = [
     ("docs/CLI.md", "ebpf check | list", forms.synopsis),
     ("docs/CLI.md", '{"version"', forms.refusal),
     ("docs/CLI.md", "byte_off byte_sz", forms.kinds),
-    ("docs/CLI.md", "status", forms.json_of("check examples/check/memdrop.o examples/check/btf")),
+    ("docs/CLI.md", "status", forms.json_of(*(f"check {file} examples/check/btf" for file in CHECKED))),
     ("docs/CLI.md", "byte_order license", forms.json_of(*(f"list {file}" for file in LISTED))),
     ("docs/CLI.md", "limits", forms.json_of(f"inspect {COUNTER}")),
     ("docs/CLI.md", "ebpf-link FILE", forms.plain_usage),
@@ -63,11 +66,12 @@ FORMS = [
 
 
 def files():
-    """Returns the files that commands name and the repository lacks: an executable with two objects, and an object with
-    a function that no program reaches."""
+    """Returns the files that commands name and the repository lacks: an executable with two objects, an object with a
+    function that no program reaches, and one whose program has a target that no kernel has."""
     return {
         "tool": executable(object_of([FINE]), object_of([FINE, FINE])),
         "unreached.o": object_of([FINE, function("f", EXIT)]),
+        "targets.o": object_of([Code("fentry/no_such_function", "p", [EXIT])]),
     }
 
 

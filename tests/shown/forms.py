@@ -81,7 +81,8 @@ def shape_of(lines):
     """Returns the shape that lines show.
 
     A line has keys of the document (`KEY ..`), the keys of the objects in lists (`KEY, .. [KEY ..]`) or those of one
-    object (`KEY {KEY ..}`). It is indented where these are in objects of the line above. Parentheses hold remarks."""
+    object (`KEY {KEY ..}`). It is indented where these are in objects of the line above. Parentheses hold remarks:
+    `only if known` and `, if some` of keys of the line's objects that may lack, `KEY: if some` of one of the document."""
     shape = Shape({"": ["version", "file"]}, set())
     for line in lines:
         text = re.sub(r" *\([^)]*\)", "", line)
@@ -91,8 +92,10 @@ def shape_of(lines):
             shape.keys[""] += names
         if held:
             shape.keys.update(dict.fromkeys(names, held[2].split()))
-        if held and "only if known" in line:
+        if held and ("only if known" in line or ", if some" in line):
             shape.partial |= set(names)
+        if ": if some" in line:
+            shape.partial.add("")
     return shape
 
 
