@@ -113,10 +113,10 @@ class Reading(unittest.TestCase):
         self.assertEqual((raised.exception.number, raised.exception.about), (4, "counts"))
 
     def test_limits(self):
-        ebpf.open(SMALL, max_bytes=972).close()
+        ebpf.open(SMALL, max_bytes=14308).close()
         with self.assertRaises(ebpf.Refused) as raised:
-            ebpf.open(SMALL, max_bytes=971)
-        self.assertEqual((raised.exception.number, raised.exception.details), (157, {"size": 971}))
+            ebpf.open(SMALL, max_bytes=14307)
+        self.assertEqual((raised.exception.number, raised.exception.details), (157, {"size": 14307}))
 
     def test_closed_objects(self):
         object = ebpf.open(SMALL)

@@ -73,11 +73,11 @@ fn things_are_found_as_they_are_listed() {
 #[test]
 fn a_limit_is_kept() {
     let bytes = file("call.o");
-    assert!(Object::open(&bytes, OpenOptions::lenient().within(972)).is_ok());
+    assert!(Object::open(&bytes, OpenOptions::lenient().within(14308)).is_ok());
     for options in [OpenOptions::lenient(), OpenOptions::strict()] {
-        let error = Object::open(&bytes, options.within(971)).expect_err("more than 971 bytes");
+        let error = Object::open(&bytes, options.within(14307)).expect_err("more than 14307 bytes");
         let refusal = error.refusal().expect("a refusal");
-        assert_eq!((refusal.number, refusal.details.size), (157, Some(971)));
+        assert_eq!((refusal.number, refusal.details.size), (157, Some(14307)));
     }
 }
 
