@@ -199,6 +199,19 @@ class Library:
         return " ".join(head), list(unique.values())
 
 
+def wrapped(head, links):
+    """Yields the lines of a list of links behind its head, of up to 120 columns where a link is no longer."""
+    line = head
+    for number, link in enumerate(links, 1):
+        part = link + ("." if number == len(links) else ",")
+        if len(line) + 1 + len(part) > 120:
+            yield line
+            line = part
+        else:
+            line += " " + part
+    yield line
+
+
 def shown_item(item, level):
     """The lines of an item, and of the methods of a type."""
     title = f"{item.owner}::{item.name}" if item.owner else item.name
@@ -223,7 +236,7 @@ def shown_item(item, level):
         yield "```"
         yield ""
         if links:
-            yield "Definitions: " + ", ".join(links) + "."
+            yield from wrapped("Definitions:", links)
             yield ""
         yield "</details>"
         yield ""
