@@ -331,7 +331,7 @@ static void put_told(uint32_t number)
 		error = &types_error;
 	if (number != EBPF_DONE && error->number == number) {
 		if (!is_told(&error->refusal, number, error->name_len) || error->is_cut || strlen(error->name) != error->name_len)
-			errx(3, "another refusal than %u is told", number);
+			errx(3, "another refusal than %u is reported", number);
 		if (error->name_len)
 			printf(" %s", error->name);
 		put_details(&error->refusal);

@@ -177,7 +177,7 @@ def found(line, *places, on="on 1 of 1"):
 
 
 def told(breaking, count, breaks=(), guarded=(), more="", untargeted=(), lacking=0):
-    """What is printed of the object `object` on the one kernel `kernel`. `untargeted` has what is told of programs without a
+    """What is printed of the object `object` on the one kernel `kernel`. `untargeted` has the lines on programs without a
     target, and `lacking` is how many programs have none and no other reason to break."""
     running = f"breaks  {breaking}" if breaking else f"ok      {count - lacking}"
     out = f"{running}/{count} programs  kernel" + (f"  ({lacking} no target)" if lacking else "") + "\n\n"
