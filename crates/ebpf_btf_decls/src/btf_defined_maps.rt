@@ -110,7 +110,6 @@ impl<'b> BtfDefinedMaps<'b> {
             return Err(parse_error(error));
         }
         let distinct = read_section_maps(
-            alloc,
             self.btf,
             self.mode,
             &mut self.known,
@@ -152,7 +151,6 @@ fn check_symbol(
 /// Adds what an entry declares, unless it has a fault or a name that no symbol has.
 #[tactic(auto, unfolding(crate::specs::Maps::entry_map))]
 fn add_entry(
-    alloc: Global,
     distinct: &mut DistinctMaps,
     btf: &Btf,
     mode: ParseMode,
@@ -177,6 +175,7 @@ fn add_entry(
     ensures fault { Refuses is_parse_memory result
         (fault_of (entry_map mode btf.now (map.get symbols.now) 0 entry.now)) }
 {
+    let alloc = *distinct.last.as_vec().allocator();
     let (number, definitions) = match declared(
         alloc,
         btf,
@@ -218,7 +217,7 @@ fn read_entries(
 {
     let mut distinct = DistinctMaps::none(alloc);
     for entry in entries {
-        add_entry(alloc, &mut distinct, btf, mode, known, symbols, entry)?;
+        add_entry(&mut distinct, btf, mode, known, symbols, entry)?;
     }
     Ok(distinct)
 }
@@ -226,7 +225,6 @@ fn read_entries(
 /// What the DATASECs of a name declare, which was looked for, or the first fault in a section of the name with these
 /// symbols.
 fn read_section_maps(
-    alloc: Global,
     btf: &Btf,
     mode: ParseMode,
     known: &mut KnownStructs,
@@ -245,6 +243,7 @@ fn read_section_maps(
     let Some(entries) = sections.by_name.get(name) else {
         unreachable!()
     };
+    let alloc = *entries.as_vec().allocator();
     let distinct = read_entries(alloc, btf, mode, known, symbols, entries.as_slice())?;
     match sections.unreadable {
         Some(offset) => Err(ParseError::BtfError(BtfError::InvalidStringOffset { offset })),

@@ -97,6 +97,10 @@ pub trait SectionInfo: Clone + Drop {
     fn with(sec_name_offset: u32, num_info: u32, records: Items<Self::Record>) -> Self
         ensures { result ≡ info_with sec_name_offset num_info records };
 
+    /// Returns the least number of bytes that an entry has.
+    fn least() -> u32
+        ensures { result ≡ Self.Record.least };
+
     /// The law that a copy equals the original.
     ghost same_copy: { (info copy : Self) → Self.is_clone info copy → copy ≡ info };
 }
@@ -108,6 +112,12 @@ impl SectionInfo for FuncSecInfo {
         record { sec_name_offset = offset; num_info = count; func_info = records } };
 
     ghost same_copy = { λ info copy same. same };
+
+    fn least() -> u32
+        ensures { result ≡ 8 }
+    {
+        8
+    }
 
     fn with(sec_name_offset: u32, num_info: u32, records: Items<bpf_func_info>) -> FuncSecInfo
         ensures { result
@@ -132,6 +142,12 @@ impl SectionInfo for LineSecInfo {
         record { sec_name_offset = offset; num_info = count; line_info = records } };
 
     ghost same_copy = { λ info copy same. same };
+
+    fn least() -> u32
+        ensures { result ≡ 16 }
+    {
+        16
+    }
 
     fn with(sec_name_offset: u32, num_info: u32, records: Items<bpf_line_info>) -> LineSecInfo
         ensures { result

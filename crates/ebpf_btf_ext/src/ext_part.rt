@@ -234,12 +234,6 @@ fn read_relocations(
     Ok(Items::from_vec(items))
 }
 
-/// The minimum length of a func info entry in bytes.
-const FUNC_RECORD: u32 = 8;
-
-/// The minimum length of a line info entry in bytes.
-const LINE_RECORD: u32 = 16;
-
 /// The minimum length of a relocation in bytes.
 const RELOCATION: u32 = 16;
 
@@ -251,17 +245,15 @@ fn read_info_section<S: SectionInfo>(
     bytes: &[u8],
     btf: &Btf,
     part: Part,
-    least: u32,
     offset: usize,
 ) -> Result<((u32, S), usize), BtfError>
-    requires least { least ≡ S.Record.least }
     requires before { offset < part.end }
     requires inside { part.end ≤ length bytes.now }
     ensures { GivesByOffset btf.now.strings result
-        (info_section S.info_with S.Record.row_at least order bytes.now btf.now.strings
+        (info_section S.info_with S.Record.row_at S.Record.least order bytes.now btf.now.strings
         part.record_size part.end offset) }
 {
-    let head = read_section_head(order, bytes, part, least, offset)?;
+    let head = read_section_head(order, bytes, part, S::least(), offset)?;
     btf.is_name_at(head.name_offset, "")?;
     let size = part.record_size as usize;
     let count = head.count as usize;
@@ -270,29 +262,26 @@ fn read_info_section<S: SectionInfo>(
     Ok(((head.name_offset, info), head.next))
 }
 
-/// Returns the func info or line info of a part by section name; the last of several sections with one name counts. Entries
-/// have at least `least` bytes.
+/// Returns the func info or line info of a part by section name; the last of several sections with one name counts.
 fn read_info_sections<S: SectionInfo>(
     alloc: Global,
     order: Endianness,
     bytes: &[u8],
     btf: &Btf,
     part: Part,
-    least: u32,
 ) -> Result<SectionsByName<S>, BtfError>
-    requires least { least ≡ S.Record.least }
     requires before { part.offset ≤ part.end }
     requires inside { part.end ≤ length bytes.now }
     ensures { Gives is_btf_memory result
         (by_names
         (sections_from (part.end - part.offset)
-        (info_section S.info_with S.Record.row_at least order bytes.now
+        (info_section S.info_with S.Record.row_at S.Record.least order bytes.now
         btf.now.strings part.record_size part.end) part.offset part.end)) }
 {
     let mut sections = Items::new(alloc);
     let mut offset = part.offset;
     while offset < part.end {
-        let (section, next) = read_info_section(alloc, order, bytes, btf, part, least, offset)?;
+        let (section, next) = read_info_section(alloc, order, bytes, btf, part, offset)?;
         sections.push(section)?;
         offset = next;
     }
@@ -316,7 +305,7 @@ pub fn read_func_sections(
         (func_section order bytes.now btf.now.strings part.record_size part.end)
         part.offset part.end)) }
 {
-    read_info_sections(alloc, order, bytes, btf, part, FUNC_RECORD)
+    read_info_sections(alloc, order, bytes, btf, part)
 }
 
 /// Returns the line info of a part by section name; the last of several sections with one name counts.
@@ -336,7 +325,7 @@ pub fn read_line_sections(
         (line_section order bytes.now btf.now.strings part.record_size part.end)
         part.offset part.end)) }
 {
-    read_info_sections(alloc, order, bytes, btf, part, LINE_RECORD)
+    read_info_sections(alloc, order, bytes, btf, part)
 }
 
 /// Returns the name offset and the relocations of a section, and the offset after the section.

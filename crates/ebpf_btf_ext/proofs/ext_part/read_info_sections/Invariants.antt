@@ -8,7 +8,7 @@ use Rattle.ebpf_btf_ext.proofs.ext_part.read_info_sections.Given as goal
 
 abbrev pub invariant-loop-offset : goal.invariant-loop-offset
 invariant-loop-offset g l =
-    let read = info_section g.S.SectionInfo.info_with g.S.Record.Row.row_at l.least l.order l.bytes l.btf.strings l.part.record_size l.part.end in
+    let read = info_section g.S.SectionInfo.info_with g.S.Record.Row.row_at g.S.Record.Row.least l.order l.bytes l.btf.strings l.part.record_size l.part.end in
     record {
       within : l.offset ≤ l.part.end;
       rest : fold_ok (λ kept e. insert kept e.0 e.1) (by_offsets l.btf.strings l.sections) (sections_from (l.part.end - l.offset) read l.offset l.part.end)
