@@ -159,7 +159,7 @@ module _ (set : Map → Map) (name : List ℕ) (before after : FinMap text_cmp M
   pub one_map : (text : List ℕ) (m : Map) → text ≡ name → IsUtf8 name → Some m ≡ get before text → after ≡ insert before name (set m) → IsSet set name before DONE after
   one_map text m same utf8 here is = subst (Set DONE) (sym (named_by_text before name utf8 ∙ ap (get before) (sym same) ∙ sym here)) (refl, is)
 
--- ---- want of memory names no function
+-- ---- out of memory names no function
 
 pub unnamed : (e : EbpfRelocationError) → (is_memory_at e ≡ true → e ≡ out_of_memory) → NamesNoneForMemory e
 unnamed e is memory = ap (λ (x : EbpfRelocationError). x.function) (is memory)

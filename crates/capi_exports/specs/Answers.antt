@@ -58,7 +58,7 @@ pub record LacksProgram (name : List ℕ) (o : Object) (r : Refusal) : Type 0 wh
   pub absent : value_by_bytes o.programs name ≡ None
   pub is : r ≡ plain NO_PROGRAM
 
--- a refusal of linking that stands, or one that tells of want of memory and names no function
+-- a refusal of linking that stands, or one that tells of lack of memory and names no function
 abbrev pub IsUnlinkable : List ℕ → Object → Program → EbpfRelocationError → Type 0
 IsUnlinkable name o program e =
     NamesNoneForMemory e

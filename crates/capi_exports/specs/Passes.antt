@@ -97,7 +97,7 @@ pub record HasLostExtern (bytes symbols : List ℕ) (o : Object) (r : Refusal) :
 abbrev pub CannotResolve : List ℕ → List ℕ → Object → Refusal → Type 0
 CannotResolve bytes symbols o r = CannotReadIf bytes r ⊎ HasLostExtern bytes symbols o r
 
--- an extern can't be written; want of memory names no function
+-- an extern can't be written; out of memory names no function
 abbrev pub CannotWriteExterns : Object → Refusal → Type 0
 CannotWriteExterns o =
     IsRefusal
@@ -118,7 +118,7 @@ pub record HasLinked (old new : Object) : Type 0 where
       (programs_in_order old.programs) new.functions
   pub others_stay : new ≡ record old { functions = new.functions }
 
--- a program can't be linked; want of memory names none
+-- a program can't be linked; out of memory names none
 abbrev pub CannotLink : Object → Refusal → Type 0
 CannotLink o =
     IsRefusal

@@ -29,7 +29,7 @@ module _ {X : Type 0} where
         | false ↦ λ eq. rw eq refl
       ] is
 
-  -- want of memory is never answered
+  -- out of memory is never answered
   pub unless_memory : (found : Result (List X) ℕ) (number : ℕ) (out out_left : List X) (count count_left : ℕ) → FillsList found number out out_left count count_left → FillsList (or_memory number found) number out out_left count count_left
   unless_memory found number out out_left count count_left fills =
       subst (λ f. FillsList f number out out_left count count_left) (sym (same found number out fills.answered)) fills

@@ -22,7 +22,7 @@ front fits xs buffer = if fits then xs ++ drop (length xs) buffer else buffer
 abbrev pub done_or_room : Bool → ℕ
 done_or_room fits = if fits then DONE else ROOM
 
--- want of memory where the answer tells it, else what is stated
+-- out of memory where the answer tells it, else what is stated
 abbrev pub or_memory : {X : Type 0} → ℕ → Result X ℕ → Result X ℕ
 or_memory answered stated = if answered == MEMORY then Err MEMORY else stated
 

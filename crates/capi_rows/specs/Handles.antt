@@ -14,11 +14,11 @@ use Rattle.ebpf_object.specs.declared.object.Object.{Object}
 use Rattle.ebpf_parts.specs.Memory.{is_parse_memory}
 use Rattle.ebpf_parts.specs.declared.error.ParseError.{ParseError}
 
--- the refusal for a want of memory, or for an error that stands
+-- the refusal for lack of memory, or for an error that stands
 abbrev pub IsRefusal : {E : Type 0} → (E → Type 0) → (E → Refusal) → Refusal → Type 0
 IsRefusal {E = E} Stands refusal r = (r ≡ plain MEMORY) ⊎ ((e : E) × Stands e × (r ≡ refusal e))
 
--- the refusal of this fault of parsing, or want of memory
+-- the refusal of this fault of parsing, or out of memory
 abbrev pub CannotParse : Option ParseError → Refusal → Type 0
 CannotParse fault = IsRefusal (λ e. MatchBool (is_parse_memory e) ⊤ (fault ≡ Some e)) parse_refusal
 

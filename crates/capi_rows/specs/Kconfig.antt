@@ -63,7 +63,7 @@ kconfig_list o =
 
 -- ---- what calls find of the externs that the kernel's configuration gives, and why they refuse
 
--- an error of such externs, or want of memory
+-- an error of such externs, or out of memory
 abbrev pub IsKconfigRefusal : (KconfigError → Type 0) → Refusal → Type 0
 IsKconfigRefusal Stands =
     IsRefusal (λ e. MatchBool (is_kconfig_memory e) ⊤ (Stands e)) kconfig_refusal

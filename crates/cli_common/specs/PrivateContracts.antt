@@ -4,14 +4,14 @@ use Rattle.std.specs.FinMap.{FinMap}
 use Rattle.std.specs.Ordering.{nat_cmp}
 use Rattle.ebpf_base.specs.Maps.{map_values}
 use Rattle.cli_common.specs.FunctionMaps.{NamedMaps}
-use Rattle.cli_common.specs.declared.map_uses.MapNames.{MapNames}
+use Rattle.cli_common.specs.declared.map_uses.KnownMapNames.{KnownMapNames}
 use denote.Ref.{Bor}
 
 -- names that are lent, as their bytes
 unfoldable pub lent_names : FinMap nat_cmp (Bor (List ℕ)) → FinMap nat_cmp (List ℕ)
 lent_names names = map_values (λ (n : Bor (List ℕ)). n.now) names
 
-abbrev pub names_in : MapNames → NamedMaps
+abbrev pub names_in : KnownMapNames → NamedMaps
 names_in names =
     record { by_symbol = lent_names names.by_symbol; by_section = lent_names names.by_section }
 

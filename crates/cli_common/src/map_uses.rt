@@ -29,7 +29,7 @@ pub struct MapUse {
 
 /// The names of maps by the index of their symbol, and by that of their section; the later by name stands.
 #[derive(Drop)]
-struct MapNames<'a> {
+struct KnownMapNames<'a> {
     by_symbol: ByIndex<&'a str>,
     by_section: ByIndex<&'a str>,
 }
@@ -63,12 +63,12 @@ fn by_section(alloc: Global, object: &Object) -> Result<ByIndex<&str>, AllocErro
 
 /// The names of an object's maps.
 #[tactic(auto, unfolding(crate::specs::FunctionMaps::named_maps))]
-fn map_names(alloc: Global, object: &Object) -> Result<MapNames<'_>, AllocError>
+fn map_names(alloc: Global, object: &Object) -> Result<KnownMapNames<'_>, AllocError>
     ensures { IfOk result (λ names. names_in names ≡ named_maps object.now.maps) }
 {
     let by_symbol = by_symbol(alloc, object)?;
     let by_section = by_section(alloc, object)?;
-    Ok(MapNames {
+    Ok(KnownMapNames {
         by_symbol,
         by_section,
     })
@@ -83,7 +83,7 @@ fn name_at<'a>(names: &ByIndex<&'a str>, index: usize) -> Option<&'a str>
 }
 
 /// The name of the map of a symbol, else that of the last one of a section.
-fn map_at<'a>(names: &MapNames<'a>, symbol: usize, section: usize) -> Option<&'a str>
+fn map_at<'a>(names: &KnownMapNames<'a>, symbol: usize, section: usize) -> Option<&'a str>
     ensures { option_copied result
         ≡ or_else (finite.get (names_in names.now).by_symbol symbol)
         (finite.get (names_in names.now).by_section section) }
@@ -96,7 +96,11 @@ fn map_at<'a>(names: &MapNames<'a>, symbol: usize, section: usize) -> Option<&'a
 
 /// The name of the map that a relocation refers to: the one of its symbol, else the last one of the symbol's section.
 #[tactic(auto, unfolding(crate::specs::FunctionMaps::map_referred))]
-fn map_of<'a>(object: &Object, names: &MapNames<'a>, relocation: &Relocation) -> Option<&'a str>
+fn map_of<'a>(
+    object: &Object,
+    names: &KnownMapNames<'a>,
+    relocation: &Relocation,
+) -> Option<&'a str>
     ensures { option_copied result ≡ map_referred object.now (names_in names.now) relocation.now }
 {
     let Some(symbol) = object.symbol_table.get(relocation.symbol_index) else {
@@ -128,7 +132,7 @@ fn note_slot(
 fn slots_among(
     alloc: Global,
     object: &Object,
-    names: &MapNames<'_>,
+    names: &KnownMapNames<'_>,
     function: &Function,
     relocations: &ByOffset<Relocation>,
 ) -> Result<ByName<usize>, AllocError>
@@ -161,7 +165,7 @@ fn slots_among(
 fn first_slots(
     alloc: Global,
     object: &Object,
-    names: &MapNames<'_>,
+    names: &KnownMapNames<'_>,
     function: &Function,
 ) -> Result<ByName<usize>, AllocError>
     ensures { IfOk result (λ slots.
@@ -222,7 +226,7 @@ fn uses_at(
 fn uses_of(
     alloc: Global,
     object: &Object,
-    names: &MapNames<'_>,
+    names: &KnownMapNames<'_>,
     function: &Function,
 ) -> Result<Items<MapUse>, AllocError>
     ensures { IfOk result (λ uses. uses ≡ maps_used object.now (names_in names.now) function.now) }
@@ -251,7 +255,7 @@ fn add_uses(
 fn uses_by_function(
     alloc: Global,
     object: &Object,
-    names: &MapNames<'_>,
+    names: &KnownMapNames<'_>,
 ) -> Result<ByKey<Items<MapUse>>, AllocError>
     ensures { IfOk result (λ all. all ≡ maps_by_function object.now (names_in names.now)) }
 {

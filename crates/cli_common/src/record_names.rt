@@ -123,7 +123,7 @@ pub fn has_sign(local: &Btf, relocation: &Relocation) -> bool {
     ty.is_signed() || ty.kind() != BtfKind::Enum64
 }
 
-/// A refusal that leaves no answer. Want of memory is none of these.
+/// A refusal that leaves no answer. Out of memory is none of these.
 pub fn no_answer(error: RelocationError) -> Result<(), AllocError> {
     let is_memory = matches!(error, RelocationError::OutOfMemory);
     drop(error);

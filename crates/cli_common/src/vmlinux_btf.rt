@@ -81,7 +81,7 @@ fn types_in_section(alloc: Global, bytes: &[u8], order: Endianness) -> Result<Bt
 /// # Errors
 ///
 /// `Elf` and `NoSection` of an ELF file; `NoTypes` where the types don't begin as such; `OtherByteOrder` where they are
-/// of the other order than `order`; `Types` where they can't be read, also for want of memory.
+/// of the other order than `order`; `Types` where they can't be read, also for lack of memory.
 fn kernel_types(alloc: Global, bytes: Vec<u8>, order: Endianness) -> Result<Btf, KernelError> {
     if is_elf(&bytes) {
         return types_in_section(alloc, &bytes, order);

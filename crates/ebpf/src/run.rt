@@ -71,7 +71,7 @@ fn obey(rt: &HostRuntime, command: &Invocation) -> Result<u8, Stop> {
     }
 }
 
-/// Why the work ends: an output without memory for what is written is want of memory too.
+/// Why the work ends: an output without memory for what is written is out of memory too.
 fn of_memory(stop: Stop) -> Stop {
     match stop {
         Stop::Output(error) if matches!(error.kind(), ErrorKind::OutOfMemory) => Stop::Memory,

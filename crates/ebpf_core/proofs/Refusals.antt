@@ -1,4 +1,4 @@
--- A refusal that a call hands on: want of memory, or what is stated.
+-- A refusal that a call hands on: out of memory, or what is stated.
 use Rattle.std.proofs.Common.{◌≡◌, ℕ, Bool, true, false, Option, Some, None, Result, Ok, Err, refl, subst}
 use Rattle.std.specs.Prelude.{MatchBool, ⊤}
 use Rattle.std.specs.Result.{IsErrAnd}

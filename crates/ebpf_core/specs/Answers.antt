@@ -23,7 +23,7 @@ without_texts (errors.InvalidInstruction number index error) =
     errors.InvalidInstruction number index []
 without_texts e = e
 
--- The call answers as stated, such texts aside, or with a want of memory.
+-- The call answers as stated, such texts aside, or with lack of memory.
 abbrev pub Tells : {X : Type 0} → Result X RelocationError → Result X RelocationError → Type 0
 Tells (Ok x) stated = stated ≡ Ok x
 Tells (Err e) stated = MatchBool (is_record_memory e) ⊤ (stated ≡ Err (without_texts e))

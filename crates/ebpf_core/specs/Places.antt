@@ -273,13 +273,13 @@ PlaceIsOne =
     (a : Result (Option FieldPlace) PlaceFault)
     → PathLeads local target root path a → a ≡ place_of local target root path
 
--- ---- the one answer of this layer that no definition states: want of memory
+-- ---- the one answer of this layer that no definition states: out of memory
 
 abbrev pub is_place_memory : PlaceFault → Bool
 is_place_memory NestingLevel = false
 is_place_memory (Btf e) = is_btf_memory e
 
--- what holds of an answer holds of this one, unless it is a want of memory
+-- what holds of an answer holds of this one, unless it is lack of memory
 abbrev pub MemoryAside : {X : Type 0} → Result X PlaceFault → (Result X PlaceFault → Type 0)
     → Type 0
 MemoryAside (Ok x) Holds = Holds (Ok x)

@@ -108,7 +108,7 @@ impl<T: Drop> From<AllocFailed<T>> for RelocationError {
 impl From<BtfError> for RelocationError {
     ghost from_gives = { λ error e. e ≡ of_type_error error };
 
-    /// The fault of types; want of memory stays want of memory.
+    /// The fault of types; out of memory stays out of memory.
     fn from(error: BtfError) -> RelocationError {
         match error {
             BtfError::OutOfMemory => RelocationError::OutOfMemory,

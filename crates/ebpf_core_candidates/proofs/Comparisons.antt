@@ -15,8 +15,8 @@ use Rattle.ebpf_base.specs.Faults.{if_ok}
 use Rattle.ebpf_btf.specs.Next.{if_some}
 use Rattle.ebpf_btf.specs.EssentialNames.{essential_name}
 use Rattle.ebpf_btf.specs.TypeInfo.{TypeInfo}
-use Rattle.ebpf_core_candidates.specs.declared.compatible.Verdict.{Verdict}
-use Rattle.ebpf_core_candidates.specs.declared.compatible.Verdict.TheVariants.{Alike, Different}
+use Rattle.ebpf_core_candidates.specs.declared.compatible.Likeness.{Likeness}
+use Rattle.ebpf_core_candidates.specs.declared.compatible.Likeness.TheVariants.{Alike, Different}
 use Rattle.ebpf_core_candidates.specs.declared.compatible.Pair.{Pair}
 use Rattle.ebpf_core_candidates.specs.Compatibility.{compared_from, inner_alike, if_alike, params_alike, parts_alike, shallow_alike, both, both_begin_at_0, is_compared, same_kind, inner_type_id, inner_pair, if_resolved, pair_of, params_of, Comparison, is_alike, first_end, found_from, inner_pairs, pairs_or_none, element, elements, fields_fit, types_fit}
 
@@ -71,7 +71,7 @@ same_count a b alike =
 -- ---- the parameters that are left
 
 -- what they come to, and then what the two types hold, where so many levels are left
-abbrev pub rest_alike : ℕ → List BtfType → List BtfType → ℕ → ℕ → BtfType → BtfType → List BtfParam → List BtfParam → Result Verdict BtfError
+abbrev pub rest_alike : ℕ → List BtfType → List BtfType → ℕ → ℕ → BtfType → BtfType → List BtfParam → List BtfParam → Result Likeness BtfError
 rest_alike n local target root left a b xs ys =
     if_alike (params_alike (compared_from n local target root) left (zip xs ys)) (λ rest. inner_alike (compared_from n local target root) rest a b)
 
@@ -128,13 +128,13 @@ abbrev Found : Type 0
 Found = Result Bool BtfError
 
 -- what one comes to, and then the others
-abbrev step : Found → Result Verdict BtfError → Result Verdict BtfError
+abbrev step : Found → Result Likeness BtfError → Result Likeness BtfError
 step (Ok true) rest = rest
 step (Ok false) rest = Ok Different
 step (Err e) rest = Err e
 
 -- all, one after the other, where so many pairs may be met
-abbrev run : ℕ → BtfError → List Found → Result Verdict BtfError
+abbrev run : ℕ → BtfError → List Found → Result Likeness BtfError
 run left past [] = Ok (Alike left)
 run zero past (x ∷ xs) = Err past
 run (suc left) past (x ∷ xs) = step x (run left past xs)
@@ -155,7 +155,7 @@ run_end (suc left) past (Ok true ∷ xs) = run_end left past xs
 run_end (suc left) past (Ok false ∷ xs) = refl
 run_end (suc left) past (Err e ∷ xs) = refl
 
-same_after : (r : Result Verdict BtfError) (f g : ℕ → Result Verdict BtfError) → ((n : ℕ) → f n ≡ g n) → if_alike r f ≡ if_alike r g
+same_after : (r : Result Likeness BtfError) (f g : ℕ → Result Likeness BtfError) → ((n : ℕ) → f n ≡ g n) → if_alike r f ≡ if_alike r g
 same_after (Ok (Alike left)) f g same = same left
 same_after (Ok Different) f g same = refl
 same_after (Err e) f g same = refl
@@ -210,7 +210,7 @@ compared_run (suc levels) local target root (suc left) pair =
     left (resolved_type local pair.local) (resolved_type target pair.target)
 
 -- what a comparison comes to
-pub compared_found : (levels : ℕ) (local target : List BtfType) (root left : ℕ) (pair : Pair) (r : Result Verdict BtfError)
+pub compared_found : (levels : ℕ) (local target : List BtfType) (root left : ℕ) (pair : Pair) (r : Result Likeness BtfError)
     → r ≡ compared_from levels local target root left pair
     → is_alike r ≡ first_end left (MaximumTypeDepth root) (found_from levels local target root pair)
 compared_found levels local target root left pair r is =

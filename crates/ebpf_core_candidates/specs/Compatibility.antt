@@ -20,8 +20,8 @@ use Rattle.ebpf_btf.specs.TypeInfo.{TypeInfo}
 use Rattle.ebpf_btf.specs.Types.{kind_of, kind_number}
 use Rattle.ebpf_btf.specs.declared.kind.BtfKind.TheVariants as kinds
 use Rattle.ebpf_core_candidates.specs.declared.compatible.Pair.{Pair}
-use Rattle.ebpf_core_candidates.specs.declared.compatible.Verdict.{Verdict}
-use Rattle.ebpf_core_candidates.specs.declared.compatible.Verdict.TheVariants.{Alike, Different}
+use Rattle.ebpf_core_candidates.specs.declared.compatible.Likeness.{Likeness}
+use Rattle.ebpf_core_candidates.specs.declared.compatible.Likeness.TheVariants.{Alike, Different}
 
 -- ---- two types
 
@@ -212,30 +212,30 @@ types_compatible local id target other =
 -- ---- a comparison of types step by step, pair by pair; its result is `types_compatible`
 
 -- the next step where types are alike, with the number of pairs that may still be met
-abbrev pub if_alike : Result Verdict BtfError → (ℕ → Result Verdict BtfError)
-    → Result Verdict BtfError
+abbrev pub if_alike : Result Likeness BtfError → (ℕ → Result Likeness BtfError)
+    → Result Likeness BtfError
 if_alike (Ok (Alike left)) next = next left
 if_alike (Ok Different) next = Ok Different
 if_alike (Err e) next = Err e
 
 -- a comparison of a pair, where so many pairs may still be met
 abbrev pub Comparison : Type 0
-Comparison = ℕ → Pair → Result Verdict BtfError
+Comparison = ℕ → Pair → Result Likeness BtfError
 
 -- the types of parameters, one pair after the other
-abbrev pub params_alike : Comparison → ℕ → List (BtfParam × BtfParam) → Result Verdict BtfError
+abbrev pub params_alike : Comparison → ℕ → List (BtfParam × BtfParam) → Result Likeness BtfError
 params_alike compare left [] = Ok (Alike left)
 params_alike compare left (p ∷ ps) =
     if_alike (compare left (pair_of p.0.btf_type p.1.btf_type)) (λ rest.
     params_alike compare rest ps)
 
 -- the inner types of two types
-abbrev pub inner_alike : Comparison → ℕ → BtfType → BtfType → Result Verdict BtfError
+abbrev pub inner_alike : Comparison → ℕ → BtfType → BtfType → Result Likeness BtfError
 inner_alike compare left a b =
     if_some (inner_pair a b) (λ pair. compare left pair) (Ok (Alike left))
 
 -- all types below two types that agree: the parameters first
-abbrev pub parts_alike : Comparison → ℕ → BtfType → BtfType → Result Verdict BtfError
+abbrev pub parts_alike : Comparison → ℕ → BtfType → BtfType → Result Likeness BtfError
 parts_alike compare left a b =
     if_alike (params_alike compare left (zip (params_of a) (params_of b))) (λ rest.
     inner_alike compare rest a b)
@@ -251,7 +251,7 @@ compared_from (suc levels) local target root (suc left) pair =
     Different)
 
 -- whether a comparison found no difference
-abbrev pub is_alike : Result Verdict BtfError → Result Bool BtfError
+abbrev pub is_alike : Result Likeness BtfError → Result Bool BtfError
 is_alike (Ok (Alike left)) = Ok true
 is_alike (Ok Different) = Ok false
 is_alike (Err e) = Err e

@@ -179,7 +179,7 @@ const TYPE_PAIRS: u32 = 1_048_576;
 
 /// The result of a comparison of two types.
 #[derive(Clone, Copy)]
-pub enum Verdict {
+pub enum Likeness {
     /// The types are alike; the number is the number of pairs that the comparison may still meet.
     Alike { left: u32 },
     /// The types differ.
@@ -248,7 +248,7 @@ fn shallow_alike(local: &BtfType<'_>, target: &BtfType<'_>) -> bool
 
 /// Compares a pair and all pairs below it, depth first, up to the first pair that differs. `levels` and `left` are the
 /// maximum numbers of levels and of pairs.
-fn compare(sides: Sides<'_>, levels: u32, left: u32, pair: Pair) -> Result<Verdict, BtfError>
+fn compare(sides: Sides<'_>, levels: u32, left: u32, pair: Pair) -> Result<Likeness, BtfError>
     ensures { result
         ≡ compared_from levels sides.entry.local.now.types sides.entry.target.now.types
         sides.entry.root left pair }
@@ -261,7 +261,7 @@ fn compare(sides: Sides<'_>, levels: u32, left: u32, pair: Pair) -> Result<Verdi
     let local = sides.local.resolved_type(pair.local)?;
     let target = sides.target.resolved_type(pair.target)?;
     if !shallow_alike(&local, &target) {
-        return Ok(Verdict::Different);
+        return Ok(Likeness::Different);
     }
     let mut left = left - 1;
     let (params, others) = (params_of(&local), params_of(&target));
@@ -271,23 +271,23 @@ fn compare(sides: Sides<'_>, levels: u32, left: u32, pair: Pair) -> Result<Verdi
             target: others.at(k).btf_type,
         };
         match compare(sides, levels - 1, left, types)? {
-            Verdict::Alike { left: rest } => left = rest,
-            Verdict::Different => return Ok(Verdict::Different),
+            Likeness::Alike { left: rest } => left = rest,
+            Likeness::Different => return Ok(Likeness::Different),
         }
     }
     match both(inner_type_id(&local), inner_type_id(&target)) {
         Some(types) => compare(sides, levels - 1, left, types),
-        None => Ok(Verdict::Alike { left }),
+        None => Ok(Likeness::Alike { left }),
     }
 }
 
 /// Returns whether a comparison found no difference.
-fn is_alike(found: Result<Verdict, BtfError>) -> Result<bool, BtfError>
+fn is_alike(found: Result<Likeness, BtfError>) -> Result<bool, BtfError>
     ensures { result ≡ is_alike found }
 {
     match found {
-        Ok(Verdict::Alike { .. }) => Ok(true),
-        Ok(Verdict::Different) => Ok(false),
+        Ok(Likeness::Alike { .. }) => Ok(true),
+        Ok(Likeness::Different) => Ok(false),
         Err(e) => Err(e),
     }
 }

@@ -22,25 +22,25 @@ use Rattle.ebpf_core_relo.specs.declared.outcomes.FoundSection.TheVariants.{Numb
 use Rattle.ebpf_core_relo.specs.declared.outcomes.FoundSection.TheVariants.{NoSection}
 
 -- The call leaves what is stated, or answers the stated fault, its texts for people aside, or a
--- want of memory.
+-- out of memory.
 abbrev pub Leaves : {X U : Type 0} → Result U RelocationError → X → Result X RelocationError
     → Type 0
 Leaves (Ok u) left stated = stated ≡ Ok left
 Leaves (Err e) left stated = MatchBool (is_record_memory e) ⊤ (stated ≡ Err (without_texts e))
 
--- what was written stays where the call refuses, a want of memory aside
+-- what was written stays where the call refuses, lack of memory aside
 abbrev pub StaysRefused : {U X : Type 0} → Result U RelocationError → X → X → Type 0
 StaysRefused (Ok u) before after = Unit {0}
 StaysRefused (Err e) before after = MatchBool (is_record_memory e) ⊤ (after ≡ before)
 
--- what a call leaves, of faults with their sections; a want of memory has no section
+-- what a call leaves, of faults with their sections; lack of memory has no section
 abbrev pub LeavesAt : {X U : Type 0} → Result U BtfRelocationError → X
     → Result X BtfRelocationError → Type 0
 LeavesAt (Ok u) left stated = stated ≡ Ok left
 LeavesAt (Err e) left stated =
     MatchBool (is_memory_in_section e) (e.section ≡ []) (stated ≡ Err (without_texts_at e))
 
--- The refusal is the stated one, its texts for people aside, or a want of memory, which has no
+-- The refusal is the stated one, its texts for people aside, or lack of memory, which has no
 -- section.
 abbrev pub IsStatedRefusal : BtfRelocationError → BtfRelocationError → Type 0
 IsStatedRefusal e stated =

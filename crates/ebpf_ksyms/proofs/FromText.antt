@@ -122,7 +122,7 @@ module _ (s : Unread) (local kernel : Option TypeInfo) (externs : Externs) where
       ∙ ap (λ o. or_else o (names_refused local externs (text_lines s.text local kernel externs s.error)))
       (ap (lines_refused local externs) all ∙ lines_fault-front (is_one_of (names_read local externs)) (map line_of_item (items ++ item ∷ [])) (map (text_line s.error) (lines_left u)) e refused)
 
-  -- an item that is an error: want of memory, or a line that is not UTF-8
+  -- an item that is an error: out of memory, or a line that is not UTF-8
   at_error : (e : KsymsError) (items : List Item) (err : Error) (t u : Unread) → error_kind s.error ≡ InvalidData → reads_lines local externs ≡ true → types_refused local kernel externs ≡ None → Came items s t → GivesLine t (Some (Err err)) u → lines_refused local externs (map line_of_item items) ≡ None → lines_refused local externs (map line_of_item (items ++ Err err ∷ [])) ≡ Some e → MatchBool (is_ksyms_memory e) ⊤ (IsRefusedBy s.text local kernel externs e)
   unfolding line_fault
   at_error e items err t u kind reads types c step before refused =

@@ -35,7 +35,7 @@ pub last_call : {S A : Type 0} (steps : S → Option A → S → Type 0) (xs : L
 last_call steps [] x s u y = (s, refl, subst (λ r. steps s (Some x) r) y.2 y.1)
 last_call steps (z ∷ xs) x s u y = let r = last_call steps xs x y.0 u y.2 in (r.0, (y.0, y.1, r.1), r.2)
 
--- ---- want of memory aside
+-- ---- out of memory aside
 
 pub given : {P : Type 0} (b : Bool) → P → MatchBool b ⊤ P
 given true p = tt

@@ -300,7 +300,7 @@ some_names (n ∷ names) some = grind (arith, nat_tests)
 pub first_known : (names : List (List ℕ)) (known : KnownAddresses) → ((q : List ℕ) → known q ≡ only_at names (λ _. None) q) → (q : List ℕ) → known q ≡ only_at names (λ name. address_of name (map line_of_item [])) q
 first_known names known tells q = tells q ∙ ap (λ a. cond (is_one_of names q) (Some a) None) (sym (address_of-none q))
 
--- a refusal of which something follows, want of memory aside
+-- a refusal of which something follows, out of memory aside
 pub match_then : {P Q : Type 0} (b : Bool) → (P → Q) → MatchBool b ⊤ P → MatchBool b ⊤ Q
 match_then true f h = tt
 match_then false f h = f h

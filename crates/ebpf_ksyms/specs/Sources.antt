@@ -94,7 +94,7 @@ pub record StopsAtNameIn (known : Option (List ℕ)) (local kernel : Option Type
   pub read : lines_refused local externs (read_lines lines) ≡ None
   pub refused : names_refused local externs (read_lines lines) ≡ Some e
 
--- a line could not be read, for another reason than want of memory, and none before it is refused
+-- a line could not be read, for another reason than out of memory, and none before it is refused
 pub record StopsAtAccessIn (known : Option (List ℕ)) (local kernel : Option TypeInfo)
     (externs : Externs) (e : KsymsError)
     : Type 0 where
@@ -130,7 +130,7 @@ pub record Unread : Type 0 where
 abbrev pub lines_left : Unread → List (List ℕ)
 lines_left s = lines s.text
 
--- the string of a line; the error exactly where it is not UTF-8, want of memory for the string
+-- the string of a line; the error exactly where it is not UTF-8, out of memory for the string
 -- aside
 abbrev pub IsItem : Error → List ℕ → Item → Type 0
 IsItem error line (Ok text) = string_bytes text ≡ line

@@ -74,7 +74,7 @@ MapsTellOfLinked =
 
 -- ---- what the linked programs of an object are made of
 
--- the map of a program, or its refusal; want of memory fits beside both
+-- the map of a program, or its refusal; out of memory fits beside both
 abbrev pub MapsProgram : LinkableValue
     → ProgramValue
     → Result (Option LinkMap) EbpfRelocationError

@@ -121,7 +121,7 @@ pub record IsParsed (mode : ParseMode) (bytes : List ℕ) (o : Object) : Type 0 
   pub sound : parse_fault_as mode bytes ≡ None
   pub is : o ≡ object_as mode bytes
 
--- ---- want of memory
+-- ---- out of memory
 
 -- the one answer that no definition states, of a stage or between them
 abbrev pub is_prepare_memory : PrepareError → Bool
@@ -142,12 +142,12 @@ NamesNothing (Externs e) = e.function ≡ []
 NamesNothing (Calls e) = e.function ≡ []
 NamesNothing _ = ⊤
 
--- want of memory, or else a fault
+-- out of memory, or else a fault
 abbrev pub RefusesPreparing : (PrepareError → Type 0) → PrepareError → Type 0
 RefusesPreparing Fault e = MatchBool (is_prepare_memory e) (NamesNothing e) (Fault e)
 
 -- ---- preparing has one result, where the bytes of the kernel's symbols are known: texts for
--- people aside, want of memory, and a line that can't be read
+-- people aside, out of memory, and a line that can't be read
 
 abbrev pub Answer : Type 0
 Answer = Result Object PrepareError
@@ -161,7 +161,7 @@ abbrev pub is_access : PrepareError → Bool
 is_access (Ksyms e) = is_access_error e
 is_access _ = false
 
--- what may come in place of an answer: want of memory, and a line that can't be read
+-- what may come in place of an answer: out of memory, and a line that can't be read
 abbrev pub is_open : Answer → Bool
 is_open (Ok o) = false
 is_open (Err e) = is_prepare_memory e || is_access e

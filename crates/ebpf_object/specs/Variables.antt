@@ -91,7 +91,7 @@ value_fault None value = Some NotAVariable
 value_fault (Some bytes) value =
     if length value == length bytes then None else Some (WrongSize (length bytes) (length value))
 
--- the one answer that no definition states: want of memory
+-- the one answer that no definition states: out of memory
 abbrev pub is_variable_memory : VariableError → Bool
 is_variable_memory OutOfMemory = true
 is_variable_memory _ = false

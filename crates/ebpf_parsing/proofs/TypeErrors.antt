@@ -8,7 +8,7 @@ use Rattle.ebpf_parts.specs.Memory.{is_parse_memory}
 use Rattle.ebpf_parts.specs.declared.error.ParseError.{ParseError}
 use Rattle.ebpf_parts.specs.declared.error.ParseError.TheVariants.{BtfError}
 
--- a want of memory is one here too, and each other error is this one
+-- lack of memory is one here too, and each other error is this one
 module _ (e : TypeError) (p : ParseError) (same : is_parse_memory p ≡ types.is_btf_memory e) (other : MatchBool (types.is_btf_memory e) ⊤ (p ≡ BtfError e)) where
   pub infos : (fault : Option TypeError) → MatchBool (types.is_btf_memory e) ⊤ (fault ≡ Some e) → MatchBool (is_parse_memory p) ⊤ (option_map BtfError fault ≡ Some p)
   infos fault h = subst (λ b. MatchBool b ⊤ (option_map BtfError fault ≡ Some p)) (sym same) (by_case (types.is_btf_memory e) other h)

@@ -134,7 +134,7 @@ fewer_known (Some m ∷ xs) (Some k ∷ ys) h =
       | inr other ↦ subst (λ (b : Bool). (cond b (Some m) None ∷ commons xs ys ≡ Some m ∷ xs) ⊎ (numbers_known (cond b (Some m) None ∷ commons xs ys) < numbers_known (Some m ∷ xs))) (sym other.0) (inr (omega arith))
     ]
 
--- ---- what a comparison of registers tells, and what an answer tells where it is no want of memory
+-- ---- what a comparison of registers tells, and what an answer tells where it is no lack of memory
 
 same_number : (m n : ℕ) → eqb m n ≡ true → m ≡ n
 same_number m n h = grind (arith, nat_tests)

@@ -209,7 +209,7 @@ fn flags(alloc: Global, states: &[Option<Registers>]) -> Result<Vec<bool>, Alloc
 ///
 /// # Errors
 ///
-/// Want of memory.
+/// Out of memory.
 pub fn reached_slots(alloc: Global, slots: &[bpf_insn]) -> Result<Items<bool>, AllocError>
     ensures { IfOk result (λ flags. AreReached slots.now flags) }
 {

@@ -19,7 +19,7 @@ use Rattle.ebpf_reloc.specs.SlotTargets.{LinkableValue}
 use Rattle.ebpf_reloc.specs.declared.link_map.CodeCopy.{CodeCopy}
 use Rattle.ebpf_reloc.specs.declared.link_map.LinkMap.{LinkMap}
 
--- what linking may answer, want of memory aside
+-- what linking may answer, out of memory aside
 abbrev pub IsAnswer : LinkableValue
     → List ProgramValue
     → Result (FinMap key_cmp Function) EbpfRelocationError
@@ -85,7 +85,7 @@ OneLinkMap =
     (b : IsLinkMapAt parts key n)
     → (m ≡ n) × (a.order ≡ b.order)
 
--- what may be answered where the link map of a program is wanted, want of memory aside
+-- what may be answered where the link map of a program is wanted, out of memory aside
 abbrev pub IsProgramLinkMapAnswer : LinkableValue → ProgramValue
     → Result LinkMap EbpfRelocationError → Type 0
 IsProgramLinkMapAnswer parts program (Ok m) = IsLinkMapAt parts (key_of program) m

@@ -163,7 +163,7 @@ error_by UnresolvableSymbol symbols section_relocations r =
 abbrev pub error_of : FinMap nat_cmp Symbol → SectionRelocations → SlotRefusal → RelocationError
 error_of symbols section_relocations r = error_by r.fault symbols section_relocations r
 
--- want of memory, the one answer beside
+-- out of memory, the one answer beside
 abbrev pub out_of_memory : EbpfRelocationError
 out_of_memory = record { function = []; error = error.OutOfMemory }
 

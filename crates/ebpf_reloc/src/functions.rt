@@ -85,7 +85,7 @@ fn error_of(
     }
 }
 
-/// The error of a function with a relocation that can't be applied, or want of memory for its texts.
+/// The error of a function with a relocation that can't be applied, or out of memory for its texts.
 pub fn refused(
     alloc: Global,
     symbols: &ByIndex<Symbol>,

@@ -2,7 +2,7 @@
 
 ghost use Rattle.ebpf_reloc.specs.Laws.{OneResult, OneProgram, OwnSlotsStay, CopiedSlotsStay, OneLinkMap, OneLinkMapAnswer, RefusedAsLinking, LinkMapsMatch, WithLinkMapAreLinked, FirstWithoutLinkMap, AllWithLinkMaps, LinkedBehaveAlike};
 
-/// What `relocate_calls` promises leaves one result, want of memory aside: the functions, the order of the copies
+/// What `relocate_calls` promises leaves one result, out of memory aside: the functions, the order of the copies
 /// in each, and the error. It follows from the functions, symbols, relocations, sections and programs as values,
 /// and from no order in which a hashed map holds them.
 pub fn one_result()

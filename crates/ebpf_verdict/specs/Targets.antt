@@ -6,20 +6,20 @@ use Rattle.ebpf_load_info.specs.AttachTargets.{attach_target}
 use Rattle.ebpf_load_info.specs.declared.attach.AttachTarget.{AttachTarget}
 use Rattle.ebpf_load_info.specs.declared.attach.AttachTarget.TheVariants as attach
 use Rattle.ebpf_parts.specs.ProgramTypes.{without_mark}
-use Rattle.ebpf_verdict.specs.declared.targets.Target.{Target}
-use Rattle.ebpf_verdict.specs.declared.targets.Target.TheVariants.{Found, NotFound, NotAsked}
-use Rattle.ebpf_verdict.specs.declared.targets.Target.TheVariants.{Replaces}
+use Rattle.ebpf_verdict.specs.declared.targets.KernelTarget.{KernelTarget}
+use Rattle.ebpf_verdict.specs.declared.targets.KernelTarget.TheVariants.{Found, NotFound, NotAsked}
+use Rattle.ebpf_verdict.specs.declared.targets.KernelTarget.TheVariants.{Replaces}
 
 -- whether the programs of a section replace those of another object, whose types are asked
 abbrev pub replaces : List ℕ → Bool
 replaces section = starts_with nat_eq (without_mark section) (codes "freplace")
 
-unfoldable pub found_target : AttachTarget → Target
+unfoldable pub found_target : AttachTarget → KernelTarget
 found_target (attach.Found id) = Found id
 found_target (attach.NotFound name) = NotFound name
 found_target attach.NotWanted = NotAsked
 found_target attach.Unnamed = NotAsked
 
-unfoldable pub target_of : List ℕ → TypeInfo → Target
+unfoldable pub target_of : List ℕ → TypeInfo → KernelTarget
 target_of section kernel =
     if replaces section then Replaces else found_target (attach_target section kernel)

@@ -53,7 +53,7 @@ pub struct ProgramVerdict {
 
 /// What programs are judged by.
 #[derive(Drop)]
-pub struct Judge<'a> {
+pub struct ProgramJudge<'a> {
     /// The numbers that the kernel knows, and the types of maps.
     pub numbers: &'a Numbers<'a>,
     /// The outcomes of the object's CO-RE relocations.
@@ -129,7 +129,7 @@ fn reached_of(alloc: Global, function: &Function) -> Result<Items<bool>, AllocEr
     reached_slots(alloc, function.instructions.as_slice())
 }
 
-impl Judge<'_> {
+impl ProgramJudge<'_> {
     /// The reasons of a linked program.
     #[tactic(auto, using(crate::proofs::Judged::is_judged))]
     fn judged(&self, alloc: Global, linked: LinkedFunction) -> Result<JudgedProgram, AllocError>

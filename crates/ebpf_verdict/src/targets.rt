@@ -13,7 +13,7 @@ use std::alloc::{AllocError, Global};
 
 /// The attach target of a program in a kernel.
 #[derive(Debug, Drop)]
-pub enum Target {
+pub enum KernelTarget {
     /// A type of the kernel.
     Found {
         /// Its id.
@@ -49,14 +49,14 @@ fn replaces(section: &str) -> bool
 
 /// A target, by the type that was looked up.
 #[tactic(auto, unfolding(crate::specs::Targets::found_target))]
-fn found_target(found: AttachTarget) -> Target
+fn found_target(found: AttachTarget) -> KernelTarget
     ensures { result ≡ found_target found }
 {
     match found {
-        AttachTarget::Found { type_id } => Target::Found { type_id },
-        AttachTarget::NotFound { name } => Target::NotFound { name },
-        AttachTarget::NotWanted => Target::NotAsked,
-        AttachTarget::Unnamed => Target::NotAsked,
+        AttachTarget::Found { type_id } => KernelTarget::Found { type_id },
+        AttachTarget::NotFound { name } => KernelTarget::NotFound { name },
+        AttachTarget::NotWanted => KernelTarget::NotAsked,
+        AttachTarget::Unnamed => KernelTarget::NotAsked,
     }
 }
 
@@ -67,11 +67,11 @@ fn found_target(found: AttachTarget) -> Target
 ///
 /// - `AllocError`: out of memory.
 #[tactic(auto, unfolding(crate::specs::Targets::target_of))]
-pub fn find_target(alloc: Global, section: &str, kernel: &Btf) -> Result<Target, AllocError>
+pub fn find_target(alloc: Global, section: &str, kernel: &Btf) -> Result<KernelTarget, AllocError>
     ensures { IfOk result (λ target. target ≡ target_of section.now kernel.now) }
 {
     if replaces(section) {
-        return Ok(Target::Replaces);
+        return Ok(KernelTarget::Replaces);
     }
     let found = attach_target(alloc, section, kernel)?;
     Ok(found_target(found))

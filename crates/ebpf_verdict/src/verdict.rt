@@ -14,7 +14,7 @@ ghost use Rattle.ebpf_verdict.specs.Verdicts.{AreVerdicts, IsVerdict, code_is_ok
 ghost use Rattle.ebpf_verdict.specs.Writing.{IsWrittenAs};
 
 use crate::externs::LackingExtern;
-use crate::programs::{Judge, ProgramVerdict, is_refused};
+use crate::programs::{ProgramJudge, ProgramVerdict, is_refused};
 use crate::reasons::Numbers;
 use crate::writing::{WrittenObject, written_object};
 use ebpf_base::Items;
@@ -84,7 +84,7 @@ fn judge_each(
         (read functions.now.parts) (programs_in_order object.now.programs) all) }
 {
     let programs = programs_in_order(alloc, &object.programs)?;
-    let judge = Judge {
+    let judge = ProgramJudge {
         numbers,
         records,
         functions,

@@ -1,7 +1,7 @@
 //! The causes for which slots fail on a kernel, as findings.
 
 use crate::verdict::findings::{FindingKey, SourceLocation};
-use crate::verdict::judged_program::{JudgedProgram, SlotRef, copy_of_slot};
+use crate::verdict::judged_program::{PrintedProgram, SlotRef, copy_of_slot};
 use crate::verdict::judging::Judge;
 use cli_common::kinds::Kind;
 use ebpf_core_relo::RecordResult;
@@ -113,7 +113,7 @@ impl Judge<'_> {
     /// Notes the reason of a slot.
     fn note_reason(
         &mut self,
-        program: &JudgedProgram<'_>,
+        program: &PrintedProgram<'_>,
         copy: &CodeCopy,
         reason: SlotReason,
     ) -> Result<(), AllocError> {
@@ -131,7 +131,7 @@ impl Judge<'_> {
     }
 
     /// Notes the reasons of a program's slots: of each copy of a function and each map the first one.
-    pub fn note_reasons(&mut self, program: &JudgedProgram<'_>) -> Result<(), AllocError> {
+    pub fn note_reasons(&mut self, program: &PrintedProgram<'_>) -> Result<(), AllocError> {
         let mut maps = BTreeSet::new(self.alloc);
         for reason in program.reasons {
             let Some(copy) = copy_of_slot(program.copies, reason.slot) else {

@@ -4,12 +4,12 @@ use crate::verdict::findings::SourceLocation;
 use cli_common::source_lines::{LineSpan, Lines};
 use ebpf_btf::Btf;
 use ebpf_object::relocation::CodeCopy;
-use ebpf_verdict::{Cause, JudgedProgram as ProgramReasons, SlotReason};
+use ebpf_verdict::{Cause, JudgedProgram, SlotReason};
 use std::alloc::{AllocError, Global};
 
 /// A linked program, whose slots are judged.
 #[derive(Drop)]
-pub struct JudgedProgram<'a> {
+pub struct PrintedProgram<'a> {
     /// The number of the program.
     number: usize,
     /// The copies of functions in the program.
@@ -19,14 +19,14 @@ pub struct JudgedProgram<'a> {
     lines: Lines<'a>,
 }
 
-impl<'a> JudgedProgram<'a> {
+impl<'a> PrintedProgram<'a> {
     /// The program of a number, linked and judged.
     pub fn new(
         alloc: Global,
         number: usize,
-        program: &'a ProgramReasons,
-    ) -> Result<JudgedProgram<'a>, AllocError> {
-        Ok(JudgedProgram {
+        program: &'a JudgedProgram,
+    ) -> Result<PrintedProgram<'a>, AllocError> {
+        Ok(PrintedProgram {
             number,
             copies: program.linked.map.copies.as_slice(),
             reasons: program.reasons.as_slice(),
@@ -55,7 +55,7 @@ pub fn copy_of_slot(copies: &[CodeCopy], place: usize) -> Option<&CodeCopy> {
 #[derive(Clone, Copy)]
 pub struct SlotRef<'a> {
     /// The program.
-    pub program: &'a JudgedProgram<'a>,
+    pub program: &'a PrintedProgram<'a>,
     /// The copy.
     pub copy: &'a CodeCopy,
     /// The slot in the function that is copied.

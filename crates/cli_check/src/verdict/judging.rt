@@ -1,7 +1,7 @@
 //! The verdict of a kernel on each program, as findings.
 
 use crate::verdict::findings::{FindingKey, Findings, Severity, SourceLocation};
-use crate::verdict::judged_program::JudgedProgram;
+use crate::verdict::judged_program::PrintedProgram;
 use crate::verdict::loaded::Loaded;
 use cli_common::kinds::Kind;
 use cli_common::programs::ObjectProgram;
@@ -11,8 +11,8 @@ use ebpf_core_relo::RecordOutcome;
 use ebpf_ksyms::KsymsError;
 use ebpf_object::prepare::PrepareError;
 use ebpf_verdict::{
-    JudgedProgram as ProgramReasons, LackingExtern, ProgramCode, ProgramVerdict, Target, Verdict,
-    find_target, judge,
+    JudgedProgram, KernelTarget, LackingExtern, ProgramCode, ProgramVerdict, Verdict, find_target,
+    judge,
 };
 use std::alloc::{AllocError, Global};
 
@@ -160,7 +160,7 @@ impl Judge<'_> {
     fn judge_target(&mut self, number: usize, section: &str) -> Result<bool, AllocError> {
         let alloc = self.alloc;
         let target = find_target(alloc, section, self.answers.types)?;
-        let Target::NotFound { name } = target else {
+        let KernelTarget::NotFound { name } = target else {
             return Ok(false);
         };
         let section = String::from_str(alloc, section)?;
@@ -188,8 +188,8 @@ impl Judge<'_> {
     }
 
     /// Notes the reasons of a linked program, and the values that its slots carry.
-    fn note_linked(&mut self, number: usize, linked: &ProgramReasons) -> Result<(), AllocError> {
-        let program = JudgedProgram::new(self.alloc, number, linked)?;
+    fn note_linked(&mut self, number: usize, linked: &JudgedProgram) -> Result<(), AllocError> {
+        let program = PrintedProgram::new(self.alloc, number, linked)?;
         for copy in program.copies {
             self.note_records(&program, copy)?;
         }

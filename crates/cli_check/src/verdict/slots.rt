@@ -1,7 +1,7 @@
 //! The CO-RE relocations of a linked program over a kernel, as findings.
 
 use crate::verdict::findings::{FindingKey, Severity, SourceLocation};
-use crate::verdict::judged_program::{JudgedProgram, SlotRef};
+use crate::verdict::judged_program::{PrintedProgram, SlotRef};
 use crate::verdict::judging::Judge;
 use crate::verdict::loaded::Record;
 use cli_common::kinds::Kind;
@@ -179,7 +179,7 @@ impl Judge<'_> {
     /// Notes the CO-RE relocations of a copy of a function in a linked program.
     pub fn note_records(
         &mut self,
-        program: &JudgedProgram<'_>,
+        program: &PrintedProgram<'_>,
         copy: &CodeCopy,
     ) -> Result<(), AllocError> {
         let answers = self.answers;

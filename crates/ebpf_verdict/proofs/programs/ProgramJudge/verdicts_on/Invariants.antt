@@ -1,6 +1,6 @@
 use Rattle.ebpf_reloc.specs.SlotTargets.{read}
 use Rattle.ebpf_verdict.proofs.SoFar.{SoFar}
-use Rattle.ebpf_verdict.proofs.programs.Judge.verdicts_on.Given as goal
+use Rattle.ebpf_verdict.proofs.programs.ProgramJudge.verdicts_on.Given as goal
 
 -- each program so far has its verdict, at its position
 abbrev pub invariant-loop-program : goal.invariant-loop-program

@@ -2,7 +2,7 @@ use Rattle.std.proofs.Common.{◌≡◌, ◌++◌, ◌∷◌, ◌+◌, [], List,
 use Rattle.ebpf_reloc.specs.SlotTargets.{read}
 use Rattle.ebpf_verdict.proofs.SoFar.{SoFar, all_judged, one_more}
 use Rattle.ebpf_verdict.specs.declared.programs.ProgramVerdict.{ProgramVerdict}
-use Rattle.ebpf_verdict.proofs.programs.Judge.verdicts_on.Goals as goal
+use Rattle.ebpf_verdict.proofs.programs.ProgramJudge.verdicts_on.Goals as goal
 
 pub loop-program-preserved : goal.loop-program-preserved
 loop-program-preserved c =
