@@ -2,7 +2,6 @@
 #![tactic(auto)]
 
 mod json;
-mod labels;
 mod layout;
 mod listing;
 mod records;
