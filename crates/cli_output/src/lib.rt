@@ -1,0 +1,6 @@
+//! The output of a command beside its text: files, colours on a terminal, and the progress of long work.
+#![tactic(auto)]
+
+pub mod files;
+pub mod palette;
+pub mod progress;
