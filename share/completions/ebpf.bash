@@ -3,10 +3,10 @@
 # Prints the options of a command.
 _ebpf_options() {
     case $1 in
-    check) echo '--object --program --all --strict --json --help --version' ;;
-    list) echo '--object --json --help --version' ;;
-    link) echo '--object --btf --kallsyms --kconfig --kernel --program --bytes --lines --help --version' ;;
-    inspect) echo '--object --btf --kallsyms --kconfig --kernel --program --json --help --version' ;;
+    check) echo '--object --program --all --strict --format --html --sarif --json --color --progress --help --version' ;;
+    list) echo '--object --html --json --color --help --version' ;;
+    link) echo '--object --btf --kallsyms --kconfig --kernel --program --bytes --lines --color --help --version' ;;
+    inspect) echo '--object --btf --kallsyms --kconfig --kernel --program --dot --mermaid --json --color --help --version' ;;
     ebpf-link | ebpf-inspect) echo '--btf --kallsyms --program' ;;
     *) echo '--help --version' ;;
     esac
@@ -24,6 +24,14 @@ _ebpf() {
     fi
     case $before in
     --object | --program | --kernel) return ;;
+    --format)
+        mapfile -t COMPREPLY < <(compgen -W 'text json github' -- "$word")
+        return
+        ;;
+    --color)
+        mapfile -t COMPREPLY < <(compgen -W 'auto always never' -- "$word")
+        return
+        ;;
     esac
     if [[ $word == -* ]]; then
         mapfile -t COMPREPLY < <(compgen -W "$(_ebpf_options "$command")" -- "$word")

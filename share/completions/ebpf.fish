@@ -14,6 +14,13 @@ complete -c ebpf -n '__fish_seen_subcommand_from check link inspect' -l program 
 complete -c ebpf -n '__fish_seen_subcommand_from check list inspect' -s j -l json -d 'print JSON'
 complete -c ebpf -n '__fish_seen_subcommand_from check' -l all -d 'name all kernels and changed values'
 complete -c ebpf -n '__fish_seen_subcommand_from check' -l strict -d 'fail also without an attach target'
+complete -c ebpf -n $all -l color -x -a 'auto always never' -d 'select when colours are used'
+complete -c ebpf -n '__fish_seen_subcommand_from check' -l progress -d 'show the progress'
+complete -c ebpf -n '__fish_seen_subcommand_from check list' -l html -r -F -d 'write a page'
+complete -c ebpf -n '__fish_seen_subcommand_from check' -l sarif -r -F -d 'write SARIF 2.1.0'
+complete -c ebpf -n '__fish_seen_subcommand_from check' -l format -x -a 'text json github' -d 'select what is printed'
+complete -c ebpf -n '__fish_seen_subcommand_from inspect' -l dot -d 'print a graph for Graphviz'
+complete -c ebpf -n '__fish_seen_subcommand_from inspect' -l mermaid -d 'print a flowchart of Mermaid'
 complete -c ebpf -n $prepares -l btf -r -F -d "the kernel's BTF"
 complete -c ebpf -n $prepares -l kallsyms -r -F -d "the kernel's symbols"
 complete -c ebpf -n $prepares -l kconfig -r -F -d "the kernel's configuration"

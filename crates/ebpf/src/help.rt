@@ -5,7 +5,7 @@ pub const USAGE: &str = "usage: ebpf check | inspect | link | list FILE ..   (se
 
 /// The usage line of `ebpf check`.
 pub const CHECK_USAGE: &str =
-    "usage: ebpf check FILE [KERNEL ..] [--object N] [--program NAME ..] [--all] [--strict] [--json]";
+    "usage: ebpf check FILE [KERNEL ..] [--object N] [--program NAME ..] [--all] [--strict] [--format text | json | github] [--html FILE] [--sarif FILE] [--color WHEN] [--progress]";
 
 /// What `ebpf --help` prints.
 pub const HELP: &str = "usage: ebpf COMMAND ..
@@ -30,7 +30,12 @@ fields, types and enumerators that they need and the kernel lacks.
   --program NAME  check this program only; may be repeated
   --all           list every kernel, and each field whose offset changes
   --strict        exit with 1 also if the kernel has no type of a program's attach target
-  -j, --json      print JSON
+  --html FILE     write a page with programs by kernels and the reasons to FILE
+  --sarif FILE    write what breaks, by source line, to FILE as SARIF 2.1.0
+  --format FORM   print text, json, or github: text, then annotations for GitHub's workflows
+  -j, --json      print JSON, as --format json
+  --color WHEN    use colours: auto (on a terminal, unless NO_COLOR is set), always, never
+  --progress      show the progress on standard error, also if that is no terminal
   -h, --help      print this help
   -V, --version   print the version
 
@@ -38,7 +43,8 @@ Exit status: 0 if each program runs on each kernel; 1 if a program breaks, or FI
 refused; 2 on invalid usage, or if a file or a kernel's BTF can't be read.";
 
 /// The usage line of `ebpf list`.
-pub const LIST_USAGE: &str = "usage: ebpf list FILE [--object N] [--json]";
+pub const LIST_USAGE: &str =
+    "usage: ebpf list FILE [--object N] [--html FILE] [--json] [--color WHEN]";
 
 /// What `ebpf list --help` prints after the usage line.
 pub const LIST_HELP: &str = "
@@ -48,7 +54,9 @@ kconfig externs, its CO-RE relocations, and the functions that no program reache
 
   FILE            an object file of clang, or an executable that contains objects
   --object N      select the Nth object of FILE
+  --html FILE     write a page with the same contents to FILE
   -j, --json      print JSON
+  --color WHEN    use colours: auto (on a terminal, unless NO_COLOR is set), always, never
   -h, --help      print this help
   -V, --version   print the version
 
@@ -56,7 +64,7 @@ Exit status: 0; 1 if FILE is refused; 2 on invalid usage, or if FILE can't be re
 
 /// The usage line of `ebpf inspect`.
 pub const INSPECT_USAGE: &str =
-    "usage: ebpf inspect FILE [--object N] [--btf FILE] [--kallsyms FILE] [--kconfig FILE] [--kernel VERSION] [--program NAME ..] [--json]";
+    "usage: ebpf inspect FILE [--object N] [--btf FILE] [--kallsyms FILE] [--kconfig FILE] [--kernel VERSION] [--program NAME ..] [--dot | --json | --mermaid] [--color WHEN]";
 
 /// What `ebpf inspect --help` prints after the usage line.
 pub const INSPECT_HELP: &str = "
@@ -71,7 +79,10 @@ use, and how close they are to the kernel's limits.
   --kconfig FILE    the kernel's configuration, such as /boot/config-6.12
   --kernel VERSION  the kernel's version, such as 6.12 or 6.12.3
   --program NAME    show this program only; may be repeated
+  --dot             print the graph of functions and maps for Graphviz
+  --mermaid         print it as a flowchart of Mermaid
   -j, --json        print JSON
+  --color WHEN      use colours: auto (on a terminal, unless NO_COLOR is set), always, never
   -h, --help        print this help
   -V, --version     print the version
 
@@ -80,7 +91,7 @@ or if a file can't be read.";
 
 /// The usage line of `ebpf link`.
 pub const LINK_USAGE: &str =
-    "usage: ebpf link FILE [--object N] [--btf FILE] [--kallsyms FILE] [--kconfig FILE] [--kernel VERSION] [--program NAME ..] [--bytes] [--lines]";
+    "usage: ebpf link FILE [--object N] [--btf FILE] [--kallsyms FILE] [--kconfig FILE] [--kernel VERSION] [--program NAME ..] [--bytes] [--lines] [--color WHEN]";
 
 /// What `ebpf link --help` prints after the usage line.
 pub const LINK_HELP: &str = "
@@ -97,6 +108,7 @@ descriptors and externs written. Notes name what was called, loaded and relocate
   --program NAME    print this program only; may be repeated
   --bytes           print the bytes of each instruction
   --lines           print source lines above the instructions
+  --color WHEN      use colours: auto (on a terminal, unless NO_COLOR is set), always, never
   -h, --help        print this help
   -V, --version     print the version
 

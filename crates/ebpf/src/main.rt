@@ -2,6 +2,7 @@
 #![tactic(auto)]
 
 mod help;
+mod invocation_error;
 mod run;
 mod words;
 

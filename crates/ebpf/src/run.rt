@@ -4,7 +4,8 @@ use crate::help::{
     CHECK_HELP, CHECK_USAGE, HELP, INSPECT_HELP, INSPECT_USAGE, LINK_HELP, LINK_USAGE, LIST_HELP,
     LIST_USAGE, USAGE, VERSION,
 };
-use crate::words::{Invocation, InvocationError, Verb, read_words};
+use crate::invocation_error::InvocationError;
+use crate::words::{Invocation, Verb, read_words};
 use cli_check::check;
 use cli_common::names::EscapedName;
 use cli_common::object_file::gather_words;
