@@ -1,30 +1,15 @@
 -- Texts from files in the syntax of each format: none ends the string that it is in, and none holds
 -- a character that a terminal obeys.
-use Rattle.std.specs.Prelude.{ℕ, ◌/◌, ◌%◌, Bool, ◌||◌, ◌&&◌, nat_le, nat_lt, ◌==◌, if◌then◌else◌}
+use Rattle.std.specs.Prelude.{ℕ, ◌/◌, ◌%◌, Bool, ◌||◌, ◌==◌, if◌then◌else◌}
 use Rattle.std.specs.Prelude.{List, [], ◌∷◌, ◌++◌, codes}
 use Rattle.std.specs.Char.{digit_char, encode_utf8}
 use Rattle.std.specs.Fmt.{decimal}
 use Rattle.std.specs.List.{flat_map}
 use Rattle.std.specs.Str.{chars}
+use Rattle.cli_common.specs.Shown.{is_within, speaks}
 use Rattle.cli_formats.specs.declared.escape.Syntax.{Syntax}
 use Rattle.cli_formats.specs.declared.escape.Syntax.TheVariants.{Html, Json, Dot, Mermaid}
 use Rattle.cli_formats.specs.declared.escape.Syntax.TheVariants.{Message, Property, Path}
-
--- from one character to another
-abbrev pub is_between : ℕ → ℕ → ℕ → Bool
-is_between first last c = nat_le first c && nat_le c last
-
--- Whether a character is seen by its effect alone: the controls C0, DEL and C1, the marks and
--- overrides of a line's direction, and the two separators of lines (Unicode: Cc, Bidi_Control, Zl
--- and Zp).
-abbrev pub is_unseen : ℕ → Bool
-is_unseen c =
-    nat_lt c 32
-    || is_between 127 159 c
-    || (c == 1564)
-    || is_between 8206 8207 c
-    || is_between 8232 8238 c
-    || is_between 8294 8297 c
 
 -- a sign, and the two digits of a byte, of base 16
 abbrev pub byte_behind : List ℕ → ℕ → List ℕ
@@ -34,10 +19,11 @@ byte_behind sign b = sign ++ digit_char (b / 16) ∷ digit_char (b % 16) ∷ []
 abbrev pub bytes_behind : List ℕ → ℕ → List ℕ
 bytes_behind sign c = flat_map (byte_behind sign) (encode_utf8 c)
 
--- a character that is unseen, and a backslash, as the bytes of its UTF-8; each other one as it is
+-- a character that a terminal obeys, and a backslash, as the bytes of its UTF-8; each other one as
+-- it is
 abbrev pub visible_char : List ℕ → ℕ → List ℕ
 visible_char sign c =
-    if (c == 92) || is_unseen c then bytes_behind sign c else encode_utf8 c
+    if (c == 92) || speaks c then bytes_behind sign c else encode_utf8 c
 
 -- `\x`
 abbrev pub one_backslash : List ℕ
@@ -79,12 +65,12 @@ dot_char c =
 -- `"`, `#`, `&`, `'`, `*`, `:`, `;`, `<`, `>`, `_`, the backquote and `~`.
 abbrev pub is_read_by_mermaid : ℕ → Bool
 is_read_by_mermaid c =
-    is_between 34 35 c
-    || is_between 38 39 c
+    is_within 34 35 c
+    || is_within 38 39 c
     || (c == 42)
-    || is_between 58 60 c
+    || is_within 58 60 c
     || (c == 62)
-    || is_between 95 96 c
+    || is_within 95 96 c
     || (c == 126)
 
 -- in a label in quotes of Mermaid: `#N;` is the character of the number N
@@ -108,10 +94,10 @@ property_char c =
 -- Characters', and the slash).
 abbrev pub is_plain_in_paths : ℕ → Bool
 is_plain_in_paths c =
-    is_between 45 57 c
-    || is_between 65 90 c
+    is_within 45 57 c
+    || is_within 65 90 c
     || (c == 95)
-    || is_between 97 122 c
+    || is_within 97 122 c
     || (c == 126)
 
 -- in a path of a URI, where other characters are the bytes of their UTF-8, `%NN` each

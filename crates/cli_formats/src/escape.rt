@@ -6,9 +6,10 @@ ghost use Rattle.std.specs.Fmt.{WritesOnOk};
 ghost use Rattle.std.specs.List.{flat_map};
 ghost use Rattle.cli_formats.specs.Escapes.{byte_behind, bytes_behind, char_in, dot_char};
 ghost use Rattle.cli_formats.specs.Escapes.{html_char, is_plain_in_paths, is_read_by_mermaid};
-ghost use Rattle.cli_formats.specs.Escapes.{is_unseen, json_char, mermaid_char, message_char};
+ghost use Rattle.cli_formats.specs.Escapes.{json_char, mermaid_char, message_char};
 ghost use Rattle.cli_formats.specs.Escapes.{path_char, property_char, text_in, visible_char};
 
+use cli_common::names::speaks;
 use std::fmt;
 
 /// The syntax of what is around a text.
@@ -38,22 +39,6 @@ pub struct Escaped<'a> {
     pub syntax: Syntax,
     /// The text.
     pub text: &'a str,
-}
-
-/// Whether a character is seen by its effect alone: a control, a mark or override of a line's direction, or a separator
-/// of lines.
-fn is_unseen(c: char) -> bool
-    ensures { result ≡ is_unseen c }
-{
-    matches!(
-        c,
-        '\u{0}'..='\u{1f}'
-            | '\u{7f}'..='\u{9f}'
-            | '\u{61c}'
-            | '\u{200e}'..='\u{200f}'
-            | '\u{2028}'..='\u{202e}'
-            | '\u{2066}'..='\u{2069}'
-    )
 }
 
 /// Whether Mermaid reads a character as more than itself.
@@ -113,11 +98,11 @@ fn write_coded<W: fmt::Write>(f: &mut fmt::Formatter<W>, sign: &str, c: char) ->
     write_bytes(f, sign, c.encode_utf8(&mut bytes).as_bytes())
 }
 
-/// Writes a character, or its bytes behind a sign where it is unseen or a backslash.
+/// Writes a character, or its bytes behind a sign where a terminal obeys it or it is a backslash.
 fn write_visible<W: fmt::Write>(f: &mut fmt::Formatter<W>, sign: &str, c: char) -> fmt::Result
     ensures { WritesOnOk W.write_str_gives f.old result (visible_char sign.now c) f.new }
 {
-    if c != '\\' && !is_unseen(c) {
+    if c != '\\' && !speaks(c) {
         return f.write_char(c);
     }
     write_coded(f, sign, c)
