@@ -85,7 +85,7 @@ def slow_run(rows, writer, *words):
 def progress(rows):
     """The progress is shown on a terminal after a second, and elsewhere if it is asked for; the output is the same."""
     plain = rows.run("check", "memdrop.o", "btf/5.18", "btf/6.18").stdout.replace("btf/5.18", "slow")
-    for name, words, wanted in [("no terminal", [], ""), ("--progress", ["--progress"], "ebpf: 1 of 2 kernels, 0 break: btf/6.18\n")]:
+    for name, words, wanted in [("no terminal", [], ""), ("--progress", ["--progress"], "ebpf: 1 of 2 kernels, 0 break; now btf/6.18\n")]:
         reader, writer = os.pipe()
         rows.expect(f"{name}: output", slow_run(rows, writer, *words), plain)
         with open(reader, encoding="utf-8") as said:
@@ -95,5 +95,5 @@ def progress(rows):
     said = read_all(reader)
     os.close(reader)
     rows.expect("a terminal: output", out, plain)
-    rows.expect("a terminal: standard error", said, "\r\x1b[?7l1 of 2 kernels, 0 break: 6.18\x1b[K\x1b[?7h\r\x1b[K")
+    rows.expect("a terminal: standard error", said, "\r\x1b[?7l1 of 2 kernels, 0 break; now 6.18\x1b[K\x1b[?7h\r\x1b[K")
     rows.row("progress of list", ["list", "memdrop.o", "--progress"], 2, "", "ebpf: no option --progress")

@@ -185,13 +185,13 @@ fn write_last_kernel(out: &mut BufWriter<Stdout>, session: &Session) -> io::Resu
 fn progress_of<'a>(
     session: &Session,
     kernels: &[KernelFile],
-    next: &'a KernelFile,
+    current: &'a KernelFile,
 ) -> KernelProgress<'a> {
     KernelProgress {
         done: session.kernels.len(),
         all: kernels.len(),
         broken: session.broken(),
-        next: next.path.as_str(),
+        current: current.path.as_str(),
     }
 }
 

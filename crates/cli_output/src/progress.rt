@@ -24,8 +24,8 @@ pub struct KernelProgress<'a> {
     pub all: usize,
     /// The number of those on which some program breaks.
     pub broken: usize,
-    /// The path of the next one.
-    pub next: &'a str,
+    /// The path of the one that is judged now.
+    pub current: &'a str,
 }
 
 /// A line that shows the progress of work which takes more than a second.
@@ -63,9 +63,9 @@ fn show_in_place(rt: &HostRuntime, progress: KernelProgress<'_>) {
         broken,
         ..
     } = progress;
-    let next = EscapedName(last_part(progress.next));
-    let _ = eprint!(rt; "\r\x1b[?7l{done} of {all} kernels, {broken} break: ");
-    let _ = eprint!(rt; "{next}\x1b[K\x1b[?7h");
+    let current = EscapedName(last_part(progress.current));
+    let _ = eprint!(rt; "\r\x1b[?7l{done} of {all} kernels, {broken} break; now ");
+    let _ = eprint!(rt; "{current}\x1b[K\x1b[?7h");
 }
 
 /// Writes one of several lines.
@@ -76,9 +76,9 @@ fn show_line(rt: &HostRuntime, progress: KernelProgress<'_>) {
         broken,
         ..
     } = progress;
-    let next = EscapedName(progress.next);
-    let _ = eprint!(rt; "ebpf: {done} of {all} kernels, {broken} break: ");
-    let _ = eprintln!(rt; "{next}");
+    let current = EscapedName(progress.current);
+    let _ = eprint!(rt; "ebpf: {done} of {all} kernels, {broken} break; now ");
+    let _ = eprintln!(rt; "{current}");
 }
 
 impl ProgressLine {
