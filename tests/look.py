@@ -82,6 +82,9 @@ def example(rows):
     rows.expect("nothing breaks: SARIF", (sarif.faults(log), log["runs"][0]["results"]), ([], []))
     said = "ebpf: nowhere/page.html: cannot write: No such file or directory (os error 2)"
     rows.row("no folder for the page", ["check", "memdrop.o", "btf", "--html=nowhere/page.html"], 2, plain, said)
+    said = "ebpf: /dev/full: cannot write: No space left on device (os error 28)"
+    rows.row("no room for the page", ["check", "memdrop.o", "btf", "--html=/dev/full"], 2, plain, said)
+    rows.row("no room for SARIF", ["check", "memdrop.o", "btf", "--sarif=/dev/full"], 2, plain, said)
     usage = "ebpf: --format takes text, json or github, and not xml"
     rows.row("another form", ["check", "memdrop.o", "btf", "--format", "xml"], 2, "", usage)
     rows.row("two forms", ["check", "memdrop.o", "btf", "--format=text", "-j"], 2, "", "ebpf: one of --format and --json")
@@ -180,9 +183,11 @@ def lists(rows):
 
 
 def large(rows, count):
-    """An object of six programs over many kernels: of ten, three lack what four programs read, and one can't be read."""
+    """An object of six programs over many kernels: of ten, three lack what four programs read, and one can't be read. The last
+    program has a target that no kernel has."""
     codes = [[GONE, EXIT] if number % 3 else [IS_THERE, EXIT] for number in range(6)]
-    functions = [Code(f"kprobe/p{number}", f"on_event_{number}", code) for number, code in enumerate(codes)]
+    sections = [*(f"kprobe/p{number}" for number in range(5)), "fentry/no_such_function"]
+    functions = [Code(section, f"on_event_{number}", codes[number]) for number, section in enumerate(sections)]
     rows.write("large.o", object_of(functions))
     kinds = [HAS_B, HAS_B, LACKS_B] * 3 + [b"none"]
     for number in range(count):

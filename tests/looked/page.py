@@ -216,11 +216,15 @@ def many(rows, browser, count):
 
 
 def screenshots(folder, browser, to):
-    """Screenshots of the example and of the large page, light and dark."""
+    """Screenshots of the large page with a chosen cell, light and dark, and of a list."""
     to.mkdir(parents=True, exist_ok=True)
-    for name, page, words in [
-        ("check-light.png", "large.html", ["--blink-settings=preferredColorScheme=1"]),
-        ("check-dark.png", "large.html", ["--blink-settings=preferredColorScheme=0"]),
+    choose = "<script>document.querySelectorAll('#body tr')[5].children[2].click();</script></body>"
+    chosen = folder / "chosen.html"
+    chosen.write_text((folder / "large.html").read_text().replace("</body>", choose))
+    for name, page, scheme in [
+        ("check-light.png", chosen, 1),
+        ("check-dark.png", chosen, 0),
+        ("list-light.png", folder / "list-memdrop.o.html", 1),
     ]:
-        shot = f"--screenshot={Path(to).resolve() / name}"
-        ran(browser, folder, "--hide-scrollbars", "--window-size=760,560", shot, *words, (folder / page).as_uri())
+        words = ["--hide-scrollbars", "--window-size=800,640", f"--blink-settings=preferredColorScheme={scheme}"]
+        ran(browser, folder, *words, f"--screenshot={Path(to).resolve() / name}", page.as_uri())
