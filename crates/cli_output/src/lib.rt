@@ -1,4 +1,4 @@
-//! The output of a command beside its text: files, colours on a terminal, and the progress of long work.
+//! Files that commands write, colours on a terminal, and the progress of long work.
 #![tactic(auto)]
 
 pub mod files;

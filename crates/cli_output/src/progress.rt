@@ -32,7 +32,7 @@ pub struct KernelProgress<'a> {
 #[derive(Clone, Copy)]
 pub struct ProgressLine {
     form: ProgressForm,
-    /// The begin of the work, or the time of the last of several lines; none where the clock can't be read.
+    /// The start of the work, or the time of the last of several lines; none where the clock can't be read.
     since: Option<Instant>,
     /// Whether the line is on the terminal.
     is_shown: bool,
