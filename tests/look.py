@@ -187,7 +187,7 @@ def large(rows, count):
     program has a target that no kernel has."""
     codes = [[GONE, EXIT] if number % 3 else [IS_THERE, EXIT] for number in range(6)]
     sections = [*(f"kprobe/p{number}" for number in range(5)), "fentry/no_such_function"]
-    functions = [Code(section, f"on_event_{number}", codes[number]) for number, section in enumerate(sections)]
+    functions = [Code(section, f"event_{number}", codes[number]) for number, section in enumerate(sections)]
     rows.write("large.o", object_of(functions))
     kinds = [HAS_B, HAS_B, LACKS_B] * 3 + [b"none"]
     for number in range(count):

@@ -218,7 +218,8 @@ def many(rows, browser, count):
 def screenshots(folder, browser, to):
     """Screenshots of the large page with a chosen cell, light and dark, and of a list."""
     to.mkdir(parents=True, exist_ok=True)
-    choose = "<script>document.querySelectorAll('#body tr')[5].children[2].click();</script></body>"
+    low = "document.getElementById('frame').style.maxHeight = '14rem';"
+    choose = f"<script>{low} document.querySelectorAll('#body tr')[5].children[2].click();</script></body>"
     chosen = folder / "chosen.html"
     chosen.write_text((folder / "large.html").read_text().replace("</body>", choose))
     for name, page, scheme in [
