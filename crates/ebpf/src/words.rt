@@ -1,5 +1,6 @@
 //! The words of a command line of `ebpf`.
 
+use cli_btf::BtfWords;
 use cli_check::CheckWords;
 use cli_link::LinkWords;
 use cli_list::ListWords;
@@ -11,6 +12,7 @@ use thiserror::Error;
 /// A command that reads an object.
 #[derive(Clone, Copy, PartialEq, Eq)]
 pub enum Verb {
+    Btf,
     Check,
     List,
     Inspect,
@@ -21,12 +23,18 @@ impl Verb {
     /// The command of a name.
     pub fn named(name: &str) -> Option<Verb> {
         match name {
+            "btf" => Some(Verb::Btf),
             "check" => Some(Verb::Check),
             "list" => Some(Verb::List),
             "inspect" => Some(Verb::Inspect),
             "link" => Some(Verb::Link),
             _ => None,
         }
+    }
+
+    /// Whether options may select programs.
+    fn selects_programs(self) -> bool {
+        matches!(self, Verb::Check | Verb::Inspect | Verb::Link)
     }
 
     /// Whether it links programs, for a kernel that options may name.
@@ -44,6 +52,8 @@ pub enum Invocation {
     VerbHelp(Verb),
     /// The program's version.
     Version,
+    /// The least types that objects need of kernels.
+    Btf(BtfWords),
     /// An object's programs over kernels.
     Check(CheckWords),
     /// What an object has.
@@ -81,6 +91,9 @@ pub enum InvocationError<'a> {
     /// An option has a value that is no version of a kernel.
     #[error("{name} takes a version, as 6.12 or 6.12.3, and not {value}")]
     NoVersion { name: &'a str, value: &'a str },
+    /// An option that has to be given is absent.
+    #[error("no {0}")]
+    MissingOption(&'a str),
     /// No file is named.
     #[error("no FILE")]
     NoFile,
@@ -110,6 +123,8 @@ enum Choice {
     Program,
     Object,
     Btf,
+    Output,
+    AllowIds,
     Kallsyms,
     Kconfig,
     Kernel,
@@ -125,9 +140,11 @@ enum Choice {
 /// The option of a name that a command has.
 fn choice_of(verb: Verb, name: &str) -> Option<Choice> {
     match name {
-        "--program" if verb != Verb::List => Some(Choice::Program),
+        "--program" if verb.selects_programs() => Some(Choice::Program),
         "--object" => Some(Choice::Object),
-        "--btf" if verb.links() => Some(Choice::Btf),
+        "--btf" if verb.links() || verb == Verb::Btf => Some(Choice::Btf),
+        "--output" if verb == Verb::Btf => Some(Choice::Output),
+        "--allow-ids" if verb == Verb::Btf => Some(Choice::AllowIds),
         "--kallsyms" if verb.links() => Some(Choice::Kallsyms),
         "--kconfig" if verb.links() => Some(Choice::Kconfig),
         "--kernel" if verb.links() => Some(Choice::Kernel),
@@ -210,6 +227,7 @@ fn has_value(choice: Choice) -> bool {
         Choice::Program
             | Choice::Object
             | Choice::Btf
+            | Choice::Output
             | Choice::Kallsyms
             | Choice::Kconfig
             | Choice::Kernel
@@ -266,6 +284,34 @@ impl<'a> Options<'a> {
             Some(other) => Err(InvocationError::SecondFile(other)),
             None => Ok(file),
         }
+    }
+
+    /// A copy of the value of an option that has to be given.
+    fn needed_text(
+        &self,
+        alloc: Global,
+        choice: Choice,
+        name: &'a str,
+    ) -> Result<Text, InvocationError<'a>> {
+        match self.value(choice) {
+            Some(value) => Ok(Text::from_str(alloc, value)?),
+            None => Err(InvocationError::MissingOption(name)),
+        }
+    }
+
+    /// What `ebpf btf` is asked for.
+    fn btf(&self, alloc: Global) -> Result<Invocation, InvocationError<'a>> {
+        if self.files.is_empty() {
+            return Err(InvocationError::NoFile);
+        }
+        Ok(Invocation::Btf(BtfWords {
+            files: texts_of(alloc, &self.files)?,
+            object: self.object,
+            btf: self.needed_text(alloc, Choice::Btf, "--btf")?,
+            output: self.needed_text(alloc, Choice::Output, "--output")?,
+            allow_ids: self.has(Choice::AllowIds),
+            json: self.has(Choice::Json),
+        }))
     }
 
     /// What `ebpf check` is asked for.
@@ -325,6 +371,7 @@ impl<'a> Options<'a> {
         }
         match verb {
             _ if self.has(Choice::Help) => Ok(Invocation::VerbHelp(verb)),
+            Verb::Btf => self.btf(alloc),
             Verb::Check => self.check(alloc),
             Verb::List => self.list(alloc),
             Verb::Inspect => Ok(Invocation::Inspect(self.prepare(alloc)?)),
@@ -391,7 +438,7 @@ fn read_options<'a>(
 /// # Errors
 ///
 /// `NoCommand`, `UnknownCommand`, and of a command the first word that can't be read, in their order, also a second value; `NoValue`
-/// where the last option lacks its value; `NoFile`, `SecondFile`. `OutOfMemory` where memory is refused.
+/// where the last option lacks its value; `NoFile`, `SecondFile`, `MissingOption`. `OutOfMemory` where memory is refused.
 pub fn read_words<'a>(
     alloc: Global,
     words: &'a [String],
