@@ -3,6 +3,7 @@
 # Prints the options of a command.
 _ebpf_options() {
     case $1 in
+    btf) echo '--object --btf --output --allow-ids --json --color --help --version' ;;
     check) echo '--object --program --all --strict --format --html --sarif --json --color --progress --help --version' ;;
     list) echo '--object --html --json --color --help --version' ;;
     link) echo '--object --btf --kallsyms --kconfig --kernel --program --bytes --lines --color --help --version' ;;
@@ -17,7 +18,7 @@ _ebpf() {
     COMPREPLY=()
     if [ "$command" = ebpf ]; then
         if [ "$COMP_CWORD" = 1 ]; then
-            mapfile -t COMPREPLY < <(compgen -W 'check list link inspect --help --version' -- "$word")
+            mapfile -t COMPREPLY < <(compgen -W 'btf check list link inspect --help --version' -- "$word")
             return
         fi
         command=${COMP_WORDS[1]}

@@ -1,7 +1,8 @@
 //! The help texts of `ebpf`.
 
 /// The usage line of `ebpf`.
-pub const USAGE: &str = "usage: ebpf check | inspect | link | list FILE ..   (see ebpf --help)";
+pub const USAGE: &str =
+    "usage: ebpf btf | check | inspect | link | list FILE ..   (see ebpf --help)";
 
 /// The usage line of `ebpf check`.
 pub const CHECK_USAGE: &str =
@@ -11,6 +12,7 @@ pub const CHECK_USAGE: &str =
 pub const HELP: &str = "usage: ebpf COMMAND ..
        ebpf --help | --version
 
+  btf      write the least BTF that objects need of a kernel
   check    check on which kernels the programs of an object run
   inspect  show the parts of linked programs, and the kernel's limits
   link     print finished programs as instructions or bytes
@@ -41,6 +43,32 @@ fields, types and enumerators that they need and the kernel lacks.
 
 Exit status: 0 if each program runs on each kernel; 1 if a program breaks, or FILE is
 refused; 2 on invalid usage, or if a file or a kernel's BTF can't be read.";
+
+/// The usage line of `ebpf btf`.
+pub const BTF_USAGE: &str =
+    "usage: ebpf btf FILE .. --btf KERNEL --output FILE [--object N] [--allow-ids] [--json]";
+
+/// What `ebpf btf --help` prints after the usage line.
+pub const BTF_HELP: &str = "
+Writes the least BTF that eBPF object files need of a kernel: the types, members and
+enumerators that their CO-RE relocations ask for. Each relocation has the same outcome
+as over the kernel's BTF. Loaders take the file in its place, as libbpf's
+btf_custom_path.
+
+  FILE            an object file of clang, or an executable that contains objects
+  --btf KERNEL    the BTF of a kernel: raw BTF, an ELF file with a .BTF section, or a
+                  folder of such files
+  --output FILE   the file to write, or with a folder of kernels the folder for files of
+                  the same names
+  --object N      select the Nth object of FILE; default: all objects of FILE
+  --allow-ids     write the file even if FILE needs ids of the kernel's types, which
+                  are others in it
+  -j, --json      print JSON
+  -h, --help      print this help
+  -V, --version   print the version
+
+Exit status: 0; 1 if FILE is refused, or needs ids of the kernel's types; 2 on invalid
+usage, if a file or a kernel's BTF can't be read, or if a file can't be written.";
 
 /// The usage line of `ebpf list`.
 pub const LIST_USAGE: &str =

@@ -36,6 +36,9 @@ pub enum InvocationError<'a> {
         name: &'a str,
         value: &'a str,
     },
+    /// An option that has to be given is absent.
+    #[error("no {0}")]
+    MissingOption(&'a str),
     /// No file is named.
     #[error("no FILE")]
     NoFile,

@@ -1,6 +1,7 @@
 //! `ebpf`: what object files have, what their linked programs are, and on which kernels they run.
 #![tactic(auto)]
 
+mod choices;
 mod help;
 mod invocation_error;
 mod run;

@@ -1,6 +1,8 @@
 //! The words of a command line of `ebpf`.
 
+use crate::choices::{Choice, choice_of, has_value};
 use crate::invocation_error::InvocationError;
+use cli_btf::BtfWords;
 use cli_check::CheckWords;
 use cli_formats::graph::GraphLanguage;
 use cli_inspect::InspectWords;
@@ -14,6 +16,7 @@ use std::alloc::{AllocError, Global};
 /// A command that reads an object.
 #[derive(Clone, Copy, PartialEq, Eq)]
 pub enum Verb {
+    Btf,
     Check,
     List,
     Inspect,
@@ -24,6 +27,7 @@ impl Verb {
     /// The command of a name.
     pub fn named(name: &str) -> Option<Verb> {
         match name {
+            "btf" => Some(Verb::Btf),
             "check" => Some(Verb::Check),
             "list" => Some(Verb::List),
             "inspect" => Some(Verb::Inspect),
@@ -32,8 +36,13 @@ impl Verb {
         }
     }
 
+    /// Whether options may select programs.
+    pub fn selects_programs(self) -> bool {
+        matches!(self, Verb::Check | Verb::Inspect | Verb::Link)
+    }
+
     /// Whether it links programs, for a kernel that options may name.
-    fn links(self) -> bool {
+    pub fn links(self) -> bool {
         matches!(self, Verb::Inspect | Verb::Link)
     }
 }
@@ -47,6 +56,8 @@ pub enum Invocation {
     VerbHelp(Verb),
     /// The program's version.
     Version,
+    /// The least types that objects need of kernels.
+    Btf(BtfWords),
     /// An object's programs over kernels.
     Check(CheckWords),
     /// What an object has.
@@ -55,58 +66,6 @@ pub enum Invocation {
     Inspect(InspectWords),
     /// An object's linked programs.
     Link(LinkWords),
-}
-
-/// An option of a command.
-#[derive(Clone, Copy, PartialEq, Eq)]
-enum Choice {
-    Program,
-    Object,
-    Btf,
-    Kallsyms,
-    Kconfig,
-    Kernel,
-    Html,
-    Sarif,
-    Format,
-    Color,
-    Progress,
-    All,
-    Strict,
-    Bytes,
-    Lines,
-    Dot,
-    Mermaid,
-    Json,
-    Help,
-    Version,
-}
-
-/// The option of a name that a command has.
-fn choice_of(verb: Verb, name: &str) -> Option<Choice> {
-    match name {
-        "--program" if verb != Verb::List => Some(Choice::Program),
-        "--object" => Some(Choice::Object),
-        "--btf" if verb.links() => Some(Choice::Btf),
-        "--kallsyms" if verb.links() => Some(Choice::Kallsyms),
-        "--kconfig" if verb.links() => Some(Choice::Kconfig),
-        "--kernel" if verb.links() => Some(Choice::Kernel),
-        "--html" if matches!(verb, Verb::Check | Verb::List) => Some(Choice::Html),
-        "--sarif" if verb == Verb::Check => Some(Choice::Sarif),
-        "--format" if verb == Verb::Check => Some(Choice::Format),
-        "--color" => Some(Choice::Color),
-        "--progress" if verb == Verb::Check => Some(Choice::Progress),
-        "--all" if verb == Verb::Check => Some(Choice::All),
-        "--strict" if verb == Verb::Check => Some(Choice::Strict),
-        "--bytes" if verb == Verb::Link => Some(Choice::Bytes),
-        "--lines" if verb == Verb::Link => Some(Choice::Lines),
-        "--dot" if verb == Verb::Inspect => Some(Choice::Dot),
-        "--mermaid" if verb == Verb::Inspect => Some(Choice::Mermaid),
-        "-j" | "--json" if verb != Verb::Link => Some(Choice::Json),
-        "-h" | "--help" => Some(Choice::Help),
-        "-V" | "--version" => Some(Choice::Version),
-        _ => None,
-    }
 }
 
 /// Whether a word is an option where options may stand. A single dash is a file's name.
@@ -208,23 +167,6 @@ fn color_of<'a>(name: &'a str, value: &'a str) -> Result<ColorChoice, Invocation
     }
 }
 
-/// Whether an option has a value.
-fn has_value(choice: Choice) -> bool {
-    matches!(
-        choice,
-        Choice::Program
-            | Choice::Object
-            | Choice::Btf
-            | Choice::Kallsyms
-            | Choice::Kconfig
-            | Choice::Kernel
-            | Choice::Html
-            | Choice::Sarif
-            | Choice::Format
-            | Choice::Color
-    )
-}
-
 impl<'a> Options<'a> {
     fn new(alloc: Global) -> Options<'a> {
         Options {
@@ -289,6 +231,34 @@ impl<'a> Options<'a> {
             (None, true) => Ok(Form::Json),
             (None, false) => Ok(Form::Text),
         }
+    }
+
+    /// A copy of the value of an option that has to be given.
+    fn needed_text(
+        &self,
+        alloc: Global,
+        choice: Choice,
+        name: &'a str,
+    ) -> Result<Text, InvocationError<'a>> {
+        match self.value(choice) {
+            Some(value) => Ok(Text::from_str(alloc, value)?),
+            None => Err(InvocationError::MissingOption(name)),
+        }
+    }
+
+    /// What `ebpf btf` is asked for.
+    fn btf(&self, alloc: Global) -> Result<Invocation, InvocationError<'a>> {
+        if self.files.is_empty() {
+            return Err(InvocationError::NoFile);
+        }
+        Ok(Invocation::Btf(BtfWords {
+            files: texts_of(alloc, &self.files)?,
+            object: self.object,
+            btf: self.needed_text(alloc, Choice::Btf, "--btf")?,
+            output: self.needed_text(alloc, Choice::Output, "--output")?,
+            allow_ids: self.has(Choice::AllowIds),
+            json: self.has(Choice::Json),
+        }))
     }
 
     /// What `ebpf check` is asked for.
@@ -381,6 +351,7 @@ impl<'a> Options<'a> {
         }
         match verb {
             _ if self.has(Choice::Help) => Ok(Invocation::VerbHelp(verb)),
+            Verb::Btf => self.btf(alloc),
             Verb::Check => self.check(alloc),
             Verb::List => self.list(alloc),
             Verb::Inspect => self.inspect(alloc),
@@ -447,7 +418,7 @@ fn read_options<'a>(
 /// # Errors
 ///
 /// `NoCommand`, `UnknownCommand`, and of a command the first word that can't be read, in their order, also a second value; `NoValue`
-/// where the last option lacks its value; `NoFile`, `SecondFile`, `SecondForm`. `OutOfMemory` where memory is refused.
+/// where the last option lacks its value; `NoFile`, `SecondFile`, `SecondForm`, `MissingOption`. `OutOfMemory` where memory is refused.
 pub fn read_words<'a>(
     alloc: Global,
     words: &'a [String],
