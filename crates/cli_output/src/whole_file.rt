@@ -1,6 +1,5 @@
 //! Files that are written whole or not at all.
 
-use ebpf_base::Text;
 use std::fs::{self, File};
 use std::io::{self, ErrorKind, Write};
 
@@ -28,11 +27,11 @@ fn write_new(rt: &HostRuntime, path: &str, bytes: &[u8]) -> io::Result<()> {
 }
 
 /// Writes the bytes to a temporary file in the folder of a path, and returns the temporary file's path.
-fn write_beside(rt: &HostRuntime, path: &str, bytes: &[u8]) -> io::Result<Text> {
+fn write_beside(rt: &HostRuntime, path: &str, bytes: &[u8]) -> io::Result<String> {
     for number in 0..NAMES {
         let beside = format!(in rt.alloc(); "{path}.{number}.tmp")?;
         match write_new(rt, beside.as_str(), bytes) {
-            Ok(()) => return Ok(Text::from_string(beside)),
+            Ok(()) => return Ok(beside),
             Err(error) if matches!(error.kind(), ErrorKind::AlreadyExists) => {}
             Err(error) => return Err(error),
         }
