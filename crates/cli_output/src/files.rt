@@ -27,3 +27,11 @@ where
         Err(error) => Err(unwritten(rt, path, error)),
     }
 }
+
+/// Returns the first failure of two.
+pub fn first_failure(first: Result<(), Stop>, second: Result<(), Stop>) -> Result<(), Stop> {
+    match first {
+        Ok(()) => second,
+        Err(stop) => Err(stop),
+    }
+}
