@@ -10,7 +10,7 @@
 
 Prints what it skips. Ends with 'N passed, M failed', and with status 1 where one failed.
 
-usage: least_types.py EBPF [--kernels FOLDER [--files FOLDER] [--dump PROGRAM].. [--bpftool] [--load] [--table FILE]]
+usage: least_types.py EBPF [--jobs N] [--kernels FOLDER [--files FOLDER] [--dump PROGRAM].. [--bpftool] [--load] [--table FILE]]
 """
 import argparse
 import sys
@@ -21,10 +21,8 @@ from pathlib import Path
 
 from least import cases, tools
 
-JOBS = cpu_count() or 1
 
-
-def over_cases(ebpf):
+def over_cases(ebpf, jobs):
     """Compares the test cases. Returns how many have the same outcome, the failures, and remarks."""
 
     def one(pair):
@@ -32,7 +30,7 @@ def over_cases(ebpf):
             seen = cases.compared(ebpf, pair, Path(folder))
             return seen, list(cases.spare(ebpf, pair, Path(folder), seen))
 
-    with ThreadPoolExecutor(JOBS) as pool:
+    with ThreadPoolExecutor(jobs) as pool:
         found = list(pool.map(one, cases.pairs()))
     faults = [fault for seen, _ in found for fault in seen.faults]
     spare = [what for _, held in found for what in held]
@@ -46,6 +44,7 @@ def over_cases(ebpf):
 def main():
     parser = argparse.ArgumentParser(add_help=False)
     parser.add_argument("ebpf", type=lambda word: Path(word).resolve())
+    parser.add_argument("--jobs", type=int, default=cpu_count() or 1)
     parser.add_argument("--kernels", type=Path)
     parser.add_argument("--files", type=Path)
     parser.add_argument("--dump", type=Path, action="append", default=[])
@@ -56,10 +55,10 @@ def main():
         given = parser.parse_args()
     except SystemExit:
         sys.exit(__doc__[__doc__.index("usage:") :].rstrip())
-    passed, failures, remarks = over_cases(given.ebpf)
+    passed, failures, remarks = over_cases(given.ebpf, given.jobs)
     print("\n".join(remarks), flush=True)
     if given.kernels:
-        more, found = tools.over_kernels(given, JOBS)
+        more, found = tools.over_kernels(given, given.jobs)
         passed, failures = passed + more, failures + found
     else:
         print("skipped: objects and kernels of a distribution (--kernels), libbpf, bpftool and the running kernel")

@@ -4,6 +4,9 @@ from dataclasses import dataclass
 
 SECONDS = 600
 
+# The status of a run that doesn't end.
+ENDLESS = -100
+
 
 @dataclass(frozen=True)
 class Ran:
@@ -14,8 +17,13 @@ class Ran:
     said: bytes
 
 
-def run(*words):
-    ran = subprocess.run([str(word) for word in words], stdin=subprocess.DEVNULL, capture_output=True, timeout=SECONDS)
+def run(*words, seconds=SECONDS):
+    """Runs a program. One that doesn't end has a status of its own: libbpf and bpftool follow a typedef of itself forever."""
+    words = [str(word) for word in words]
+    try:
+        ran = subprocess.run(words, stdin=subprocess.DEVNULL, capture_output=True, timeout=seconds)
+    except subprocess.TimeoutExpired:
+        return Ran(ENDLESS, b"", b"no end")
     return Ran(ran.returncode, ran.stdout, ran.stderr)
 
 
