@@ -3,7 +3,16 @@
 
 mod error;
 mod id_uses;
+pub mod laws;
 mod least;
+mod marks;
+mod members;
+mod paths;
+mod same_faults;
+mod same_outcomes;
+mod select;
+mod whole_types;
+mod writer;
 
 pub use error::LeastTypesError;
 pub use id_uses::{KernelIdUse, kernel_id_uses};
