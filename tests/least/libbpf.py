@@ -2,7 +2,7 @@
 import re
 import struct
 
-from least.runs import run
+from least.runs import ENDLESS, run
 
 SECONDS = 5
 
@@ -63,3 +63,22 @@ def prepared(dump, data, held, kernel):
         if not found:
             return
         data = with_value(data, int(found[1]), int(found[2]))
+
+
+def over(given, pair, folder, least):
+    """Yields how libbpf's slots of a test case over the least types, and over those of bpftool, compare with its slots over
+    the kernel's types: `same`, or what differs. Nothing where libbpf doesn't take the object over the kernel's types."""
+    dump, held, kernel = given.dump[-1], folder / "object.o", folder / "kernel.btf"
+    prepared(dump, pair.data, held, kernel)
+    wanted = slots(dump, held, kernel)[:2]
+    if wanted[0]:
+        return
+    if least:
+        (folder / "least.btf").write_bytes(least)
+        yield "ebpf", "same" if slots(dump, held, folder / "least.btf")[:2] == wanted else "other slots"
+    if given.bpftool:
+        made = run("bpftool", "gen", "min_core_btf", kernel, folder / "theirs.btf", held, seconds=SECONDS)
+        if made.status:
+            yield "bpftool", "no end" if made.status == ENDLESS else "no types"
+        else:
+            yield "bpftool", "same" if slots(dump, held, folder / "theirs.btf")[:2] == wanted else "other slots"

@@ -33,6 +33,12 @@ def outcome(ebpf, object_file, types, *options):
     return Ran(ran.status, ran.out, ran.said.replace(str(types).encode(), b"TYPES"))
 
 
+def reasons(ebpf, object_file, types):
+    """Returns what linking an object to types gives, with the value of each relocation, or the reason why it has none."""
+    ran = run(ebpf, "link", object_file, "--btf", types)
+    return Ran(ran.status, ran.out, ran.said.replace(str(types).encode(), b"TYPES"))
+
+
 def write_least(ebpf, objects, kernel, output, *options):
     """Runs `ebpf btf`."""
     return run(ebpf, "btf", *objects, "--btf", kernel, "--output", output, *options)
