@@ -4,6 +4,7 @@
 - The test cases of CO-RE (tests/rows/core_*.py), each with each of its kernels. In the least types of each no type that
   no other names, no member and no enumerator can be left out without another outcome; what can is listed. With --dump
   also libbpf's slots over both are compared, and with --bpftool those over bpftool's types; these differences are listed.
+- With --selftests, the kernel's self-tests of CO-RE (least/selftests.py), by the same readers.
 - With --kernels, objects of FILES (executables are searched for objects; without --files those of Debian's libbpf-tools) over
   the kernels of a folder, by `ebpf link --bytes`. With --dump also by libbpf (a program that prints the slots which libbpf
   makes of `OBJECT --btf TYPES`), with --bpftool beside the types that `bpftool gen min_core_btf` writes, and with --load by
@@ -11,7 +12,8 @@
 
 Prints what it skips. Ends with 'N passed, M failed', and with status 1 where one failed.
 
-usage: least_types.py EBPF [--jobs N] [--kernels FOLDER [--files FOLDER] [--dump PROGRAM].. [--bpftool] [--load] [--table FILE]]
+usage: least_types.py EBPF [--jobs N] [--dump PROGRAM].. [--bpftool] [--load] [--selftests FOLDER]
+                     [--kernels FOLDER [--files FOLDER] [--table FILE]]
 """
 import argparse
 import sys
@@ -21,7 +23,7 @@ from concurrent.futures import ThreadPoolExecutor
 from os import cpu_count
 from pathlib import Path
 
-from least import cases, libbpf, tools
+from least import cases, libbpf, selftests, tools
 
 
 def remarks_on(pairs, found):
@@ -61,23 +63,27 @@ def main():
     parser = argparse.ArgumentParser(add_help=False)
     parser.add_argument("ebpf", type=lambda word: Path(word).resolve())
     parser.add_argument("--jobs", type=int, default=cpu_count() or 1)
+    parser.add_argument("--selftests", type=Path)
     parser.add_argument("--kernels", type=Path)
     parser.add_argument("--files", type=Path)
     parser.add_argument("--dump", type=Path, action="append", default=[])
     parser.add_argument("--bpftool", action="store_true")
     parser.add_argument("--load", action="store_true")
     parser.add_argument("--table", type=Path)
-    try:
-        given = parser.parse_args()
-    except SystemExit:
-        sys.exit(__doc__[__doc__.index("usage:") :].rstrip())
+    parser.error = lambda _: sys.exit(__doc__[__doc__.index("usage:") :].rstrip())
+    given = parser.parse_args()
+    tools.put_skipped(given)
     passed, failures, remarks = over_cases(given)
     print("\n".join(remarks), flush=True)
-    if given.kernels:
-        more, found = tools.over_kernels(given, given.jobs)
+    for is_given, name, compare in [
+        (given.selftests, "the kernel's self-tests (--selftests)", selftests.compare),
+        (given.kernels, "objects over kernels of a distribution (--kernels)", tools.compare),
+    ]:
+        if not is_given:
+            print(f"skipped: {name}")
+            continue
+        more, found = compare(given)
         passed, failures = passed + more, failures + found
-    else:
-        print("skipped: objects and kernels of a distribution (--kernels), libbpf, bpftool and the running kernel")
     print("\n".join([*failures, f"{passed} passed, {len(failures)} failed"]))
     return 1 if failures or not passed else 0
 

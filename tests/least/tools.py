@@ -151,6 +151,7 @@ def put_table(path, objects, kernels, found):
 
 
 def put_skipped(given):
+    """Prints which readers are not asked, and leaves out those that can't be."""
     if given.bpftool and not shutil.which("bpftool"):
         given.bpftool = False
         print("skipped: bpftool: it is not installed")
@@ -165,9 +166,8 @@ def put_skipped(given):
         print("skipped: BPF_BTF_LOAD (--load)")
 
 
-def over_kernels(given, jobs):
+def compare(given):
     """Compares the objects over the kernels. Returns how many checks passed, and the failures."""
-    put_skipped(given)
     files = sorted(path for path in given.files.iterdir() if path.is_file()) if given.files else debian_files()
     kernels = sorted(path for path in given.kernels.iterdir() if path.is_file())
     with tempfile.TemporaryDirectory() as made:
@@ -177,7 +177,7 @@ def over_kernels(given, jobs):
         (Path(made) / "small").write_bytes(btf(integer("int", 4)))
         comparison = Comparison(given, Path(made))
         pairs = [(held, kernel) for held in objects for kernel in kernels]
-        with ThreadPoolExecutor(jobs) as pool:
+        with ThreadPoolExecutor(given.jobs) as pool:
             found = dict(zip(pairs, pool.map(lambda pair: comparison.over(*pair), pairs)))
             ids = list(pool.map(lambda held: needed(given, held, Path(made)), objects))
     for kernel in kernels:
