@@ -46,7 +46,7 @@ module _ (local kernel types : TypeInfo) (functions : FinMap key_cmp Function) (
       → records_applied (over types) section rs so_far ≡ records_applied (over kernel) section rs so_far
   records_alike section [] so_far same none = refl
   records_alike section (r ∷ rs) so_far same none =
-      λ i. if_ok (record_alike section so_far r (All-head (HasSameOutcome local kernel types) r rs same (All-head (λ r. asks_for_kernel_id r ≡ false) r rs none)) i)
+      λ i. if_ok (record_alike section so_far r ((All-head (HasSameOutcome local kernel types) r rs same).same (All-head (λ r. asks_for_kernel_id r ≡ false) r rs none)) i)
       (λ next. records_alike section rs next (All-tail (HasSameOutcome local kernel types) r rs same) (All-tail (λ r. asks_for_kernel_id r ≡ false) r rs none) i)
 
   named_alike : (part : ℕ × List Relocation) (so_far : Written) → All (HasSameOutcome local kernel types) part.1
