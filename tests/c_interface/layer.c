@@ -211,6 +211,8 @@ int main(int words, char **word)
 	check_errors(&files);
 	check_given(&files);
 	check_kept(&files);
+	check_types(&files);
+	check_wanted(&files);
 	check_memory(&files);
 	for (int at = 0; at < 5; at++)
 		free(to[at]->at);

@@ -15,7 +15,7 @@ from shown.blocks import blocks_of
 CHECK = TOP / "examples/check"
 
 # The C of the pages in their order, by the files that page_code.c includes.
-PIECES = ["prepared", "opened", "kept", "listed", "refused"]
+PIECES = ["prepared", "opened", "read", "kept", "listed", "refused"]
 
 # The number of a relocation of maps without a descriptor in words, as docs/C.md has it.
 SENTENCE = 'maps: no descriptor is given for any map of the symbol\'s section: "count" (symbol 12, section 12)'
@@ -25,6 +25,7 @@ SENTENCE = 'maps: no descriptor is given for any map of the symbol\'s section: "
 PRINTED = [
     "prepared 0: 35 slots, slot 11 calls 0xbad2310",
     "opened",
+    "over types that were read: 0, 33 slots",
     "on_packet has 15 slots",
     "on_wake has 13 slots",
     "listed 0: on_packet 15 on_wake 13",

@@ -51,12 +51,13 @@ pub use code::{FuncInfo, Insn, LineInfo};
 pub use contents::Contents;
 pub use ebpf_sys as sys;
 pub use error::{Details, Error, Failed, Refusal};
-pub use kernel::{attach_target, library_version, AttachTarget, Kernel};
+pub use kernel::{attach_target, attach_target_with, library_version, AttachTarget, Kernel, Types};
 pub use kinds::{Absence, KconfigKind, ProgramKind, SectionKind};
 pub use object::{Object, OpenOptions, PrepareFailed, Setting};
 pub use outcomes::{Outcome, OutcomeResult, OutcomeSlot};
 pub use prepared::Prepared;
 pub use rows::{
-    CodeCopy, CodeReference, Extern, Info, InitialSlot, KconfigExtern, Map, MapShape, Program, Section, Variable,
+    CodeCopy, CodeReference, Extern, Info, InitialSlot, KconfigExtern, Map, MapShape, MapSlot, Program, Section,
+    Variable,
 };
 pub use steps::{ExternsRelocated, ExternsResolved, MapsRelocated, Opened, Steps, TypesRelocated};

@@ -1,6 +1,7 @@
 //! The passes one by one.
 use crate::contents::Contents;
 use crate::error::{Error, Failed};
+use crate::kernel::Types;
 use crate::object::{descriptor_rows, Object};
 use crate::prepared::Prepared;
 use crate::rows::{CodeCopy, CodeReference};
@@ -174,6 +175,16 @@ impl<Last: order::Before<TypesRelocated>> Steps<Last> {
         // SAFETY: the handle is open, and the types are borrowed for the call.
         self.pass(|handle| unsafe { sys::ebpf_relocate_types(handle, types.as_ptr(), types.len()) })
     }
+
+    /// The same over types that were read.
+    ///
+    /// # Errors
+    ///
+    /// - [`Error::Types`]: a relocation can't be applied.
+    pub fn relocate_types_with(self, types: &Types) -> Result<Steps<TypesRelocated>, Failed<Steps<Last>>> {
+        // SAFETY: the handle and the types are open.
+        self.pass(|handle| unsafe { sys::ebpf_relocate_types_with(handle, types.as_raw()) })
+    }
 }
 
 impl<Last: order::Before<MapsRelocated>> Steps<Last> {
@@ -201,6 +212,21 @@ impl<Last: order::Before<ExternsResolved>> Steps<Last> {
         let (lines, len) = (symbols.as_ptr(), symbols.len());
         // SAFETY: the handle is open, and the slices are borrowed for the call.
         self.pass(|handle| unsafe { sys::ebpf_resolve_externs(handle, types.as_ptr(), types.len(), lines, len) })
+    }
+
+    /// The same over types that were read.
+    ///
+    /// # Errors
+    ///
+    /// - [`Error::Ksyms`]: an extern can't be found, or a line of the symbols can't be read.
+    pub fn resolve_externs_with(
+        self,
+        types: &Types,
+        symbols: &[u8],
+    ) -> Result<Steps<ExternsResolved>, Failed<Steps<Last>>> {
+        let (lines, len) = (symbols.as_ptr(), symbols.len());
+        // SAFETY: the handle and the types are open, and the symbols are borrowed for the call.
+        self.pass(|handle| unsafe { sys::ebpf_resolve_externs_with(handle, types.as_raw(), lines, len) })
     }
 }
 

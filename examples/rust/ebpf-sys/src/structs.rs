@@ -79,6 +79,14 @@ pub struct ebpf_open_options {
     pub reserved: u32,
 }
 
+/// The types of a kernel.
+#[repr(C)]
+#[derive(Debug)]
+pub struct ebpf_btf {
+    _hidden: [u8; 0],
+    _stays: PhantomData<*mut u8>,
+}
+
 /// `struct ebpf_object_info` of the header.
 #[repr(C)]
 #[derive(Clone, Copy, Debug, Default, PartialEq, Eq)]
@@ -370,6 +378,22 @@ pub struct ebpf_record_outcome {
     pub fault: u32,
 }
 
+/// A slot that refers to a map.
+#[repr(C)]
+#[derive(Clone, Copy, Debug, Default, PartialEq, Eq)]
+pub struct ebpf_map_slot {
+    /// The place of the map's name in the text.
+    pub name_at: usize,
+    /// The place of the map's name in the text.
+    pub name_len: usize,
+    /// The index of the section of the slot's function.
+    pub section: usize,
+    /// The function's address there, in bytes.
+    pub address: u64,
+    /// The number of the slot in the function.
+    pub slot: usize,
+}
+
 /// A copy of a function in a linked program. Slots are counted, each 8 bytes.
 #[repr(C)]
 #[derive(Clone, Copy, Debug, Default, PartialEq, Eq)]
@@ -418,4 +442,6 @@ pub struct ebpf_prepare_inputs {
     pub symbols: *const u8,
     /// The length in bytes of the text that begins at `symbols_at`.
     pub symbols_len: usize,
+    /// The kernel's types, if they were read: then `types` is not read.
+    pub btf: *const ebpf_btf,
 }
