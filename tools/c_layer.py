@@ -24,7 +24,7 @@ NAMES = {
     "ebpf_descriptor": "exact_descriptor",
     "ebpf_value": "exact_value",
     "ebpf_handle": "exact_handle",
-    "ebpf_btf": "exact_btf",
+    "ebpf_types": "exact_btf",
     "bpf_insn": "ebpf_insn",
     "bpf_func_info": "ebpf_func_info",
     "bpf_line_info": "ebpf_line_info",

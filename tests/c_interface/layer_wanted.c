@@ -100,6 +100,40 @@ static void check_refused(const struct bytes *file)
 	ebpf_close(of);
 }
 
+/* The proved call, with so much room: it writes all or nothing, and says how much there is. */
+static void check_room(const struct bytes *file)
+{
+	struct ebpf_handle *of = object_of(file);
+	struct exact_descriptor none[1];
+	struct ebpf_counts need = { 0, 0 };
+	uint8_t nothing[1];
+
+	memset(none, 0, sizeof(none));
+	CHECK("room", exact_ebpf_maps_without_descriptors(EXACT(of), none, 0, nothing, 0, (void *)nothing, 0, nothing, 0,
+							  &need) == EBPF_ROOM);
+	for (size_t less = 0; less < 4; less++) {
+		struct ebpf_counts room = { need.rows - (less & 1), need.text - (less >> 1) }, counts = { 77, 78 };
+		uint8_t *rows = zeros(need.rows, sizeof(struct ebpf_map_slot)), *text = zeros(need.text, 1);
+		struct ebpf_map_slot first;
+		uint32_t number;
+
+		memset(rows, 0x55, need.rows * sizeof(struct ebpf_map_slot));
+		memset(text, 0x55, need.text);
+		number = exact_ebpf_maps_without_descriptors(EXACT(of), none, 0, nothing, 0, (void *)rows, room.rows, text,
+							     room.text, &counts);
+		CHECK("room", number == (less ? EBPF_ROOM : EBPF_DONE));
+		CHECK("room", counts.rows == need.rows && counts.text == need.text);
+		memcpy(&first, rows, sizeof(first));
+		if (less)
+			CHECK("room", is_filled(rows, rows + need.rows * sizeof(first)) && is_filled(text, text + need.text));
+		else
+			CHECK("room", first.name_at == 0 && strlen((char *)text) == first.name_len);
+		free(rows);
+		free(text);
+	}
+	ebpf_close(of);
+}
+
 /* Whether the object has types, and an extern without a type that is not found. */
 static uint32_t wants(const struct ebpf_handle *of)
 {
@@ -135,6 +169,7 @@ void check_wanted(const struct layer_files *files)
 
 	check_slots(&files->counter);
 	check_refused(&files->counter);
+	check_room(&files->counter);
 	for (size_t at = 0; at < 4; at++) {
 		check_first(all[at]);
 		check_symbols(all[at]);

@@ -24,7 +24,7 @@ use types.Logic.{Logic, sem}
 use Rattle.capi_exports.proofs.Texts.{Types}
 use Rattle.capi_exports.specs.Handles.{heap}
 use Rattle.capi_exports.specs.KernelHandles.{kernel_owns}
-use Rattle.capi_exports.specs.contracts.kernel.ebpf_btf as handle
+use Rattle.capi_exports.specs.contracts.kernel.ebpf_types as handle
 use Rattle.capi_exports.specs.contracts.kernel_types.Kernel as content
 use Rattle.capi_exports.specs.contracts.kernel_types.Kernel.{the_row}
 use Rattle.capi_exports.specs.declared.kernel_types.Kernel.{Kernel}

@@ -135,10 +135,16 @@ pub record IsTargetIn (name : List ℕ) (kernel : TypeInfo) (target : AttachTarg
   pub read : text_of name ≡ Some section
   pub is : target ≡ attach_target section kernel
 
+-- out of memory for a name that is a text
+pub record HasNoMemoryFor (name : List ℕ) (r : Refusal) : Type 0 where
+  pub section : List ℕ
+  pub read : text_of name ≡ Some section
+  pub is : r ≡ plain MEMORY
+
 -- a name that is no text is refused first
 abbrev pub CannotFindTargetIn : List ℕ → TypeInfo → Refusal → Type 0
 CannotFindTargetIn name kernel r =
-    ((text_of name ≡ None) × (r ≡ plain BAD_NAME)) ⊎ (r ≡ plain MEMORY)
+    ((text_of name ≡ None) × (r ≡ plain BAD_NAME)) ⊎ HasNoMemoryFor name r
 
 -- the number of the target and the id of its type
 pub record TellsTargetIn (name : List ℕ) (answer id : ℕ) (kernel : TypeInfo) : Type 0 where

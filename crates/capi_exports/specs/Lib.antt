@@ -6,3 +6,4 @@ pub mod Settings
 pub mod Passes
 pub mod KernelPasses
 pub mod PassSequences
+pub mod WantedSymbols

@@ -14,38 +14,38 @@ use std::{mem, ptr};
 
 /// The types of a kernel that C holds, or none.
 #[repr(C)]
-pub struct ebpf_btf {
+pub struct ebpf_types {
     at: *mut u8,
     pub ghost held: { Option Kernel } by { coded_option kernel_row.coded },
 }
 
-impl Model for ebpf_btf {
+impl Model for ebpf_types {
     ghost also_owns = { λ k. kernel_owns k.at k.held };
 }
 
-impl ebpf_btf {
+impl ebpf_types {
     /// A handle that holds none.
-    pub fn without_types() -> ebpf_btf
+    pub fn without_types() -> ebpf_types
         ensures { result.held ≡ None }
     {
-        ebpf_btf {
+        ebpf_types {
             at: ptr::null_mut(),
         }
     }
 
     /// A handle that holds what the pointer owns.
-    fn over(held: Loose<Kernel, Global>) -> ebpf_btf
+    fn over(held: Loose<Kernel, Global>) -> ebpf_types
         ensures { result.held ≡ Some held.value }
     {
         let Loose { at, alloc: _ } = held;
-        ebpf_btf { at: at as *mut u8 }
+        ebpf_types { at: at as *mut u8 }
     }
 
     /// What the handle holds, as its pointer.
     fn into_pointer(self, alloc: Global) -> Option<Loose<Kernel, Global>>
         ensures { option_map (λ l. l.value) result ≡ self.held }
     {
-        let ebpf_btf { at } = self;
+        let ebpf_types { at } = self;
         if at.is_null() {
             return None;
         }
@@ -56,10 +56,10 @@ impl ebpf_btf {
     }
 
     /// A handle that holds what is in the box.
-    pub fn of(held: Box<Kernel>) -> ebpf_btf
+    pub fn of(held: Box<Kernel>) -> ebpf_types
         ensures { result.held ≡ Some held.value }
     {
-        ebpf_btf::over(Loose::of(held))
+        ebpf_types::over(Loose::of(held))
     }
 
     /// The box with what the handle holds.
@@ -77,13 +77,13 @@ impl ebpf_btf {
         ensures held { option_map (λ b. b.value) result ≡ self.old.held }
         ensures closed { self.new.held ≡ None }
     {
-        mem::replace(self, ebpf_btf::without_types()).into_box(alloc)
+        mem::replace(self, ebpf_types::without_types()).into_box(alloc)
     }
 
     /// Puts types in the place of what the handle holds, which is freed.
     pub fn put(&mut self, alloc: Global, held: Box<Kernel>)
         ensures { self.new.held ≡ Some held.value }
     {
-        let _before = mem::replace(self, ebpf_btf::of(held)).into_box(alloc);
+        let _before = mem::replace(self, ebpf_types::of(held)).into_box(alloc);
     }
 }

@@ -11,7 +11,7 @@ ghost use Rattle.capi_rows.specs.declared.refusal.Refusal.{Refusal};
 
 use crate::handle::ebpf_handle;
 use crate::held::{Held, Pass, fault_of_pass};
-use crate::kernel::ebpf_btf;
+use crate::kernel::ebpf_types;
 use crate::kernel_types::Kernel;
 use capi_rows::codes::{CLOSED, DONE};
 use capi_rows::info::read_types;
@@ -38,7 +38,7 @@ fn read_kernel(alloc: Global, bytes: &[u8]) -> Result<Box<Kernel>, Refusal>
 ///
 /// 0; 2; 200 to 214 where they can't be read. The handle is then as it was.
 #[unsafe(no_mangle)]
-pub extern "C" fn exact_ebpf_btf_open(alloc: Global, types: &[u8], kernel: &mut ebpf_btf) -> u32
+pub extern "C" fn exact_ebpf_btf_open(alloc: Global, types: &[u8], kernel: &mut ebpf_types) -> u32
     ensures opened { result ≡ DONE → HoldsTypes types.now kernel.new.held }
     ensures stays { ¬ (result ≡ DONE) → kernel.new.held ≡ kernel.old.held }
     ensures refused { ¬ (result ≡ DONE)
@@ -55,7 +55,7 @@ pub extern "C" fn exact_ebpf_btf_open(alloc: Global, types: &[u8], kernel: &mut 
 
 /// Frees the types, and leaves the handle closed.
 #[unsafe(no_mangle)]
-pub extern "C" fn exact_ebpf_btf_close(alloc: Global, kernel: &mut ebpf_btf)
+pub extern "C" fn exact_ebpf_btf_close(alloc: Global, kernel: &mut ebpf_types)
     ensures { kernel.new.held ≡ None }
 {
     let _held = kernel.take(alloc);
@@ -126,7 +126,7 @@ fn relocate_held_to(
 pub extern "C" fn exact_ebpf_relocate_types_with(
     alloc: Global,
     handle: &mut ebpf_handle,
-    kernel: &mut ebpf_btf,
+    kernel: &mut ebpf_types,
     about: &mut [u8],
     report: &mut ebpf_refusal,
 ) -> u32
@@ -219,7 +219,7 @@ fn resolve_held_in(
 pub extern "C" fn exact_ebpf_resolve_externs_with(
     alloc: Global,
     handle: &mut ebpf_handle,
-    kernel: &mut ebpf_btf,
+    kernel: &mut ebpf_types,
     symbols: &[u8],
     about: &mut [u8],
     report: &mut ebpf_refusal,

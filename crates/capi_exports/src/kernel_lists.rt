@@ -11,7 +11,7 @@ ghost use Rattle.capi_rows.specs.declared.record_rows.ebpf_record_outcome.{ebpf_
 ghost use Rattle.capi_rows.specs.declared.refusal.Refusal.{Refusal};
 
 use crate::handle::ebpf_handle;
-use crate::kernel::ebpf_btf;
+use crate::kernel::ebpf_types;
 use crate::list_calls::rows_over;
 use crate::target_answers::{target_number, target_type_id};
 use capi_rows::buffers::{Listing, ebpf_counts, tell_listing};
@@ -65,7 +65,7 @@ fn rows_of_held(
 pub extern "C" fn exact_ebpf_record_outcomes_with(
     alloc: Global,
     handle: &mut ebpf_handle,
-    kernel: &mut ebpf_btf,
+    kernel: &mut ebpf_types,
     rows: &mut [ebpf_record_outcome],
     text: &mut [u8],
     counts: &mut ebpf_counts,
@@ -75,7 +75,8 @@ pub extern "C" fn exact_ebpf_record_outcomes_with(
     ensures stays { handle.new.held ≡ handle.old.held }
     ensures types_stay { kernel.new.held ≡ kernel.old.held }
     ensures listed { (found : Result (Listed ebpf_record_outcome) Refusal)
-        × FindsOfTypes (λ t. FindsHeld (IsOutcomeListOver t) HasNoMemory (object_in handle.old.held))
+        × FindsOfTypes (λ t.
+        FindsHeld (IsOutcomeListOver t) HasNoMemory (object_in handle.old.held))
         kernel.old.held found
         × LeavesListing found result rows.old rows.new text.old text.new counts.old counts.new
         about.old about.new report.old report.new }
@@ -105,7 +106,7 @@ fn find_target_in(alloc: Global, name: &[u8], kernel: &Btf) -> Result<AttachTarg
 fn find_target_of(
     alloc: Global,
     name: &[u8],
-    kernel: &mut ebpf_btf,
+    kernel: &mut ebpf_types,
 ) -> Result<AttachTarget, Refusal>
     ensures stays { kernel.new.held ≡ kernel.old.held }
     ensures target { IfOk result (λ target.
@@ -132,7 +133,7 @@ fn find_target_of(
 pub extern "C" fn exact_ebpf_attach_target_with(
     alloc: Global,
     section_name: &[u8],
-    kernel: &mut ebpf_btf,
+    kernel: &mut ebpf_types,
     answer: &mut u32,
     type_id: &mut u32,
 ) -> u32

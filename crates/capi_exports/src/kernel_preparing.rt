@@ -9,7 +9,7 @@ ghost use Rattle.capi_exports.specs.declared.held.Pass.TheVariants.{Types, Calls
 
 use crate::handle::ebpf_handle;
 use crate::held::{Held, Pass, fault_of_pass};
-use crate::kernel::ebpf_btf;
+use crate::kernel::ebpf_types;
 use capi_rows::codes::{BAD_NAME, CLOSED, DONE};
 use capi_rows::reads::{descriptors_in, ebpf_descriptor, have_names};
 use capi_rows::refusal::{Refusal, ebpf_refusal, reported_number, tell};
@@ -92,7 +92,7 @@ fn open_prepared_to(
 pub extern "C" fn exact_ebpf_prepare_with(
     alloc: Global,
     file: &[u8],
-    kernel: &mut ebpf_btf,
+    kernel: &mut ebpf_types,
     rows: &[ebpf_descriptor],
     text: &[u8],
     symbols: &[u8],
@@ -230,7 +230,7 @@ fn prepare_handle_to(
 pub extern "C" fn exact_ebpf_prepare_handle_with(
     alloc: Global,
     handle: &mut ebpf_handle,
-    kernel: &mut ebpf_btf,
+    kernel: &mut ebpf_types,
     rows: &[ebpf_descriptor],
     text: &[u8],
     symbols: &[u8],

@@ -11,9 +11,9 @@ use denote.Steps.{nothing}
 use denote.Triple.Entry.{on_entry}
 use denote.Triple.Walked.{walk_of, says, ends_at}
 use Rattle.capi_exports.proofs.KernelHandles.{word, kernel_in}
-use Rattle.capi_exports.specs.contracts.kernel.ebpf_btf.without_types as f
-use Rattle.capi_exports.proofs.kernel.ebpf_btf.without_types.Statement.{statement}
-use Rattle.capi_exports.proofs.kernel.ebpf_btf.without_types.Code as code
+use Rattle.capi_exports.specs.contracts.kernel.ebpf_types.without_types as f
+use Rattle.capi_exports.proofs.kernel.ebpf_types.without_types.Statement.{statement}
+use Rattle.capi_exports.proofs.kernel.ebpf_types.without_types.Code as code
 
 pub without_types_spec : {M : Type 1} → statement M
 without_types_spec 𝓤 𝓛 𝓜 𝓡 wired =

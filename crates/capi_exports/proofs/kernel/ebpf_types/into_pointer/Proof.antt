@@ -24,9 +24,9 @@ use Rattle.core.proofs.option.Made.{Some-of, none_of}
 use Rattle.std.specs.contracts.alloc.Global as heap
 use Rattle.capi_exports.proofs.KernelHandles.{Kernels, word, kernel_out, held_out, boxed_types}
 use Rattle.capi_exports.proofs.Texts.{Apart, pair, pair_fits, apart_in, freeing_of}
-use Rattle.capi_exports.specs.contracts.kernel.ebpf_btf.into_pointer as f
-use Rattle.capi_exports.proofs.kernel.ebpf_btf.into_pointer.Statement.{statement}
-use Rattle.capi_exports.proofs.kernel.ebpf_btf.into_pointer.Code as code
+use Rattle.capi_exports.specs.contracts.kernel.ebpf_types.into_pointer as f
+use Rattle.capi_exports.proofs.kernel.ebpf_types.into_pointer.Statement.{statement}
+use Rattle.capi_exports.proofs.kernel.ebpf_types.into_pointer.Code as code
 
 abbrev stayed : Stays f.ended.signature.params f.ended.kept
 stayed = (stay_dropped (plain (λ _. Kernels)) yes, (stay_dropped (plain (λ _. heap.the_row)) yes, tt))

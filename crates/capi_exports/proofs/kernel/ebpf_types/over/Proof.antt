@@ -19,9 +19,9 @@ use denote.Triple.Walked.{Stays, stay_dropped, walk_of, says, ends_at}
 use Rattle.core.proofs.alloc.Calls.{Goes-blank}
 use Rattle.capi_exports.proofs.KernelHandles.{word, kernel_in, boxed_types}
 use Rattle.capi_exports.proofs.Texts.{Apart, pair, pair_fits, apart_out}
-use Rattle.capi_exports.specs.contracts.kernel.ebpf_btf.over as f
-use Rattle.capi_exports.proofs.kernel.ebpf_btf.over.Statement.{statement}
-use Rattle.capi_exports.proofs.kernel.ebpf_btf.over.Code as code
+use Rattle.capi_exports.specs.contracts.kernel.ebpf_types.over as f
+use Rattle.capi_exports.proofs.kernel.ebpf_types.over.Statement.{statement}
+use Rattle.capi_exports.proofs.kernel.ebpf_types.over.Code as code
 
 abbrev stayed : Stays f.ended.signature.params f.ended.kept
 stayed = (stay_dropped (plain (λ _. Apart boxed_types)) yes, tt)
