@@ -5,7 +5,8 @@
 -- again, which is refused: begun is the object with the value, and of the passes `maps` is chosen.
 use Rattle.std.specs.Prelude.{◌≡◌, ◌⊎◌, ⊤, ℕ, List, [], ◌∷◌, Option, Some, None}
 use Rattle.capi_exports.specs.PassOrder.{HasPassed, HasSetting}
-use Rattle.capi_exports.specs.Passes.{PreparationInputs, HasPutMapFds, HasRelocatedTypes}
+use Rattle.capi_exports.specs.Passes.{PreparationInputs, HasRelocatedTypes}
+use Rattle.capi_rows.specs.Descriptors.{HasWrittenMapFds}
 use Rattle.capi_exports.specs.Passes.{HasResolved, HasWrittenExterns, HasLinked}
 use Rattle.capi_exports.specs.Passes.{HasPreparedHeld}
 use Rattle.capi_exports.specs.KernelPasses.{HasPreparedHeldTo, HasRelocatedTo, HasResolvedIn}
@@ -28,7 +29,7 @@ MakesTypes old new =
 
 abbrev pub MakesMaps : Object → Object → Type 0
 MakesMaps old new =
-    (rows : List ebpf_descriptor) × (text : List ℕ) × HasPutMapFds rows text old new
+    (rows : List ebpf_descriptor) × (text : List ℕ) × HasWrittenMapFds rows text old new
 
 abbrev pub MakesResolution : Object → Object → Type 0
 MakesResolution old new =

@@ -1,3 +1,4 @@
+pub mod CallNumbers
 pub mod Descriptors
 pub mod FileTypes
 pub mod Handles
@@ -7,6 +8,7 @@ pub mod Records
 pub mod Numbers
 pub mod MapRows
 pub mod MapSlots
+pub mod NumberNames
 pub mod Reads
 pub mod ProgramRows
 pub mod Variables

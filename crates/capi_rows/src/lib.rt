@@ -6,6 +6,7 @@ pub mod codes;
 pub mod entries;
 pub mod faults;
 pub mod info;
+pub mod laws;
 pub mod loading;
 pub mod map_slots;
 pub mod maps;

@@ -5,3 +5,4 @@ pub mod LentNames
 pub mod Ranges
 pub mod SortedKeys
 mod EnclosesFirst
+mod Examples

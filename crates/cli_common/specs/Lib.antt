@@ -7,3 +7,4 @@ pub mod PrivateContracts
 pub mod EmbeddedObjects
 pub mod DefaultPasses
 pub mod SlotText
+pub mod TypeLabels

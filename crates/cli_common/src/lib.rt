@@ -7,6 +7,7 @@ pub mod helper_calls;
 pub mod json;
 pub mod kconfig_externs;
 pub mod kinds;
+pub mod labels;
 mod machines;
 pub mod map_uses;
 pub mod names;

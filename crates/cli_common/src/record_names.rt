@@ -1,6 +1,6 @@
 //! What records are about, as libbpf's log names it.
 
-use crate::types::add_type;
+use crate::labels::add_type_label;
 use ebpf_btf::{Btf, BtfKind};
 use ebpf_btf_ext::{Relocation, RelocationKind};
 use ebpf_core::{LocalPath, NamedPath, RelocationError, Step, local_path, outcome_among};
@@ -55,7 +55,7 @@ pub fn record_name(
     relocation: &Relocation,
 ) -> Result<String, AllocError> {
     let mut name = String::new(alloc);
-    add_type(&mut name, local, relocation.type_id)?;
+    add_type_label(&mut name, local, relocation.type_id)?;
     match local_path(alloc, local, relocation) {
         Ok(path) => add_path(alloc, &mut name, &path.path)?,
         Err(error) => {
@@ -83,7 +83,7 @@ impl RecordSubject {
         relocation: &Relocation,
     ) -> Result<RecordSubject, AllocError> {
         let mut name = String::new(alloc);
-        add_type(&mut name, local, relocation.type_id)?;
+        add_type_label(&mut name, local, relocation.type_id)?;
         let own = match local_path(alloc, local, relocation) {
             Ok(path) => {
                 add_path(alloc, &mut name, &path.path)?;

@@ -13,7 +13,7 @@ use Rattle.std.specs.Cmp.{IsTotalOrder, on_total, then_total, tied_then}
 use Rattle.std.specs.FinMap.{from_entries, get_tied}
 use Rattle.std.specs.Ordering.{eq_by_cmp, is_eq}
 use Rattle.ebpf_base.proofs.Maps.{get-view, is_equal}
-use Rattle.cli_list.specs.TypeLabels.{type_label}
+use Rattle.cli_common.specs.TypeLabels.{type_label}
 use Rattle.cli_list.specs.PrivateContracts.{CountsMore, IsGroupOf, with_more}
 use Rattle.cli_list.specs.RecordCounts.{asks, counted, group_cmp, kind_cmp, section_records}
 use Rattle.cli_list.specs.declared.records.RecordGroup.{RecordGroup}

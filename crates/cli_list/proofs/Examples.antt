@@ -1,23 +1,8 @@
--- Parts of the worked examples of specs/TypeLabels.antt, specs/RecordCounts.antt and specs/Listings.antt, computed.
-use Rattle.std.proofs.Common.{◌≡◌, [], ◌∷◌, ◌++◌, Some, None, Ok, refl}
-use Rattle.std.specs.Prelude.{codes}
-use Rattle.ebpf_btf.specs.declared.kind.BtfKind.TheVariants as kinds
+-- Parts of the worked examples of specs/RecordCounts.antt and specs/Listings.antt, computed.
+use Rattle.std.proofs.Common.{◌≡◌, [], ◌∷◌, Some, None, Ok, refl}
 use Rattle.ebpf_btf.specs.declared.types.BtfType.TheVariants.{Ptr, Unknown}
 use Rattle.cli_list.specs.Listings.{read_type_count, slots_in}
 use Rattle.cli_list.specs.RecordCounts.{counted}
-use Rattle.cli_list.specs.TypeLabels.{kind_word, name_or_anon}
-
--- ---- labels
-
-named_struct : kind_word kinds.Struct ++ codes " " ++ name_or_anon (Ok (codes "foo")) ≡ codes "struct foo"
-unfolding kind_word
-named_struct = refl
-
-anonymous_struct : kind_word kinds.Struct ++ codes " " ++ name_or_anon (Ok []) ≡ codes "struct <anon>"
-unfolding kind_word
-anonymous_struct = refl
-
--- ---- numbers
 
 -- a group without records has no row
 no_row : counted 0 ≡ None

@@ -1,4 +1,3 @@
 pub mod Listings
-pub mod TypeLabels
 pub mod RecordCounts
 pub mod PrivateContracts

@@ -12,7 +12,7 @@ use Rattle.ebpf_base.specs.Maps.{key_cmp}
 use Rattle.ebpf_btf.specs.TypeInfo.{TypeInfo}
 use Rattle.ebpf_btf_ext.specs.declared.relocation.Relocation.{Relocation}
 use Rattle.cli_common.specs.RecordKinds.{kind_of}
-use Rattle.cli_list.specs.TypeLabels.{type_label}
+use Rattle.cli_common.specs.TypeLabels.{type_label}
 use Rattle.cli_list.specs.RecordCounts.{asks, group_cmp}
 use Rattle.cli_list.specs.declared.layout.ListedLayout.{ListedLayout}
 use Rattle.cli_list.specs.declared.records.RecordGroup.{RecordGroup}

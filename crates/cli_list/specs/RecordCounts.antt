@@ -16,7 +16,7 @@ use Rattle.ebpf_btf_ext.specs.ExtReading.{ExtInfo}
 use Rattle.ebpf_btf_ext.specs.declared.relocation.Relocation.{Relocation}
 use Rattle.ebpf_object.specs.declared.object.Object.{Object}
 use Rattle.cli_common.specs.RecordKinds.{kind_of}
-use Rattle.cli_list.specs.TypeLabels.{type_label}
+use Rattle.cli_common.specs.TypeLabels.{type_label}
 use Rattle.cli_common.specs.contracts.kinds.KindOrd.TheImpl as kind_ord
 use Rattle.cli_common.specs.declared.kinds.Kind.{Kind}
 use Rattle.cli_list.specs.declared.records.RecordGroup.{RecordGroup}

@@ -2,11 +2,12 @@
 #![tactic(auto)]
 
 mod json;
-mod labels;
 mod layout;
 mod listing;
+mod page;
 mod records;
 mod run;
+mod tables;
 mod text;
 mod users;
 

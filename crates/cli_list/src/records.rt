@@ -7,8 +7,8 @@ ghost use Rattle.cli_list.specs.PrivateContracts.{CountsMore, IsGroupOf, with_mo
 ghost use Rattle.cli_list.specs.RecordCounts.{AreCounts, asks, counted, group_cmp, record_total, section_records};
 ghost use Rattle.cli_list.specs.declared.records.RecordGroup.{RecordGroup};
 
-use crate::labels::add_type_label;
 use cli_common::kinds::Kind;
+use cli_common::labels::add_type_label;
 use ebpf_base::Items;
 use ebpf_btf::Btf;
 use ebpf_btf_ext::Relocation;

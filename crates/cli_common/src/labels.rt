@@ -2,7 +2,7 @@
 
 ghost use Rattle.std.specs.Prelude.{◌≡◌, ◌++◌, OnOk, codes, string_bytes};
 ghost use Rattle.std.specs.Fmt.{decimal};
-ghost use Rattle.cli_list.specs.TypeLabels.{kind_word, label_of, name_or_anon, named, type_label};
+ghost use Rattle.cli_common.specs.TypeLabels.{kind_word, label_of, name_or_anon, named, type_label};
 ghost use Rattle.ebpf_btf.specs.Strings.{type_name};
 
 use ebpf_btf::{Btf, BtfError, BtfKind, BtfType};
