@@ -199,7 +199,7 @@ enum ebpf_number {
 	EBPF_TYPES_INSTRUCTION = 248, /* an instruction can't take a value */
 	EBPF_TYPES_NO_TARGET = 249, /* kept, never returned */
 
-	/* 300 to 399: descriptors of maps. About the function. 320 and 321: `ebpf_prepare` and `ebpf_prepare_handle` alone */
+	/* 300 to 399: descriptors of maps. About the function, but for 320 and 321 */
 	EBPF_MAPS_UNKNOWN_SYMBOL = 300, /* maps: a relocation refers to an unknown symbol */
 	EBPF_MAPS_SECTION_NOT_FOUND = 301, /* maps: no descriptor is given for any map of the symbol's section */
 	EBPF_MAPS_UNKNOWN_FUNCTION = 302, /* maps: no function is where a reference leads */
@@ -999,10 +999,10 @@ const char *ebpf_initial_slot_at(const struct ebpf_handle *handle, size_t index,
 
 /*
  * A map's name and its descriptor.
- *  - Each map that a slot refers to needs a row, a map of variables too. Else `ebpf_prepare` and `ebpf_prepare_handle`
- *    return EBPF_MAPS_MISSING_DESCRIPTOR, about the map. `ebpf_relocate_maps` takes the row of another map in its section.
- *  - Each row needs the name of a map of the object. Else the two return EBPF_MAPS_UNKNOWN_MAP, about the name.
- *    `ebpf_relocate_maps` passes the row over.
+ *  - Each map that a slot refers to needs a row, a map of variables too. Else the number is
+ *    EBPF_MAPS_MISSING_DESCRIPTOR, about the map. `ebpf_maps_without_descriptors` lists all such slots.
+ *  - Each row needs the name of a map of the object. Else the number is EBPF_MAPS_UNKNOWN_MAP, about the name. It comes
+ *    first.
  *  - Of two rows for one name, or for maps of one symbol, the later counts.
  */
 struct ebpf_descriptor {
@@ -1093,7 +1093,7 @@ const char *ebpf_map_without_descriptor_at(const struct ebpf_handle *handle, siz
 
 /*
  * Writes descriptors of maps into the slots that refer to them. A row whose name is no UTF-8 is refused before all
- * other faults of the rows. Numbers: 2, 3, 6, 11, 12, 300 to 311.
+ * other faults of the rows. Numbers: 2, 3, 6, 11, 12, 300 to 399.
  */
 EBPF_CHECKED uint32_t ebpf_relocate_maps(struct ebpf_handle *handle, const struct ebpf_descriptor *rows,
 			size_t rows_len);
@@ -1183,7 +1183,7 @@ EBPF_INLINE struct ebpf_prepare_inputs ebpf_prepare_defaults(void)
 /*
  * Opens the object of a file by strict parsing, and runs all of these passes over it. It gives out a handle as
  * `ebpf_open` does, also where it refuses. The descriptors' names are looked at first, then the types are read, then
- * the file. Each slot's own map has to have a descriptor, else the number is 320, before the first pass. `inputs` may
+ * the file. Rows that are not complete are refused (320, 321) before the first pass. `inputs` may
  * be NULL: then there are none. They are refused as options are (90).
  * Numbers: 2, 6, 90, 100 to 199, 200 to 299, .., 600 to 699.
  */

@@ -831,7 +831,8 @@ class Steps(_Linkable):
         self._made(_over("ebpf_relocate_types", types, self._handle))
 
     def relocate_maps(self, maps):
-        """Writes descriptors of maps, {name: descriptor}. Refused 300 to 311."""
+        """Writes descriptors of maps, {name: descriptor}. Refused 300 to 399: a map has none (320), a name is of no map
+        (321)."""
         rows = _descriptor_rows(maps)
         self._made(library.ebpf_relocate_maps(self._handle, rows, len(rows)))
 

@@ -187,8 +187,10 @@ static void check_given(const struct layer_files *files)
 	CHECK("rows", !strcmp(ebpf_last_error(object)->name, "wanted") && ebpf_last_error(object)->refusal.other_size == 3);
 	CHECK("rows", ebpf_relocate_maps(object, maps, 2) == EBPF_BAD_NAME);
 	maps[1] = maps[2];
-	CHECK("rows", ebpf_relocate_maps(object, maps, 2) == EBPF_MAPS_SECTION_NOT_FOUND);
-	CHECK("rows", ebpf_last_error(object)->refusal.has & EBPF_HAS_SYMBOL);
+	CHECK("rows", ebpf_relocate_maps(object, maps, 2) == EBPF_MAPS_UNKNOWN_MAP && is_last(object, EBPF_MAPS_UNKNOWN_MAP));
+	CHECK("rows", !ebpf_last_error(object)->name_len);
+	CHECK("rows", ebpf_relocate_maps(object, maps, 1) == EBPF_MAPS_MISSING_DESCRIPTOR);
+	CHECK("rows", ebpf_last_error(object)->name_len && strcmp(ebpf_last_error(object)->name, "counts"));
 	/* lengths that no memory has */
 	rows[0].name_len = rows[2].name_len = SIZE_MAX / 2;
 	CHECK("rows", ebpf_set_values(object, rows, 3) == EBPF_MEMORY && is_last(object, EBPF_MEMORY));

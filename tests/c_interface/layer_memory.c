@@ -257,7 +257,7 @@ static const struct {
 	{ "ebpf_set_values", set_values, 1, EBPF_DONE },
 	{ "ebpf_set_value", set_unknown, 1, EBPF_PARSE_SYMBOL_NOT_FOUND },
 	{ "ebpf_explain", explain, 1, EBPF_PARSE_SYMBOL_NOT_FOUND },
-	{ "ebpf_relocate_maps", relocate_maps, 1, EBPF_MAPS_SECTION_NOT_FOUND },
+	{ "ebpf_relocate_maps", relocate_maps, 1, EBPF_MAPS_MISSING_DESCRIPTOR },
 	{ "ebpf_kconfig_value", configured, 2, EBPF_DONE },
 	{ "ebpf_kconfig_number", numbered, 2, EBPF_DONE },
 	{ "ebpf_initial_slots", initial, 2, EBPF_DONE },

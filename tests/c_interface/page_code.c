@@ -81,11 +81,10 @@ static void list(struct bytes file)
 	ebpf_close(handle);
 }
 
-/* The refusal where one map alone has a descriptor. */
+/* The refusal of a value of another size. */
 static void refuse(struct bytes file)
 {
 	struct ebpf_handle *handle = opened(file);
-	const int fd = 3;
 	uint32_t number;
 
 #include "refused.inc"

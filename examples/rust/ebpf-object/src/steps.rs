@@ -188,12 +188,12 @@ impl<Last: order::Before<TypesRelocated>> Steps<Last> {
 }
 
 impl<Last: order::Before<MapsRelocated>> Steps<Last> {
-    /// Writes descriptors of maps into the slots that refer to them. Unlike [`Object::prepare`] it takes the row of another
-    /// map of the section for a map without a row, and passes over a row of no map.
+    /// Writes descriptors of maps into the slots that refer to them. Each map that a slot refers to needs a row, a map of
+    /// variables too ([`Contents::maps_without_descriptors`]).
     ///
     /// # Errors
     ///
-    /// - [`Error::Maps`]: no map of a symbol's section has a row (301), or a descriptor can't be written.
+    /// - [`Error::Maps`]: a map has no row (320), a row is of no map (321), or a descriptor can't be written.
     pub fn relocate_maps<S: AsRef<str>>(self, maps: &[(S, i32)]) -> Result<Steps<MapsRelocated>, Failed<Steps<Last>>> {
         let rows = descriptor_rows(maps);
         // SAFETY: the handle is open, and the names of rows are borrowed for the call.

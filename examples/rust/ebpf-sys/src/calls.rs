@@ -526,7 +526,7 @@ extern "C" {
     ) -> *const c_char;
 
     /// Writes descriptors of maps into the slots that refer to them. A row whose name is no UTF-8 is refused before all
-    /// other faults of the rows. Numbers: 2, 3, 6, 11, 12, 300 to 311.
+    /// other faults of the rows. Numbers: 2, 3, 6, 11, 12, 300 to 399.
     pub fn ebpf_relocate_maps(handle: *mut ebpf_handle, rows: *const ebpf_descriptor, rows_len: usize) -> u32;
 
     /// Finds the externs in a kernel's types and in its symbols, which are given as the text of /proc/kallsyms. Types
@@ -587,9 +587,9 @@ extern "C" {
 
     /// Opens the object of a file by strict parsing, and runs all of these passes over it. It gives out a handle as
     /// `ebpf_open` does, also where it refuses. The descriptors' names are looked at first, then the types are read,
-    /// then the file. Each slot's own map has to have a descriptor, else the number is 320, before the first pass.
-    /// `inputs` may be NULL: then there are none. They are refused as options are (90). Numbers: 2, 6, 90, 100 to 199,
-    /// 200 to 299, .., 600 to 699.
+    /// then the file. Rows that are not complete are refused (320, 321) before the first pass. `inputs` may be NULL:
+    /// then there are none. They are refused as options are (90). Numbers: 2, 6, 90, 100 to 199, 200 to 299, .., 600 to
+    /// 699.
     pub fn ebpf_prepare(
         file: *const u8,
         file_len: usize,

@@ -333,11 +333,10 @@ pub struct ebpf_initial_slot {
 
 /// A map's name and its descriptor.
 ///
-/// - Each map that a slot refers to needs a row, a map of variables too. Else `ebpf_prepare` and `ebpf_prepare_handle`
-///   return EBPF_MAPS_MISSING_DESCRIPTOR, about the map. `ebpf_relocate_maps` takes the row of another map in its
-///   section.
-/// - Each row needs the name of a map of the object. Else the two return EBPF_MAPS_UNKNOWN_MAP, about the name.
-///   `ebpf_relocate_maps` passes the row over.
+/// - Each map that a slot refers to needs a row, a map of variables too. Else the number is
+///   EBPF_MAPS_MISSING_DESCRIPTOR, about the map. `ebpf_maps_without_descriptors` lists all such slots.
+/// - Each row needs the name of a map of the object. Else the number is EBPF_MAPS_UNKNOWN_MAP, about the name. It comes
+///   first.
 /// - Of two rows for one name, or for maps of one symbol, the later counts.
 #[repr(C)]
 #[derive(Clone, Copy, Debug, PartialEq, Eq)]
