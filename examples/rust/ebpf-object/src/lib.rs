@@ -11,6 +11,7 @@
 //! | [`Object`] | values and sizes are set, link maps and outcomes are asked |
 //! | [`Steps`] | passes are made one by one, each at most once and in order |
 //! | [`Prepared`] | programs are read as `BPF_PROG_LOAD` takes them |
+//! | [`Types`] | a kernel's types, read once: the calls `_with` take them in place of bytes |
 //!
 //! [`Object::prepare`] leads from the first to the last in one call. What each of them has is read by [`Contents`].
 //!
