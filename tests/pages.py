@@ -60,6 +60,7 @@ FORMS = [
     ("docs/CLI.md", "byte_off byte_sz", forms.kinds),
     ("docs/CLI.md", "status", forms.json_of(*(f"check {file} examples/check/btf" for file in CHECKED))),
     ("docs/CLI.md", "byte_order license", forms.json_of(*(f"list {file}" for file in LISTED))),
+    ("docs/CLI.md", "check:", forms.job),
     ("docs/CLI.md", "limits", forms.json_of(f"inspect {COUNTER}")),
     ("docs/CLI.md", "ebpf-link FILE", forms.plain_usage),
 ]

@@ -19,7 +19,7 @@ struct bytes {
 struct loading {
 	struct ebpf_handle *object;
 	struct bytes file;
-	struct bytes kernel_types;
+	struct ebpf_btf *kernel_types;
 	struct bytes kernel_symbols;
 	int own_types; /* the descriptor of the object's types; 0 where it has none */
 	int *maps;     /* the descriptor of each map, in the order of the library's list */
@@ -44,6 +44,7 @@ _Noreturn void refused(const char *log, const char *what, const char *name);
 void define_kconfig(struct loading *of, const char *config_path);
 
 /* types.c */
+void read_kernel_types(struct loading *of);
 void load_types(struct loading *of);
 uint32_t target_of(struct loading *of, size_t program);
 void print_targets(struct loading *of);

@@ -61,8 +61,8 @@ static void open_object(struct loading *of, const char *path)
 	if (ebpf_check_version())
 		errx(1, "the library has the version %u", ebpf_version_number());
 	of->file = read_file(path);
-	of->kernel_types = read_file("/sys/kernel/btf/vmlinux");
 	check(of, path, ebpf_open(of->file.at, of->file.len, NULL, &of->object));
+	read_kernel_types(of);
 }
 
 /* Runs all passes over the object. */
@@ -78,8 +78,7 @@ static void prepare(struct loading *of, const char *path)
 		rows[at].name_len = map.name_len;
 		rows[at].descriptor = of->maps[at];
 	}
-	inputs.types = of->kernel_types.at;
-	inputs.types_len = of->kernel_types.len;
+	inputs.btf = of->kernel_types;
 	inputs.descriptors = rows;
 	inputs.descriptors_len = count;
 	inputs.symbols = of->kernel_symbols.at;
@@ -88,24 +87,17 @@ static void prepare(struct loading *of, const char *path)
 	free(rows);
 }
 
-/* Whether an extern is looked up in the kernel's symbols, which take long to read. */
-static int wants_symbols(const struct loading *of)
-{
-	struct ebpf_extern row = { .is_typed = 1 };
-
-	for (size_t at = 0; row.is_typed && ebpf_extern_at(of->object, at, &row); at++)
-		;
-	return !row.is_typed;
-}
-
 /* From the opened object to programs that the kernel has, with all that they refer to. */
 static void load(struct loading *of, const struct options *options)
 {
+	uint32_t wants_symbols = 0;
+
 	define_kconfig(of, options->config);
 	load_types(of);
 	make_maps(of);
 	put_initial(of, 0);
-	if (wants_symbols(of))
+	check(of, "symbols", ebpf_wants_symbols(of->object, &wants_symbols));
+	if (wants_symbols) /* they take long to read */
 		of->kernel_symbols = read_file("/proc/kallsyms");
 	prepare(of, options->words[0]);
 	load_programs(of, options->words[1]);
@@ -116,7 +108,7 @@ static void free_all(struct loading *of)
 {
 	ebpf_close(of->object);
 	free(of->file.at);
-	free(of->kernel_types.at);
+	ebpf_btf_close(of->kernel_types);
 	free(of->kernel_symbols.at);
 	free(of->maps);
 	free(of->programs);

@@ -1,6 +1,17 @@
 /* The object's types in the kernel, and the kernel's types that programs are attached to. */
 #include "loader.h"
 
+/* Reads the kernel's types, once for all calls that are given them. */
+void read_kernel_types(struct loading *of)
+{
+	struct bytes types = read_file("/sys/kernel/btf/vmlinux");
+	uint32_t number = ebpf_btf_open(types.at, types.len, &of->kernel_types);
+
+	free(types.at);
+	if (number != EBPF_DONE) /* of no handle */
+		errx(1, "the kernel's types: the library refuses: %s (%u)", ebpf_strerror(number), number);
+}
+
 /* Loads the types of the file, where it has some: the kernel reads those of maps' values and of functions there. */
 void load_types(struct loading *of)
 {
@@ -27,8 +38,7 @@ void load_types(struct loading *of)
 static uint32_t look_up_target(const struct loading *of, const char *section, uint32_t *answer)
 {
 	uint32_t type_id = 0;
-	uint32_t number = ebpf_attach_target(section, strlen(section), of->kernel_types.at, of->kernel_types.len,
-					     answer, &type_id);
+	uint32_t number = ebpf_attach_target_with(section, strlen(section), of->kernel_types, answer, &type_id);
 
 	if (number != EBPF_DONE) /* of no handle */
 		errx(1, "%s: the library refuses: %s (%u)", section, ebpf_strerror(number), number);

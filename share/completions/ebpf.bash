@@ -3,10 +3,11 @@
 # Prints the options of a command.
 _ebpf_options() {
     case $1 in
-    check) echo '--object --program --all --strict --json --help --version' ;;
-    list) echo '--object --json --help --version' ;;
-    link) echo '--object --btf --kallsyms --kconfig --kernel --program --bytes --lines --help --version' ;;
-    inspect) echo '--object --btf --kallsyms --kconfig --kernel --program --json --help --version' ;;
+    btf) echo '--object --btf --output --allow-ids --json --color --help --version' ;;
+    check) echo '--object --program --all --strict --format --html --sarif --json --color --progress --help --version' ;;
+    list) echo '--object --html --json --color --help --version' ;;
+    link) echo '--object --btf --kallsyms --kconfig --kernel --program --bytes --lines --color --help --version' ;;
+    inspect) echo '--object --btf --kallsyms --kconfig --kernel --program --dot --mermaid --json --color --help --version' ;;
     ebpf-link | ebpf-inspect) echo '--btf --kallsyms --program' ;;
     *) echo '--help --version' ;;
     esac
@@ -17,13 +18,21 @@ _ebpf() {
     COMPREPLY=()
     if [ "$command" = ebpf ]; then
         if [ "$COMP_CWORD" = 1 ]; then
-            mapfile -t COMPREPLY < <(compgen -W 'check list link inspect --help --version' -- "$word")
+            mapfile -t COMPREPLY < <(compgen -W 'btf check list link inspect --help --version' -- "$word")
             return
         fi
         command=${COMP_WORDS[1]}
     fi
     case $before in
     --object | --program | --kernel) return ;;
+    --format)
+        mapfile -t COMPREPLY < <(compgen -W 'text json github' -- "$word")
+        return
+        ;;
+    --color)
+        mapfile -t COMPREPLY < <(compgen -W 'auto always never' -- "$word")
+        return
+        ;;
     esac
     if [[ $word == -* ]]; then
         mapfile -t COMPREPLY < <(compgen -W "$(_ebpf_options "$command")" -- "$word")

@@ -14,7 +14,7 @@ from rows.elf import CALL32, EXIT, FUNCTION, LOAD64, NOTHING, File, slot
 TOP = Path(__file__).parents[2]
 DATA = TOP / "crates" / "example_library" / "data"
 CHECK = TOP / "examples" / "check"
-USAGE = "usage: ebpf inspect FILE [--object N] [--btf FILE] [--kallsyms FILE] [--kconfig FILE] [--kernel VERSION] [--program NAME ..] [--json]"
+USAGE = "usage: ebpf inspect FILE [--object N] [--btf FILE] [--kallsyms FILE] [--kconfig FILE] [--kernel VERSION] [--program NAME ..] [--dot | --json | --mermaid] [--color WHEN]"
 KEYS = ["name", "section", "type", "slots", "call_chain", "copies", "references", "maps", "helpers", "kernel_functions"]
 
 # A load of the address of a function.

@@ -187,13 +187,13 @@ def refused(rows):
         ("list", "object", "--json=yes"): "--json takes no value",
     }.items():
         ran = rows.row(f"words {given}", given, 2, "", f"ebpf: {sentence}")
-        rows.expect(f"words {given}: usage", ran.stderr.split("\n")[1], "usage: ebpf list FILE [--object N] [--json]")
+        rows.expect(f"words {given}: usage", ran.stderr.split("\n")[1], "usage: ebpf list FILE [--object N] [--html FILE] [--json] [--color WHEN]")
     rows.row("no such object to list", ["list", "nowhere"], 2, "", "ebpf: nowhere: No such file or directory (os error 2)")
     rows.write("big", File(BIG).code("kprobe/p", EXIT).symbol("p", FUNCTION, 3, 0, 8).bytes())
     rows.row("code of the other byte order", ["list", "big"], 1, "", "ebpf: big: the file is big-endian and has code (parse: BigEndianCode)")
     for given in [["list", "--help"], ["list", "-h"]]:
         ran = rows.row(f"words {given}", given, 0)
-        rows.expect(f"words {given}: usage", ran.stdout.startswith("usage: ebpf list FILE [--object N] [--json]\n\nLists "), True)
+        rows.expect(f"words {given}: usage", ran.stdout.startswith("usage: ebpf list FILE [--object N] [--html FILE] [--json] [--color WHEN]\n\nLists "), True)
     rows.row("the version of list", ["list", "-V"], 0, "ebpf 0.4.0\n")
 
 

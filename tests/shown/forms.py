@@ -39,6 +39,18 @@ def plain_usage(block, room):
             yield f"`{program}` prints {printed!r} in place of {wanted!r}"
 
 
+def job(block, room):
+    """Compares the options of each `ebpf` command in a job of a workflow with those that its command has."""
+    commands = re.findall(r"run: ebpf (\w+) (.*)", "\n".join(block.lines))
+    if not commands:
+        yield "no step runs `ebpf`"
+    for command, words in commands:
+        known = re.findall(r"^  (?:-\w, )?(--[\w-]+)", room.run(f"ebpf {command} --help"), re.MULTILINE)
+        for option in re.findall(r"--[\w-]+", words):
+            if option not in known:
+                yield f"`ebpf {command} --help` lacks {option}"
+
+
 def usage_in(path):
     """Returns the test that looks for the lines, without the folder `tools/`, in a file that states its usage."""
 

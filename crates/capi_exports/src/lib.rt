@@ -4,6 +4,11 @@
 mod handle;
 mod held;
 mod kconfig;
+mod kernel;
+mod kernel_calls;
+mod kernel_lists;
+mod kernel_preparing;
+mod kernel_types;
 mod laws;
 mod linking;
 mod list_calls;
@@ -16,3 +21,4 @@ mod read_calls;
 mod target_answers;
 mod variable_calls;
 mod version;
+mod wanted_calls;

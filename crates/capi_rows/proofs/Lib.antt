@@ -1,3 +1,4 @@
 pub mod Rows
 pub mod SectionNames
 pub mod Fills
+pub mod NumberNames

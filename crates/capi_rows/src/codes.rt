@@ -1,6 +1,9 @@
 //! The numbers that calls answer, and what they say.
 
-ghost use Rattle.std.specs.Prelude.{◌≡◌};
+ghost use Rattle.std.specs.Prelude.{◌≡◌, ◌++◌, map, nat_lt};
+ghost use Rattle.std.specs.List.{find};
+ghost use Rattle.std.specs.Option.{option_copied};
+ghost use Rattle.capi_rows.specs.NumberNames.{name_found, name_in, number_name, number_stages, stage_value};
 ghost use Rattle.capi_rows.specs.Refusals.{flag};
 
 /// All is done and written.
@@ -196,45 +199,189 @@ const DESCRIPTOR_FAULTS: [&str; 2] = ["MissingDescriptor", "UnknownMap"];
 /// Faults of externs that aren't written when programs are to be linked.
 const UNWRITTEN_FAULTS: [&str; 1] = ["UnwrittenExtern"];
 
-/// The first number of a stage's faults, the stage, and the names of the faults.
-type Stage = (u32, &'static str, &'static [&'static str]);
+/// A stage: its numbers are from the first one up to the end, which is the first number of the next.
+#[derive(Clone, Copy)]
+struct Stage {
+    first: u32,
+    end: u32,
+    /// What stands before the name of an error.
+    title: &'static str,
+    /// The names of the errors, in the order of their numbers. Numbers past them have no name.
+    errors: &'static [&'static str],
+}
 
-/// The stages in the order of their numbers.
+/// The stages, in the order of their numbers.
 const STAGES: [Stage; 21] = [
-    (0, "", &GENERAL),
-    (100, "parse: ", &FILE_FAULTS),
-    (110, "parse: SectionError ", &FILE_FAULTS),
-    (120, "parse: BtfError ", &TYPE_FAULTS),
-    (140, "parse: ", &PARSE_FAULTS),
-    (200, "btf: ", &TYPE_FAULTS),
-    (220, "types: BtfError ", &TYPE_FAULTS),
-    (240, "types: ", &RECORD_FAULTS),
-    (300, "maps: ", &SLOT_FAULTS),
-    (320, "maps: ", &DESCRIPTOR_FAULTS),
-    (400, "ksyms: ", &EXTERN_FAULTS),
-    (420, "ksyms: BtfError ", &TYPE_FAULTS),
-    (500, "externs: ", &SLOT_FAULTS),
-    (600, "calls: ", &SLOT_FAULTS),
-    (620, "calls: ", &UNWRITTEN_FAULTS),
-    (700, "kernel types: ", &FILE_FAULTS),
-    (720, "kernel types: BtfError ", &TYPE_FAULTS),
-    (740, "kernel types: ", &KERNEL_TYPES_FAULTS),
-    (800, "initial slots: ", &FILE_FAULTS),
-    (820, "initial slots: ", &INITIAL_SLOT_FAULTS),
-    (900, "kconfig: ", &KCONFIG_FAULTS),
+    Stage {
+        first: 0,
+        end: 100,
+        title: "",
+        errors: &GENERAL,
+    },
+    Stage {
+        first: 100,
+        end: 110,
+        title: "parse: ",
+        errors: &FILE_FAULTS,
+    },
+    Stage {
+        first: 110,
+        end: 120,
+        title: "parse: SectionError ",
+        errors: &FILE_FAULTS,
+    },
+    Stage {
+        first: 120,
+        end: 140,
+        title: "parse: BtfError ",
+        errors: &TYPE_FAULTS,
+    },
+    Stage {
+        first: 140,
+        end: 200,
+        title: "parse: ",
+        errors: &PARSE_FAULTS,
+    },
+    Stage {
+        first: 200,
+        end: 220,
+        title: "btf: ",
+        errors: &TYPE_FAULTS,
+    },
+    Stage {
+        first: 220,
+        end: 240,
+        title: "types: BtfError ",
+        errors: &TYPE_FAULTS,
+    },
+    Stage {
+        first: 240,
+        end: 300,
+        title: "types: ",
+        errors: &RECORD_FAULTS,
+    },
+    Stage {
+        first: 300,
+        end: 320,
+        title: "maps: ",
+        errors: &SLOT_FAULTS,
+    },
+    Stage {
+        first: 320,
+        end: 400,
+        title: "maps: ",
+        errors: &DESCRIPTOR_FAULTS,
+    },
+    Stage {
+        first: 400,
+        end: 420,
+        title: "ksyms: ",
+        errors: &EXTERN_FAULTS,
+    },
+    Stage {
+        first: 420,
+        end: 500,
+        title: "ksyms: BtfError ",
+        errors: &TYPE_FAULTS,
+    },
+    Stage {
+        first: 500,
+        end: 600,
+        title: "externs: ",
+        errors: &SLOT_FAULTS,
+    },
+    Stage {
+        first: 600,
+        end: 620,
+        title: "calls: ",
+        errors: &SLOT_FAULTS,
+    },
+    Stage {
+        first: 620,
+        end: 700,
+        title: "calls: ",
+        errors: &UNWRITTEN_FAULTS,
+    },
+    Stage {
+        first: 700,
+        end: 720,
+        title: "kernel types: ",
+        errors: &FILE_FAULTS,
+    },
+    Stage {
+        first: 720,
+        end: 740,
+        title: "kernel types: BtfError ",
+        errors: &TYPE_FAULTS,
+    },
+    Stage {
+        first: 740,
+        end: 800,
+        title: "kernel types: ",
+        errors: &KERNEL_TYPES_FAULTS,
+    },
+    Stage {
+        first: 800,
+        end: 820,
+        title: "initial slots: ",
+        errors: &FILE_FAULTS,
+    },
+    Stage {
+        first: 820,
+        end: 900,
+        title: "initial slots: ",
+        errors: &INITIAL_SLOT_FAULTS,
+    },
+    Stage {
+        first: 900,
+        end: 1000,
+        title: "kconfig: ",
+        errors: &KCONFIG_FAULTS,
+    },
 ];
 
-/// What a number says: the stage that answers it and the fault. Both are empty where it says nothing.
-pub fn name_of(number: u32) -> (&'static str, &'static str) {
-    let mut name = ("", "");
-    for (first, stage, faults) in &STAGES {
-        if *first > number {
-            continue;
-        }
-        name = match faults.get((number - *first) as usize) {
-            Some(fault) => (*stage, *fault),
-            None => ("", ""),
-        };
+/// Returns the title of a stage, and the error with a number; both are empty where the number has no name.
+fn name_in(stage: &Stage, number: u32) -> (&'static str, &'static str)
+    ensures { result.0.now ++ result.1.now ≡ name_in number (stage_value stage.now) }
+{
+    match stage
+        .errors
+        .get(number.saturating_sub(stage.first) as usize)
+    {
+        Some(error) => (stage.title, *error),
+        None => ("", ""),
     }
-    name
+}
+
+/// Returns the first of some stages that ends past a number.
+fn stage_of(stages: &[Stage], number: u32) -> Option<&Stage>
+    ensures { option_copied result ≡ find (λ s. nat_lt number s.end) stages.now }
+{
+    stages.iter().find(|stage| number < stage.end)
+}
+
+/// Returns the name of a number in the first of some stages that ends past it.
+fn name_by(stages: &[Stage], number: u32) -> (&'static str, &'static str)
+    ensures { result.0.now ++ result.1.now
+        ≡ name_found number (find (λ s. nat_lt number s.end) stages.now) }
+{
+    match stage_of(stages, number) {
+        Some(stage) => name_in(stage, number),
+        None => ("", ""),
+    }
+}
+
+/// Returns the name of a number in all stages.
+fn name_in_all(stages: &[Stage], number: u32) -> (&'static str, &'static str)
+    requires { map stage_value stages.now ≡ number_stages }
+    ensures { result.0.now ++ result.1.now ≡ number_name number }
+{
+    name_by(stages, number)
+}
+
+/// Returns the name of a number: the stage that answers it, and the error. Both are empty where the number has no name.
+pub fn name_of(number: u32) -> (&'static str, &'static str)
+    ensures { result.0.now ++ result.1.now ≡ number_name number }
+{
+    name_in_all(&STAGES, number)
 }

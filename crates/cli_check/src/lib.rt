@@ -3,6 +3,8 @@
 
 mod json;
 mod kernel_files;
+mod matrix;
+mod matrix_files;
 mod printing;
 mod run;
 mod session;

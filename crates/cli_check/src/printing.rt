@@ -5,6 +5,7 @@ use crate::verdict::Fate;
 use crate::verdict::findings::{Finding, FindingKey, Severity, SourceLocation};
 use cli_common::kinds::Kind;
 use cli_common::names::{EscapedName, last_part, write_value};
+use cli_output::palette::{Palette, TextStyle};
 use std::collections::{BTreeMap, BTreeSet};
 use std::io::{self, Write};
 
@@ -14,20 +15,26 @@ const NAMED: usize = 3;
 /// Writes the line of a kernel that is done.
 pub fn write_kernel<W: Write>(
     out: &mut W,
+    palette: Palette,
     kernel: &KernelAnswer,
     programs: usize,
 ) -> io::Result<()> {
     let name = EscapedName(kernel.name.as_str());
     let breaking = kernel.breaking();
     match &kernel.answer {
-        Judgement::Unread(_) => writeln!(out, "unread  -/{programs} programs  {name}"),
+        Judgement::Unread(_) => {
+            palette.write(out, TextStyle::Unsure, "unread")?;
+            writeln!(out, "  -/{programs} programs  {name}")
+        }
         Judgement::Judged(_) if breaking > 0 => {
-            write!(out, "breaks  {breaking}/{programs} programs  {name}")?;
+            palette.write(out, TextStyle::Bad, "breaks")?;
+            write!(out, "  {breaking}/{programs} programs  {name}")?;
             write_untargeted(out, kernel)
         }
         Judgement::Judged(_) => {
             let running = programs.saturating_sub(kernel.untargeted());
-            write!(out, "ok      {running}/{programs} programs  {name}")?;
+            palette.write(out, TextStyle::Good, "ok")?;
+            write!(out, "      {running}/{programs} programs  {name}")?;
             write_untargeted(out, kernel)
         }
     }
@@ -210,13 +217,27 @@ fn heading(severity: Severity) -> &'static str {
     }
 }
 
+/// The style of the line over the findings of a severity.
+fn heading_style(severity: Severity) -> TextStyle {
+    match severity {
+        Severity::Breaks => TextStyle::Bad,
+        Severity::NoTarget => TextStyle::Unsure,
+        Severity::Guarded | Severity::Changed => TextStyle::Heading,
+    }
+}
+
+/// Writes the line over the findings of a severity.
+fn write_heading<W: Write>(out: &mut W, palette: Palette, severity: Severity) -> io::Result<()> {
+    palette.write(out, heading_style(severity), heading(severity))?;
+    writeln!(out, "")
+}
+
 /// Writes the findings of a severity under its heading, where there are some.
 fn write_severity<W: Write>(out: &mut W, session: &Session, severity: Severity) -> io::Result<()> {
     if !session.has(severity) {
         return Ok(());
     }
-    let heading = heading(severity);
-    writeln!(out, "{heading}")?;
+    write_heading(out, session.palette, severity)?;
     for (key, found) in session.findings.by_key.iter() {
         if key.severity != severity {
             continue;
@@ -234,10 +255,12 @@ fn write_settings<W: Write>(out: &mut W, session: &Session) -> io::Result<()> {
     if session.loaded.needs.settings.is_empty() {
         return Ok(());
     }
-    writeln!(
+    session.palette.write(
         out,
-        "WANTED (of the kernel's configuration; not looked for)"
+        TextStyle::Heading,
+        "WANTED (of the kernel's configuration; not looked for)",
     )?;
+    writeln!(out, "")?;
     for name in session.loaded.needs.settings.iter() {
         let name = EscapedName(name.as_str());
         writeln!(out, "  {name}")?;
@@ -252,9 +275,11 @@ fn write_ok<W: Write>(out: &mut W, session: &Session) -> io::Result<()> {
     let programs = session.loaded.needs.programs.len();
     let untargeted = session.programs_with(Fate::NoTarget);
     let running = programs.saturating_sub(untargeted);
+    write!(out, "{file}: ")?;
+    session.palette.write(out, TextStyle::Good, "ok")?;
     write!(
         out,
-        "{file}: ok on {judged} of {judged} kernels, {running} of {programs} programs"
+        " on {judged} of {judged} kernels, {running} of {programs} programs"
     )?;
     match untargeted {
         0 => Ok(()),
@@ -276,9 +301,11 @@ fn write_summary<W: Write>(out: &mut W, session: &Session) -> io::Result<()> {
     if judged == 0 {
         write!(out, "{file}: no kernel to tell of")?;
     } else if broken > 0 {
+        write!(out, "{file}: ")?;
+        session.palette.write(out, TextStyle::Bad, "breaks")?;
         write!(
             out,
-            "{file}: breaks on {broken} of {judged} kernels, {breaking} of {programs} programs"
+            " on {broken} of {judged} kernels, {breaking} of {programs} programs"
         )?;
     } else {
         write_ok(out, session)?;

@@ -2,6 +2,7 @@
 
 use crate::json::write_json;
 use crate::kernel_files::{KernelFile, kernel_files};
+use crate::matrix_files::write_matrix;
 use crate::printing::{write_findings, write_kernel};
 use crate::session::{Judgement, Session};
 use crate::verdict::loaded::{Loaded, Needs, externs_with_values};
@@ -10,6 +11,8 @@ use cli_common::programs::ObjectProgram;
 use cli_common::refusal::{FileRefusal, READING};
 use cli_common::refuse::{Stop, chosen_programs, tell};
 use cli_common::vmlinux_btf::read_kernel;
+use cli_output::palette::{ColorChoice, Palette};
+use cli_output::progress::{KernelProgress, ProgressLine};
 use ebpf_base::{ByName, Items, Text};
 use ebpf_model::ExternDesc;
 use ebpf_object::Object;
@@ -33,6 +36,16 @@ pub struct CheckWords {
     pub strict: bool,
     /// Whether the output is JSON.
     pub json: bool,
+    /// The colours of the text.
+    pub color: ColorChoice,
+    /// Whether the progress is shown without a terminal too.
+    pub progress: bool,
+    /// Whether the reasons are printed as annotations of GitHub's workflows too.
+    pub annotations: bool,
+    /// The file of the page, where one is written.
+    pub html: Option<Text>,
+    /// The file of the log for code scanning, where one is written.
+    pub sarif: Option<Text>,
 }
 
 /// Programs without the optional ones.
@@ -161,10 +174,24 @@ fn write_last_kernel(out: &mut BufWriter<Stdout>, session: &Session) -> io::Resu
     let programs = session.loaded.needs.programs.len();
     match session.kernels.last() {
         Some(kernel) => {
-            write_kernel(out, kernel, programs)?;
+            write_kernel(out, session.palette, kernel, programs)?;
             out.flush()
         }
         None => Ok(()),
+    }
+}
+
+/// The progress over kernels, before one of them is judged.
+fn progress_of<'a>(
+    session: &Session,
+    kernels: &[KernelFile],
+    current: &'a KernelFile,
+) -> KernelProgress<'a> {
+    KernelProgress {
+        done: session.kernels.len(),
+        all: kernels.len(),
+        broken: session.broken(),
+        current: current.path.as_str(),
     }
 }
 
@@ -176,8 +203,14 @@ fn judge_kernels(
     kernels: &[KernelFile],
     out: &mut BufWriter<Stdout>,
 ) -> Result<(), Stop> {
+    let mut line = ProgressLine::new(rt, words.progress);
     for kernel in kernels {
-        judge_kernel_file(rt, session, kernel)?;
+        if line.is_due(rt) {
+            line.show(rt, progress_of(session, kernels, kernel));
+        }
+        let judged = judge_kernel_file(rt, session, kernel);
+        line.clear(rt);
+        judged?;
         report_unread(rt, session);
         if !words.json {
             write_last_kernel(out, session)?;
@@ -210,6 +243,7 @@ fn check_files(
     let mut out = BufWriter::new(rt.alloc(), rt.stdout())?;
     judge_kernels(rt, words, session, kernels, &mut out)?;
     write_output(words, session, &mut out)?;
+    write_matrix(rt, words, session, &mut out)?;
     Ok(session.status())
 }
 
@@ -224,6 +258,7 @@ fn check_kernels(rt: &HostRuntime, words: &CheckWords, session: &mut Session) ->
 pub fn check(rt: &HostRuntime, words: &CheckWords) -> Result<u8, Stop> {
     let name = words.file.clone()?;
     let loaded = load(rt, words)?;
-    let mut session = Session::new(rt.alloc(), name, loaded, words.all, words.strict);
+    let palette = Palette::of(rt, words.color);
+    let mut session = Session::new(rt.alloc(), name, loaded, palette, words.all, words.strict);
     check_kernels(rt, words, &mut session)
 }

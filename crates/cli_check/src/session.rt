@@ -7,6 +7,7 @@ use crate::verdict::findings::{Findings, Severity};
 use crate::verdict::loaded::Loaded;
 use crate::verdict::{Fate, judge_kernel};
 use cli_common::refusal::FileRefusal;
+use cli_output::palette::Palette;
 use ebpf_base::Text;
 use ebpf_btf::Btf;
 use std::alloc::{AllocError, Global};
@@ -34,6 +35,8 @@ pub struct KernelAnswer {
 pub struct Session {
     /// The name of the object's file.
     pub file: Text,
+    /// The colours of the text.
+    pub palette: Palette,
     /// Whether every kernel is named.
     pub all: bool,
     /// Whether a program without a target makes the status 1.
@@ -91,9 +94,17 @@ impl KernelAnswer {
 
 impl Session {
     /// An object, over no kernel yet.
-    pub fn new(alloc: Global, file: Text, loaded: Loaded, all: bool, strict: bool) -> Session {
+    pub fn new(
+        alloc: Global,
+        file: Text,
+        loaded: Loaded,
+        palette: Palette,
+        all: bool,
+        strict: bool,
+    ) -> Session {
         Session {
             file,
+            palette,
             all,
             strict,
             loaded,

@@ -2,6 +2,7 @@
 #![tactic(auto)]
 
 mod chain;
+mod graphs;
 mod json;
 mod kernel_calls;
 mod parts;
@@ -9,4 +10,4 @@ mod run;
 mod text;
 mod uses;
 
-pub use run::inspect;
+pub use run::{InspectWords, inspect};

@@ -1,16 +1,30 @@
 //! The command `ebpf inspect`.
 
+use crate::graphs::graphs_of;
 use crate::json::write_json;
 use crate::parts::{ProgramParts, all_parts};
 use crate::text::write_inspected;
 use crate::uses::FunctionUses;
 use cli_common::programs::ObjectProgram;
 use cli_common::refuse::Stop;
+use cli_formats::graph::{GraphLanguage, write_graphs};
+use cli_output::palette::{ColorChoice, Palette};
 use cli_prepare::{PrepareWords, Prepared, prepare_file};
 use ebpf_base::Items;
 use ebpf_object::Object;
 use ebpf_object::relocation::LinkMap;
 use std::io::{BufWriter, Write};
+
+/// The arguments of `ebpf inspect`.
+#[derive(Drop)]
+pub struct InspectWords {
+    /// The object, and what it is prepared with.
+    pub prepare: PrepareWords,
+    /// The language of the graph, where one is printed.
+    pub graph: Option<GraphLanguage>,
+    /// The colours of the text.
+    pub color: ColorChoice,
+}
 
 /// The parts of a prepared object that are printed.
 #[derive(Drop)]
@@ -47,17 +61,33 @@ impl Told {
 /// Writes the parts of programs, as text or as JSON.
 fn write_parts(
     rt: &HostRuntime,
-    words: &PrepareWords,
+    words: &InspectWords,
     parsed: &Object,
     programs: &[ProgramParts<'_>],
 ) -> Result<(), Stop> {
     let alloc = rt.alloc();
     let mut out = BufWriter::new(alloc, rt.stdout())?;
-    if words.json {
-        write_json(&mut out, words.file.as_str(), programs)?;
+    if words.prepare.json {
+        write_json(&mut out, words.prepare.file.as_str(), programs)?;
     } else {
-        write_inspected(alloc, &mut out, parsed, programs)?;
+        let palette = Palette::of(rt, words.color);
+        write_inspected(alloc, &mut out, palette, parsed, programs)?;
     }
+    out.flush()?;
+    Ok(())
+}
+
+/// Writes programs as a graph; `uses` has what their functions use.
+fn write_graph(
+    rt: &HostRuntime,
+    language: GraphLanguage,
+    uses: &FunctionUses,
+    programs: &[ProgramParts<'_>],
+) -> Result<(), Stop> {
+    let alloc = rt.alloc();
+    let graphs = graphs_of(alloc, uses, programs)?;
+    let mut out = BufWriter::new(alloc, rt.stdout())?;
+    write_graphs(&mut out, language, &graphs)?;
     out.flush()?;
     Ok(())
 }
@@ -65,24 +95,27 @@ fn write_parts(
 /// Tells what the programs of an object are made of; `uses` has what its functions use.
 fn tell_parts(
     rt: &HostRuntime,
-    words: &PrepareWords,
+    words: &InspectWords,
     told: &Told,
     uses: &FunctionUses,
 ) -> Result<(), Stop> {
     let maps = told.link_maps.as_slice();
     let programs = all_parts(rt.alloc(), uses, &told.programs, maps)?;
-    write_parts(rt, words, &told.parsed, &programs)
+    match words.graph {
+        Some(language) => write_graph(rt, language, uses, &programs),
+        None => write_parts(rt, words, &told.parsed, &programs),
+    }
 }
 
-/// Tells what the programs of an object are made of, as text or as JSON.
-fn tell(rt: &HostRuntime, words: &PrepareWords, told: &Told) -> Result<(), Stop> {
+/// Tells what the programs of an object are made of, as text, as JSON or as a graph.
+fn tell(rt: &HostRuntime, words: &InspectWords, told: &Told) -> Result<(), Stop> {
     let uses = FunctionUses::of(rt.alloc(), &told.parsed)?;
     tell_parts(rt, words, told, &uses)
 }
 
 /// Runs `ebpf inspect`, and returns the status.
-pub fn inspect(rt: &HostRuntime, words: &PrepareWords) -> Result<u8, Stop> {
-    let told = Told::of(prepare_file(rt, words)?);
+pub fn inspect(rt: &HostRuntime, words: &InspectWords) -> Result<u8, Stop> {
+    let told = Told::of(prepare_file(rt, &words.prepare)?);
     let done = tell(rt, words, &told);
     drop(told);
     done?;

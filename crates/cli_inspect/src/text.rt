@@ -6,6 +6,7 @@ use cli_common::names::EscapedName;
 use cli_common::refuse::Stop;
 use cli_common::table::{Column, Table};
 use cli_common::types::program_type_name;
+use cli_output::palette::{Palette, TextStyle};
 use ebpf_object::Object;
 use ebpf_object::relocation::{CodeCopy, PlacedReference};
 use std::alloc::{AllocError, Global};
@@ -43,10 +44,27 @@ fn push_program(table: &mut Table<'_>, parts: &ProgramParts<'_>) -> Result<(), A
     table.push_text(parts.program.name.as_str())
 }
 
+/// Writes a table under its title and a number, that of its rows; nothing where it is 0.
+fn write_table<W: Write>(
+    out: &mut W,
+    palette: Palette,
+    title: &str,
+    rows: usize,
+    table: &Table<'_>,
+) -> Result<(), Stop> {
+    if rows == 0 {
+        return Ok(());
+    }
+    let (start, end) = (palette.start(TextStyle::Heading), palette.end());
+    writeln!(out, "{start}{title} {rows}{end}")?;
+    Ok(table.write(out)?)
+}
+
 /// Writes the programs beside the kernel's limits.
 fn write_programs<W: Write>(
     alloc: Global,
     out: &mut W,
+    palette: Palette,
     programs: &[ProgramParts<'_>],
 ) -> Result<(), Stop> {
     let mut table = Table::new(alloc, &PROGRAM_COLUMNS)?;
@@ -56,7 +74,7 @@ fn write_programs<W: Write>(
     if programs.is_empty() {
         writeln!(out, "PROGRAMS 0")?;
     }
-    Ok(table.write_under(out, "PROGRAMS", programs.len())?)
+    write_table(out, palette, "PROGRAMS", programs.len(), &table)
 }
 
 /// The columns of copies of functions.
@@ -81,12 +99,17 @@ fn push_copy(table: &mut Table<'_>, copy: &CodeCopy) -> Result<(), AllocError> {
 }
 
 /// Writes the copies that a program is made of.
-fn write_copies<W: Write>(alloc: Global, out: &mut W, copies: &[CodeCopy]) -> Result<(), Stop> {
+fn write_copies<W: Write>(
+    alloc: Global,
+    out: &mut W,
+    palette: Palette,
+    copies: &[CodeCopy],
+) -> Result<(), Stop> {
     let mut table = Table::new(alloc, &COPY_COLUMNS)?;
     for copy in copies {
         push_copy(&mut table, copy)?;
     }
-    Ok(table.write_under(out, "COPIES", copies.len())?)
+    write_table(out, palette, "COPIES", copies.len(), &table)
 }
 
 /// The columns of references.
@@ -129,6 +152,7 @@ fn push_reference(
 fn write_references<W: Write>(
     alloc: Global,
     out: &mut W,
+    palette: Palette,
     parts: &ProgramParts<'_>,
 ) -> Result<(), Stop> {
     let mut table = Table::new(alloc, &REFERENCE_COLUMNS)?;
@@ -137,7 +161,7 @@ fn write_references<W: Write>(
     for (reference, edge) in references.iter().zip(parts.edges.iter()) {
         push_reference(&mut table, copies, reference, *edge)?;
     }
-    Ok(table.write_under(out, "REFERENCES", references.len())?)
+    write_table(out, palette, "REFERENCES", references.len(), &table)
 }
 
 /// The columns of maps.
@@ -156,6 +180,7 @@ fn push_map(table: &mut Table<'_>, object: &Object, name: &str) -> Result<(), Al
 fn write_maps<W: Write>(
     alloc: Global,
     out: &mut W,
+    palette: Palette,
     object: &Object,
     names: &BTreeSet<&str>,
 ) -> Result<(), Stop> {
@@ -163,7 +188,7 @@ fn write_maps<W: Write>(
     for name in names.iter() {
         push_map(&mut table, object, name)?;
     }
-    Ok(table.write_under(out, "MAPS", names.len())?)
+    write_table(out, palette, "MAPS", names.len(), &table)
 }
 
 /// The columns of helper functions.
@@ -173,6 +198,7 @@ const HELPER_COLUMNS: [Column; 2] = [Column::Number("NUMBER"), Column::Word("NAM
 fn write_helpers<W: Write>(
     alloc: Global,
     out: &mut W,
+    palette: Palette,
     helpers: &BTreeSet<u32>,
 ) -> Result<(), Stop> {
     let mut table = Table::new(alloc, &HELPER_COLUMNS)?;
@@ -180,7 +206,7 @@ fn write_helpers<W: Write>(
         table.push_number(*helper as usize)?;
         table.push_helper(u64::from(*helper))?;
     }
-    Ok(table.write_under(out, "HELPERS", helpers.len())?)
+    write_table(out, palette, "HELPERS", helpers.len(), &table)
 }
 
 /// The columns of functions of the kernel.
@@ -190,19 +216,21 @@ const KERNEL_COLUMNS: [Column; 1] = [Column::Word("NAME")];
 fn write_kernel_functions<W: Write>(
     alloc: Global,
     out: &mut W,
+    palette: Palette,
     names: &BTreeSet<&str>,
 ) -> Result<(), Stop> {
     let mut table = Table::new(alloc, &KERNEL_COLUMNS)?;
     for name in names.iter() {
         table.push_text(name)?;
     }
-    Ok(table.write_under(out, "KERNEL FUNCTIONS", names.len())?)
+    write_table(out, palette, "KERNEL FUNCTIONS", names.len(), &table)
 }
 
 /// Writes what a program is made of, below its name and its size.
 fn write_program<W: Write>(
     alloc: Global,
     out: &mut W,
+    palette: Palette,
     object: &Object,
     parts: &ProgramParts<'_>,
 ) -> Result<(), Stop> {
@@ -210,23 +238,24 @@ fn write_program<W: Write>(
     let slots = parts.slots;
     let bytes = slots.saturating_mul(8);
     writeln!(out, "\n{name}: {slots} slots, {bytes} bytes")?;
-    write_copies(alloc, out, parts.map.copies.as_slice())?;
-    write_references(alloc, out, parts)?;
-    write_maps(alloc, out, object, &parts.uses.maps)?;
-    write_helpers(alloc, out, &parts.uses.helpers)?;
-    write_kernel_functions(alloc, out, &parts.uses.kernel_functions)
+    write_copies(alloc, out, palette, parts.map.copies.as_slice())?;
+    write_references(alloc, out, palette, parts)?;
+    write_maps(alloc, out, palette, object, &parts.uses.maps)?;
+    write_helpers(alloc, out, palette, &parts.uses.helpers)?;
+    write_kernel_functions(alloc, out, palette, &parts.uses.kernel_functions)
 }
 
 /// Writes what the programs of an object are made of.
 pub fn write_inspected<W: Write>(
     alloc: Global,
     out: &mut W,
+    palette: Palette,
     object: &Object,
     programs: &[ProgramParts<'_>],
 ) -> Result<(), Stop> {
-    write_programs(alloc, out, programs)?;
+    write_programs(alloc, out, palette, programs)?;
     for parts in programs {
-        write_program(alloc, out, object, parts)?;
+        write_program(alloc, out, palette, object, parts)?;
     }
     Ok(())
 }

@@ -61,6 +61,14 @@ impl FunctionUses {
         Ok(())
     }
 
+    /// The maps that the function of a key uses.
+    pub fn maps_of(&self, key: (usize, u64)) -> &[MapUse] {
+        match self.maps.get(key) {
+            Some(maps) => maps.as_slice(),
+            None => &[],
+        }
+    }
+
     /// What a program of these copies uses.
     pub fn of_program<'a>(
         &'a self,

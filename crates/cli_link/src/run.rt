@@ -9,6 +9,7 @@ use crate::record_words::RecordTeller;
 use cli_common::names::EscapedName;
 use cli_common::programs::ObjectProgram;
 use cli_common::refuse::Stop;
+use cli_output::palette::{ColorChoice, Palette, TextStyle};
 use cli_prepare::{Opened, PrepareWords, Prepared, open_file, prepare_file, refuse_preparing};
 use ebpf_model::Function;
 use ebpf_object::Object;
@@ -24,11 +25,14 @@ pub struct LinkWords {
     pub bytes: bool,
     /// Whether instructions are printed under their source lines.
     pub lines: bool,
+    /// The colours of the text.
+    pub color: ColorChoice,
 }
 
 /// Writes the line of a program: behind an empty one unless it is the first.
 fn write_name<W: Write>(
     out: &mut W,
+    palette: Palette,
     program: &ObjectProgram,
     function: &Function,
     is_first: bool,
@@ -38,13 +42,15 @@ fn write_name<W: Write>(
     }
     let name = EscapedName(program.name.as_str());
     let slots = function.instructions.len();
-    writeln!(out, "program {name} slots {slots}")
+    let (start, end) = (palette.start(TextStyle::Heading), palette.end());
+    writeln!(out, "{start}program {name} slots {slots}{end}")
 }
 
 /// Writes the programs.
 fn write_programs<'a, W: Write>(
     alloc: Global,
     out: &mut W,
+    palette: Palette,
     prepared: &'a Prepared,
     origins: &Origins<'a>,
     lines: bool,
@@ -56,7 +62,7 @@ fn write_programs<'a, W: Write>(
         let Some(function) = prepared.object.functions.get(program.key) else {
             continue;
         };
-        write_name(out, program, function, is_first)?;
+        write_name(out, palette, program, function, is_first)?;
         let linked = ShownProgram::new(alloc, function, map, lines)?;
         write_instructions(out, &mut teller, origins, &linked)?;
         is_first = false;
@@ -67,29 +73,30 @@ fn write_programs<'a, W: Write>(
 /// Writes the programs of an object, with the origins of their slots, to the standard output.
 fn write_output<'a>(
     rt: &HostRuntime,
+    words: &LinkWords,
     prepared: &'a Prepared,
     origins: &Origins<'a>,
-    lines: bool,
 ) -> Result<(), Stop> {
     let alloc = rt.alloc();
+    let palette = Palette::of(rt, words.color);
     let mut out = BufWriter::new(alloc, rt.stdout())?;
-    write_programs(alloc, &mut out, prepared, origins, lines)?;
+    write_programs(alloc, &mut out, palette, prepared, origins, words.lines)?;
     out.flush()?;
     Ok(())
 }
 
 /// Writes the programs of an object.
-fn write_prepared(rt: &HostRuntime, prepared: &Prepared, lines: bool) -> Result<(), Stop> {
+fn write_prepared(rt: &HostRuntime, words: &LinkWords, prepared: &Prepared) -> Result<(), Stop> {
     let (alloc, parsed) = (rt.alloc(), &prepared.parsed);
     let notes = RecordNotes::of(alloc, parsed, prepared.records.as_slice())?;
     let origins = Origins::new(alloc, &prepared.object, parsed, &notes)?;
-    write_output(rt, prepared, &origins, lines)
+    write_output(rt, words, prepared, &origins)
 }
 
 /// Writes the programs of the object of a file as instructions, behind their source lines where these are wanted.
-fn link_as_instructions(rt: &HostRuntime, words: &PrepareWords, lines: bool) -> Result<(), Stop> {
-    let prepared = prepare_file(rt, words)?;
-    let written = write_prepared(rt, &prepared, lines);
+fn link_as_instructions(rt: &HostRuntime, words: &LinkWords) -> Result<(), Stop> {
+    let prepared = prepare_file(rt, &words.prepare)?;
+    let written = write_prepared(rt, words, &prepared);
     drop(prepared);
     written
 }
@@ -137,7 +144,7 @@ pub fn link(rt: &HostRuntime, words: &LinkWords) -> Result<u8, Stop> {
     if words.bytes {
         link_as_bytes(rt, &words.prepare)?;
     } else {
-        link_as_instructions(rt, &words.prepare, words.lines)?;
+        link_as_instructions(rt, words)?;
     }
     Ok(0)
 }

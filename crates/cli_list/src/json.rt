@@ -2,7 +2,7 @@
 
 use crate::layout::ListedLayout;
 use crate::listing::{Extern, ObjectListing};
-use crate::text::{extern_word, order_word, pinning_word};
+use crate::tables::{extern_word, order_word, pinning_word};
 use cli_common::helper_calls::write_helper;
 use cli_common::json::{JsonWriter, write_document};
 use cli_common::programs::ObjectProgram;

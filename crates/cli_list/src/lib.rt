@@ -4,8 +4,10 @@
 mod json;
 mod layout;
 mod listing;
+mod page;
 mod records;
 mod run;
+mod tables;
 mod text;
 mod users;
 

@@ -3,9 +3,11 @@
 use crate::json::write_json;
 use crate::layout::ListedLayout;
 use crate::listing::{ObjectContents, layouts_of, listing_of, wanted_by};
+use crate::page::write_page;
 use crate::text::write_listing;
 use cli_common::object_file::{parsed_object, read_object};
 use cli_common::refuse::Stop;
+use cli_output::palette::{ColorChoice, Palette};
 use ebpf_base::{Items, Text};
 use ebpf_object::Object;
 use std::io::{BufWriter, Write};
@@ -19,9 +21,13 @@ pub struct ListWords {
     pub object: Option<usize>,
     /// Whether the output is JSON.
     pub json: bool,
+    /// The colours of the text.
+    pub color: ColorChoice,
+    /// The file of the page, where one is written.
+    pub html: Option<Text>,
 }
 
-/// Prints the contents of an object, as text or as JSON.
+/// Prints the contents of an object, as text or as JSON, and writes its page.
 fn tell(
     rt: &HostRuntime,
     words: &ListWords,
@@ -35,10 +41,14 @@ fn tell(
     if words.json {
         write_json(&mut out, words.file.as_str(), &listing)?;
     } else {
-        write_listing(alloc, &mut out, words.file.as_str(), &listing)?;
+        let palette = Palette::of(rt, words.color);
+        write_listing(alloc, &mut out, palette, words.file.as_str(), &listing)?;
     }
     out.flush()?;
-    Ok(())
+    match &words.html {
+        Some(path) => write_page(rt, path.as_str(), words.file.as_str(), &listing),
+        None => Ok(()),
+    }
 }
 
 /// Prints the contents of an object, and writes its externs meanwhile.

@@ -1,16 +1,18 @@
 //! The help texts of `ebpf`.
 
 /// The usage line of `ebpf`.
-pub const USAGE: &str = "usage: ebpf check | inspect | link | list FILE ..   (see ebpf --help)";
+pub const USAGE: &str =
+    "usage: ebpf btf | check | inspect | link | list FILE ..   (see ebpf --help)";
 
 /// The usage line of `ebpf check`.
 pub const CHECK_USAGE: &str =
-    "usage: ebpf check FILE [KERNEL ..] [--object N] [--program NAME ..] [--all] [--strict] [--json]";
+    "usage: ebpf check FILE [KERNEL ..] [--object N] [--program NAME ..] [--all] [--strict] [--format text | json | github] [--html FILE] [--sarif FILE] [--color WHEN] [--progress]";
 
 /// What `ebpf --help` prints.
 pub const HELP: &str = "usage: ebpf COMMAND ..
        ebpf --help | --version
 
+  btf      write the least BTF that objects need of a kernel
   check    check on which kernels the programs of an object run
   inspect  show the parts of linked programs, and the kernel's limits
   link     print finished programs as instructions or bytes
@@ -30,15 +32,47 @@ fields, types and enumerators that they need and the kernel lacks.
   --program NAME  check this program only; may be repeated
   --all           list every kernel, and each field whose offset changes
   --strict        exit with 1 also if the kernel has no type of a program's attach target
-  -j, --json      print JSON
+  --html FILE     write a page with programs by kernels and the reasons to FILE
+  --sarif FILE    write what breaks, by source line, to FILE as SARIF 2.1.0
+  --format FORM   print text, json, or github: text, then annotations for GitHub's workflows
+  -j, --json      print JSON, as --format json
+  --color WHEN    use colours: auto (on a terminal, unless NO_COLOR is set), always, never
+  --progress      show the progress on standard error, also if that is no terminal
   -h, --help      print this help
   -V, --version   print the version
 
 Exit status: 0 if each program runs on each kernel; 1 if a program breaks, or FILE is
 refused; 2 on invalid usage, or if a file or a kernel's BTF can't be read.";
 
+/// The usage line of `ebpf btf`.
+pub const BTF_USAGE: &str =
+    "usage: ebpf btf FILE .. --btf KERNEL --output FILE [--object N] [--allow-ids] [--json]";
+
+/// What `ebpf btf --help` prints after the usage line.
+pub const BTF_HELP: &str = "
+Writes the least BTF that eBPF object files need of a kernel: the types, members and
+enumerators that their CO-RE relocations ask for. Each relocation has the same outcome
+as over the kernel's BTF. Loaders take the file in its place, as libbpf's
+btf_custom_path.
+
+  FILE            an object file of clang, or an executable that contains objects
+  --btf KERNEL    the BTF of a kernel: raw BTF, an ELF file with a .BTF section, or a
+                  folder of such files
+  --output FILE   the file to write, or with a folder of kernels the folder for files of
+                  the same names
+  --object N      select the Nth object of FILE; default: all objects of FILE
+  --allow-ids     write the file even if FILE needs ids of the kernel's types, which
+                  are others in it
+  -j, --json      print JSON
+  -h, --help      print this help
+  -V, --version   print the version
+
+Exit status: 0; 1 if FILE is refused, or needs ids of the kernel's types; 2 on invalid
+usage, if a file or a kernel's BTF can't be read, or if a file can't be written.";
+
 /// The usage line of `ebpf list`.
-pub const LIST_USAGE: &str = "usage: ebpf list FILE [--object N] [--json]";
+pub const LIST_USAGE: &str =
+    "usage: ebpf list FILE [--object N] [--html FILE] [--json] [--color WHEN]";
 
 /// What `ebpf list --help` prints after the usage line.
 pub const LIST_HELP: &str = "
@@ -48,7 +82,9 @@ kconfig externs, its CO-RE relocations, and the functions that no program reache
 
   FILE            an object file of clang, or an executable that contains objects
   --object N      select the Nth object of FILE
+  --html FILE     write a page with the same contents to FILE
   -j, --json      print JSON
+  --color WHEN    use colours: auto (on a terminal, unless NO_COLOR is set), always, never
   -h, --help      print this help
   -V, --version   print the version
 
@@ -56,7 +92,7 @@ Exit status: 0; 1 if FILE is refused; 2 on invalid usage, or if FILE can't be re
 
 /// The usage line of `ebpf inspect`.
 pub const INSPECT_USAGE: &str =
-    "usage: ebpf inspect FILE [--object N] [--btf FILE] [--kallsyms FILE] [--kconfig FILE] [--kernel VERSION] [--program NAME ..] [--json]";
+    "usage: ebpf inspect FILE [--object N] [--btf FILE] [--kallsyms FILE] [--kconfig FILE] [--kernel VERSION] [--program NAME ..] [--dot | --json | --mermaid] [--color WHEN]";
 
 /// What `ebpf inspect --help` prints after the usage line.
 pub const INSPECT_HELP: &str = "
@@ -71,7 +107,10 @@ use, and how close they are to the kernel's limits.
   --kconfig FILE    the kernel's configuration, such as /boot/config-6.12
   --kernel VERSION  the kernel's version, such as 6.12 or 6.12.3
   --program NAME    show this program only; may be repeated
+  --dot             print the graph of functions and maps for Graphviz
+  --mermaid         print it as a flowchart of Mermaid
   -j, --json        print JSON
+  --color WHEN      use colours: auto (on a terminal, unless NO_COLOR is set), always, never
   -h, --help        print this help
   -V, --version     print the version
 
@@ -80,7 +119,7 @@ or if a file can't be read.";
 
 /// The usage line of `ebpf link`.
 pub const LINK_USAGE: &str =
-    "usage: ebpf link FILE [--object N] [--btf FILE] [--kallsyms FILE] [--kconfig FILE] [--kernel VERSION] [--program NAME ..] [--bytes] [--lines]";
+    "usage: ebpf link FILE [--object N] [--btf FILE] [--kallsyms FILE] [--kconfig FILE] [--kernel VERSION] [--program NAME ..] [--bytes] [--lines] [--color WHEN]";
 
 /// What `ebpf link --help` prints after the usage line.
 pub const LINK_HELP: &str = "
@@ -97,6 +136,7 @@ descriptors and externs written. Notes name what was called, loaded and relocate
   --program NAME    print this program only; may be repeated
   --bytes           print the bytes of each instruction
   --lines           print source lines above the instructions
+  --color WHEN      use colours: auto (on a terminal, unless NO_COLOR is set), always, never
   -h, --help        print this help
   -V, --version     print the version
 

@@ -1,10 +1,12 @@
 //! From the words of a command line to a status.
 
 use crate::help::{
-    CHECK_HELP, CHECK_USAGE, HELP, INSPECT_HELP, INSPECT_USAGE, LINK_HELP, LINK_USAGE, LIST_HELP,
-    LIST_USAGE, USAGE, VERSION,
+    BTF_HELP, BTF_USAGE, CHECK_HELP, CHECK_USAGE, HELP, INSPECT_HELP, INSPECT_USAGE, LINK_HELP,
+    LINK_USAGE, LIST_HELP, LIST_USAGE, USAGE, VERSION,
 };
-use crate::words::{Invocation, InvocationError, Verb, read_words};
+use crate::invocation_error::InvocationError;
+use crate::words::{Invocation, Verb, read_words};
+use cli_btf::btf;
 use cli_check::check;
 use cli_common::names::EscapedName;
 use cli_common::object_file::gather_words;
@@ -18,6 +20,7 @@ use std::process::ExitCode;
 /// The usage line of a command.
 fn usage_of(verb: Verb) -> &'static str {
     match verb {
+        Verb::Btf => BTF_USAGE,
         Verb::Check => CHECK_USAGE,
         Verb::List => LIST_USAGE,
         Verb::Inspect => INSPECT_USAGE,
@@ -28,6 +31,7 @@ fn usage_of(verb: Verb) -> &'static str {
 /// The text that `--help` of a command prints below the usage line.
 fn help_of(verb: Verb) -> &'static str {
     match verb {
+        Verb::Btf => BTF_HELP,
         Verb::Check => CHECK_HELP,
         Verb::List => LIST_HELP,
         Verb::Inspect => INSPECT_HELP,
@@ -64,6 +68,7 @@ fn obey(rt: &HostRuntime, command: &Invocation) -> Result<u8, Stop> {
             tell(rt, help_of(*verb))
         }
         Invocation::Version => tell(rt, VERSION),
+        Invocation::Btf(words) => btf(rt, words),
         Invocation::Check(words) => check(rt, words),
         Invocation::List(words) => list(rt, words),
         Invocation::Inspect(words) => inspect(rt, words),

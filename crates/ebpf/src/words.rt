@@ -1,16 +1,22 @@
 //! The words of a command line of `ebpf`.
 
+use crate::choices::{Choice, choice_of, has_value};
+use crate::invocation_error::InvocationError;
+use cli_btf::BtfWords;
 use cli_check::CheckWords;
+use cli_formats::graph::GraphLanguage;
+use cli_inspect::InspectWords;
 use cli_link::LinkWords;
 use cli_list::ListWords;
+use cli_output::palette::ColorChoice;
 use cli_prepare::{PrepareWords, version_number};
 use ebpf_base::{Items, Text};
-use std::alloc::{AllocError, AllocFailed, Global};
-use thiserror::Error;
+use std::alloc::{AllocError, Global};
 
 /// A command that reads an object.
 #[derive(Clone, Copy, PartialEq, Eq)]
 pub enum Verb {
+    Btf,
     Check,
     List,
     Inspect,
@@ -21,6 +27,7 @@ impl Verb {
     /// The command of a name.
     pub fn named(name: &str) -> Option<Verb> {
         match name {
+            "btf" => Some(Verb::Btf),
             "check" => Some(Verb::Check),
             "list" => Some(Verb::List),
             "inspect" => Some(Verb::Inspect),
@@ -29,8 +36,13 @@ impl Verb {
         }
     }
 
+    /// Whether options may select programs.
+    pub fn selects_programs(self) -> bool {
+        matches!(self, Verb::Check | Verb::Inspect | Verb::Link)
+    }
+
     /// Whether it links programs, for a kernel that options may name.
-    fn links(self) -> bool {
+    pub fn links(self) -> bool {
         matches!(self, Verb::Inspect | Verb::Link)
     }
 }
@@ -44,102 +56,16 @@ pub enum Invocation {
     VerbHelp(Verb),
     /// The program's version.
     Version,
+    /// The least types that objects need of kernels.
+    Btf(BtfWords),
     /// An object's programs over kernels.
     Check(CheckWords),
     /// What an object has.
     List(ListWords),
     /// What an object's linked programs are made of.
-    Inspect(PrepareWords),
+    Inspect(InspectWords),
     /// An object's linked programs.
     Link(LinkWords),
-}
-
-/// Why words can't be read.
-#[derive(Clone, Copy, Debug, Error)]
-pub enum InvocationError<'a> {
-    /// There is no word.
-    #[error("no command")]
-    NoCommand,
-    /// The first word is no command.
-    #[error("no command {0}")]
-    UnknownCommand(&'a str),
-    /// A word is no option that the command has.
-    #[error("no option {0}")]
-    UnknownOption(&'a str),
-    /// An option is without its value.
-    #[error("{0} needs a value")]
-    NoValue(&'a str),
-    /// An option has a value that it doesn't take.
-    #[error("{0} takes no value")]
-    NeedlessValue(&'a str),
-    /// An option that is given once has a second value.
-    #[error("{0} is given twice")]
-    SecondValue(&'a str),
-    /// An option has a value that is no number.
-    #[error("{name} takes a number, and not {value}")]
-    NoNumber { name: &'a str, value: &'a str },
-    /// An option has a value that is no version of a kernel.
-    #[error("{name} takes a version, as 6.12 or 6.12.3, and not {value}")]
-    NoVersion { name: &'a str, value: &'a str },
-    /// No file is named.
-    #[error("no FILE")]
-    NoFile,
-    /// A second file is named, of a command that takes one.
-    #[error("one FILE, and not {0}")]
-    SecondFile(&'a str),
-    /// No memory was found.
-    #[error("out of memory")]
-    OutOfMemory,
-}
-
-impl From<AllocError> for InvocationError<'_> {
-    fn from(_error: AllocError) -> Self {
-        InvocationError::OutOfMemory
-    }
-}
-
-impl<T: Drop> From<AllocFailed<T>> for InvocationError<'_> {
-    fn from(_error: AllocFailed<T>) -> Self {
-        InvocationError::OutOfMemory
-    }
-}
-
-/// An option of a command.
-#[derive(Clone, Copy, PartialEq, Eq)]
-enum Choice {
-    Program,
-    Object,
-    Btf,
-    Kallsyms,
-    Kconfig,
-    Kernel,
-    All,
-    Strict,
-    Bytes,
-    Lines,
-    Json,
-    Help,
-    Version,
-}
-
-/// The option of a name that a command has.
-fn choice_of(verb: Verb, name: &str) -> Option<Choice> {
-    match name {
-        "--program" if verb != Verb::List => Some(Choice::Program),
-        "--object" => Some(Choice::Object),
-        "--btf" if verb.links() => Some(Choice::Btf),
-        "--kallsyms" if verb.links() => Some(Choice::Kallsyms),
-        "--kconfig" if verb.links() => Some(Choice::Kconfig),
-        "--kernel" if verb.links() => Some(Choice::Kernel),
-        "--all" if verb == Verb::Check => Some(Choice::All),
-        "--strict" if verb == Verb::Check => Some(Choice::Strict),
-        "--bytes" if verb == Verb::Link => Some(Choice::Bytes),
-        "--lines" if verb == Verb::Link => Some(Choice::Lines),
-        "-j" | "--json" if verb != Verb::Link => Some(Choice::Json),
-        "-h" | "--help" => Some(Choice::Help),
-        "-V" | "--version" => Some(Choice::Version),
-        _ => None,
-    }
 }
 
 /// Whether a word is an option where options may stand. A single dash is a file's name.
@@ -158,6 +84,14 @@ fn split_option(word: &str) -> (&str, Option<&str>) {
     }
 }
 
+/// The form of what `ebpf check` prints.
+#[derive(Clone, Copy, PartialEq, Eq)]
+enum Form {
+    Text,
+    Json,
+    GitHub,
+}
+
 /// What words have said so far: options without a value, and the values of those that are given once, as they are or as
 /// the numbers that they say.
 #[derive(Drop)]
@@ -168,6 +102,8 @@ struct Options<'a> {
     values: Vec<(Choice, &'a str)>,
     object: Option<usize>,
     kernel: Option<u32>,
+    form: Option<Form>,
+    color: ColorChoice,
 }
 
 /// Copies of words.
@@ -203,17 +139,32 @@ fn version_of<'a>(name: &'a str, value: &'a str) -> Result<u32, InvocationError<
     }
 }
 
-/// Whether an option has a value.
-fn has_value(choice: Choice) -> bool {
-    matches!(
-        choice,
-        Choice::Program
-            | Choice::Object
-            | Choice::Btf
-            | Choice::Kallsyms
-            | Choice::Kconfig
-            | Choice::Kernel
-    )
+/// The form that is an option's value.
+fn form_of<'a>(name: &'a str, value: &'a str) -> Result<Form, InvocationError<'a>> {
+    match value {
+        "text" => Ok(Form::Text),
+        "json" => Ok(Form::Json),
+        "github" => Ok(Form::GitHub),
+        _ => Err(InvocationError::NoChoice {
+            name,
+            values: "text, json or github",
+            value,
+        }),
+    }
+}
+
+/// The choice of colours that is an option's value.
+fn color_of<'a>(name: &'a str, value: &'a str) -> Result<ColorChoice, InvocationError<'a>> {
+    match value {
+        "auto" => Ok(ColorChoice::Auto),
+        "always" => Ok(ColorChoice::Always),
+        "never" => Ok(ColorChoice::Never),
+        _ => Err(InvocationError::NoChoice {
+            name,
+            values: "auto, always or never",
+            value,
+        }),
+    }
 }
 
 impl<'a> Options<'a> {
@@ -225,6 +176,8 @@ impl<'a> Options<'a> {
             values: Vec::new(alloc),
             object: None,
             kernel: None,
+            form: None,
+            color: ColorChoice::Auto,
         }
     }
 
@@ -251,6 +204,8 @@ impl<'a> Options<'a> {
             _ if self.value(choice).is_some() => return Err(InvocationError::SecondValue(name)),
             Choice::Object => self.object = Some(number_of(name, value)?),
             Choice::Kernel => self.kernel = Some(version_of(name, value)?),
+            Choice::Format => self.form = Some(form_of(name, value)?),
+            Choice::Color => self.color = color_of(name, value)?,
             _ => {}
         }
         self.values.push((choice, value))?;
@@ -268,11 +223,50 @@ impl<'a> Options<'a> {
         }
     }
 
+    /// The form of what `ebpf check` prints.
+    fn form(&self) -> Result<Form, InvocationError<'a>> {
+        match (self.form, self.has(Choice::Json)) {
+            (Some(_), true) => Err(InvocationError::SecondForm("--format and --json")),
+            (Some(form), false) => Ok(form),
+            (None, true) => Ok(Form::Json),
+            (None, false) => Ok(Form::Text),
+        }
+    }
+
+    /// A copy of the value of an option that has to be given.
+    fn needed_text(
+        &self,
+        alloc: Global,
+        choice: Choice,
+        name: &'a str,
+    ) -> Result<Text, InvocationError<'a>> {
+        match self.value(choice) {
+            Some(value) => Ok(Text::from_str(alloc, value)?),
+            None => Err(InvocationError::MissingOption(name)),
+        }
+    }
+
+    /// What `ebpf btf` is asked for.
+    fn btf(&self, alloc: Global) -> Result<Invocation, InvocationError<'a>> {
+        if self.files.is_empty() {
+            return Err(InvocationError::NoFile);
+        }
+        Ok(Invocation::Btf(BtfWords {
+            files: texts_of(alloc, &self.files)?,
+            object: self.object,
+            btf: self.needed_text(alloc, Choice::Btf, "--btf")?,
+            output: self.needed_text(alloc, Choice::Output, "--output")?,
+            allow_ids: self.has(Choice::AllowIds),
+            json: self.has(Choice::Json),
+        }))
+    }
+
     /// What `ebpf check` is asked for.
     fn check(&self, alloc: Global) -> Result<Invocation, InvocationError<'a>> {
         let Some((file, kernels)) = self.files.split_first() else {
             return Err(InvocationError::NoFile);
         };
+        let form = self.form()?;
         Ok(Invocation::Check(CheckWords {
             file: Text::from_str(alloc, file)?,
             object: self.object,
@@ -280,7 +274,12 @@ impl<'a> Options<'a> {
             programs: texts_of(alloc, &self.programs)?,
             all: self.has(Choice::All),
             strict: self.has(Choice::Strict),
-            json: self.has(Choice::Json),
+            json: form == Form::Json,
+            color: self.color,
+            progress: self.has(Choice::Progress),
+            annotations: form == Form::GitHub,
+            html: text_of(alloc, self.value(Choice::Html))?,
+            sarif: text_of(alloc, self.value(Choice::Sarif))?,
         }))
     }
 
@@ -291,6 +290,8 @@ impl<'a> Options<'a> {
             file: Text::from_str(alloc, file)?,
             object: self.object,
             json: self.has(Choice::Json),
+            color: self.color,
+            html: text_of(alloc, self.value(Choice::Html))?,
         }))
     }
 
@@ -309,12 +310,37 @@ impl<'a> Options<'a> {
         })
     }
 
+    /// The language of the graph that is asked for.
+    fn graph(&self) -> Result<Option<GraphLanguage>, InvocationError<'a>> {
+        match (
+            self.has(Choice::Dot),
+            self.has(Choice::Mermaid),
+            self.has(Choice::Json),
+        ) {
+            (true, false, false) => Ok(Some(GraphLanguage::Dot)),
+            (false, true, false) => Ok(Some(GraphLanguage::Mermaid)),
+            (false, false, _) => Ok(None),
+            _ => Err(InvocationError::SecondForm("--dot, --json and --mermaid")),
+        }
+    }
+
+    /// What `ebpf inspect` is asked for.
+    fn inspect(&self, alloc: Global) -> Result<Invocation, InvocationError<'a>> {
+        let graph = self.graph()?;
+        Ok(Invocation::Inspect(InspectWords {
+            prepare: self.prepare(alloc)?,
+            graph,
+            color: self.color,
+        }))
+    }
+
     /// What `ebpf link` is asked for.
     fn link(&self, alloc: Global) -> Result<Invocation, InvocationError<'a>> {
         Ok(Invocation::Link(LinkWords {
             prepare: self.prepare(alloc)?,
             bytes: self.has(Choice::Bytes),
             lines: self.has(Choice::Lines),
+            color: self.color,
         }))
     }
 
@@ -325,9 +351,10 @@ impl<'a> Options<'a> {
         }
         match verb {
             _ if self.has(Choice::Help) => Ok(Invocation::VerbHelp(verb)),
+            Verb::Btf => self.btf(alloc),
             Verb::Check => self.check(alloc),
             Verb::List => self.list(alloc),
-            Verb::Inspect => Ok(Invocation::Inspect(self.prepare(alloc)?)),
+            Verb::Inspect => self.inspect(alloc),
             Verb::Link => self.link(alloc),
         }
     }
@@ -391,7 +418,7 @@ fn read_options<'a>(
 /// # Errors
 ///
 /// `NoCommand`, `UnknownCommand`, and of a command the first word that can't be read, in their order, also a second value; `NoValue`
-/// where the last option lacks its value; `NoFile`, `SecondFile`. `OutOfMemory` where memory is refused.
+/// where the last option lacks its value; `NoFile`, `SecondFile`, `SecondForm`, `MissingOption`. `OutOfMemory` where memory is refused.
 pub fn read_words<'a>(
     alloc: Global,
     words: &'a [String],

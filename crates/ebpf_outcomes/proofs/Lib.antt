@@ -1,1 +1,3 @@
+pub mod OneResult
 pub mod PassOutcomes
+pub mod TextResolution

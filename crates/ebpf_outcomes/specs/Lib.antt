@@ -1,1 +1,2 @@
+pub mod OneResult
 pub mod PassOutcomes

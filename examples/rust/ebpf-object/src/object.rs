@@ -1,7 +1,7 @@
 //! An object before its passes.
 use crate::contents::Contents;
 use crate::error::{Error, Failed};
-use crate::kernel::{checked_version, Kernel};
+use crate::kernel::{checked_version, Kernel, Types};
 use crate::prepared::Prepared;
 use crate::rows::{CodeCopy, CodeReference};
 use crate::steps::{Opened, Steps};
@@ -181,19 +181,50 @@ impl Object {
     /// # }
     /// ```
     pub fn prepare<S: AsRef<str>>(self, kernel: &Kernel<'_>, maps: &[(S, i32)]) -> Result<Prepared, PrepareFailed> {
-        let mut contents = self.contents;
-        let rows = descriptor_rows(maps);
         let (types, symbols) = (kernel.types(), kernel.symbols());
-        let inputs = sys::ebpf_prepare_inputs {
+        self.prepared(maps, |inputs| sys::ebpf_prepare_inputs {
             types: types.as_ptr(),
             types_len: types.len(),
-            descriptors: rows.as_ptr(),
-            descriptors_len: rows.len(),
             symbols: symbols.as_ptr(),
             symbols_len: symbols.len(),
+            ..inputs
+        })
+    }
+
+    /// The same over types that were read, and the text of `/proc/kallsyms`, empty where
+    /// [`Contents::wants_symbols`] says no.
+    ///
+    /// # Errors
+    ///
+    /// As for [`Object::prepare`].
+    pub fn prepare_with<S: AsRef<str>>(
+        self,
+        types: &Types,
+        symbols: &[u8],
+        maps: &[(S, i32)],
+    ) -> Result<Prepared, PrepareFailed> {
+        self.prepared(maps, |inputs| sys::ebpf_prepare_inputs {
+            btf: types.as_raw(),
+            symbols: symbols.as_ptr(),
+            symbols_len: symbols.len(),
+            ..inputs
+        })
+    }
+
+    /// Runs all passes with these maps, and with what else is given. Its pointers are borrowed for the call.
+    fn prepared<S: AsRef<str>>(
+        self,
+        maps: &[(S, i32)],
+        given: impl FnOnce(sys::ebpf_prepare_inputs) -> sys::ebpf_prepare_inputs,
+    ) -> Result<Prepared, PrepareFailed> {
+        let mut contents = self.contents;
+        let rows = descriptor_rows(maps);
+        let inputs = given(sys::ebpf_prepare_inputs {
+            descriptors: rows.as_ptr(),
+            descriptors_len: rows.len(),
             ..Default::default()
-        };
-        // SAFETY: the handle is open, and the slices and the names of rows are borrowed for the call.
+        });
+        // SAFETY: the handle is open, and the slices, the types and the names of rows are borrowed for the call.
         let number = unsafe { sys::ebpf_prepare_handle(contents.handle(), &inputs) };
         match contents.outcome(number, "") {
             Ok(()) => Ok(Prepared::of(contents)),

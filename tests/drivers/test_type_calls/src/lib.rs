@@ -7,3 +7,5 @@ mod base;
 mod btf;
 #[cfg(test)]
 mod candidates;
+#[cfg(test)]
+mod kept;

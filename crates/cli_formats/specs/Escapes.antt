@@ -1,0 +1,119 @@
+-- Texts from files in the syntax of each format: none ends the string that it is in, and none holds
+-- a character that a terminal obeys.
+use Rattle.std.specs.Prelude.{ℕ, ◌/◌, ◌%◌, Bool, ◌||◌, ◌==◌, if◌then◌else◌}
+use Rattle.std.specs.Prelude.{List, [], ◌∷◌, ◌++◌, codes}
+use Rattle.std.specs.Char.{digit_char, encode_utf8}
+use Rattle.std.specs.Fmt.{decimal}
+use Rattle.std.specs.List.{flat_map}
+use Rattle.std.specs.Str.{chars}
+use Rattle.cli_common.specs.Shown.{is_within, speaks}
+use Rattle.cli_formats.specs.declared.escape.Syntax.{Syntax}
+use Rattle.cli_formats.specs.declared.escape.Syntax.TheVariants.{Html, Json, Dot, Mermaid}
+use Rattle.cli_formats.specs.declared.escape.Syntax.TheVariants.{Message, Property, Path}
+
+-- a sign, and the two digits of a byte, of base 16
+abbrev pub byte_behind : List ℕ → ℕ → List ℕ
+byte_behind sign b = sign ++ digit_char (b / 16) ∷ digit_char (b % 16) ∷ []
+
+-- the bytes of a character's UTF-8, each behind a sign
+abbrev pub bytes_behind : List ℕ → ℕ → List ℕ
+bytes_behind sign c = flat_map (byte_behind sign) (encode_utf8 c)
+
+-- a character that a terminal obeys, and a backslash, as the bytes of its UTF-8; each other one as
+-- it is
+abbrev pub visible_char : List ℕ → ℕ → List ℕ
+visible_char sign c =
+    if (c == 92) || speaks c then bytes_behind sign c else encode_utf8 c
+
+-- `\x`
+abbrev pub one_backslash : List ℕ
+one_backslash = 92 ∷ 120 ∷ []
+
+-- `\\x`, which a string with escapes reads as `\x`
+abbrev pub two_backslashes : List ℕ
+two_backslashes = 92 ∷ 92 ∷ 120 ∷ []
+
+-- between tags and in the value of an attribute (HTML, 'Character references')
+abbrev pub html_char : ℕ → List ℕ
+html_char c =
+    if c == 38 then codes "&amp;"
+    else if c == 60 then codes "&lt;"
+    else if c == 62 then codes "&gt;"
+    else if c == 34 then codes "&quot;"
+    else if c == 39 then codes "&#39;"
+    else visible_char one_backslash c
+
+-- In a string of JSON (RFC 8259). No `<` is left, so a string within `<script>` can't end it.
+abbrev pub json_char : ℕ → List ℕ
+json_char c =
+    if c == 34 then codes "\\\""
+    else if c == 60 then codes "\\u003c"
+    else if c == 62 then codes "\\u003e"
+    else if c == 38 then codes "\\u0026"
+    else visible_char two_backslashes c
+
+-- in a label in quotes of Graphviz, which reads escapes and HTML's character references
+abbrev pub dot_char : ℕ → List ℕ
+dot_char c =
+    if c == 38 then codes "&amp;"
+    else if c == 60 then codes "&lt;"
+    else if c == 62 then codes "&gt;"
+    else if c == 34 then codes "&quot;"
+    else visible_char two_backslashes c
+
+-- Whether Mermaid, or the Markdown in its labels, reads a character as more than itself:
+-- `"`, `#`, `&`, `'`, `*`, `:`, `;`, `<`, `>`, `_`, the backquote and `~`.
+abbrev pub is_read_by_mermaid : ℕ → Bool
+is_read_by_mermaid c =
+    is_within 34 35 c
+    || is_within 38 39 c
+    || (c == 42)
+    || is_within 58 60 c
+    || (c == 62)
+    || is_within 95 96 c
+    || (c == 126)
+
+-- in a label in quotes of Mermaid: `#N;` is the character of the number N
+abbrev pub mermaid_char : ℕ → List ℕ
+mermaid_char c =
+    if is_read_by_mermaid c then 35 ∷ decimal c ++ 59 ∷ []
+    else visible_char (codes "#92;x") c
+
+-- in the message of an annotation of GitHub, which decodes `%25`
+abbrev pub message_char : ℕ → List ℕ
+message_char c = if c == 37 then codes "%25" else visible_char one_backslash c
+
+-- in the value of an annotation's property, which `:` and `,` end
+abbrev pub property_char : ℕ → List ℕ
+property_char c =
+    if c == 58 then codes "%3A"
+    else if c == 44 then codes "%2C"
+    else message_char c
+
+-- Whether a path has a character as it is: letters, digits and `-./_~` (RFC 3986, 'Unreserved
+-- Characters', and the slash).
+abbrev pub is_plain_in_paths : ℕ → Bool
+is_plain_in_paths c =
+    is_within 45 57 c
+    || is_within 65 90 c
+    || (c == 95)
+    || is_within 97 122 c
+    || (c == 126)
+
+-- in a path of a URI, where other characters are the bytes of their UTF-8, `%NN` each
+abbrev pub path_char : ℕ → List ℕ
+path_char c = if is_plain_in_paths c then encode_utf8 c else bytes_behind (codes "%") c
+
+-- a character in a syntax
+abbrev pub char_in : Syntax → ℕ → List ℕ
+char_in Html c = html_char c
+char_in Json c = json_char c
+char_in Dot c = dot_char c
+char_in Mermaid c = mermaid_char c
+char_in Message c = message_char c
+char_in Property c = property_char c
+char_in Path c = path_char c
+
+-- a text in a syntax
+abbrev pub text_in : Syntax → List ℕ → List ℕ
+text_in syntax text = flat_map (char_in syntax) (chars text)

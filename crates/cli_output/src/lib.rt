@@ -1,0 +1,6 @@
+//! Files that commands write, colours on a terminal, and the progress of long work.
+#![tactic(auto)]
+
+pub mod files;
+pub mod palette;
+pub mod progress;

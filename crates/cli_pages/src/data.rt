@@ -1,0 +1,147 @@
+//! The data of a page, as JSON: each reason is written once, and kernels are numbers.
+
+use crate::matrix::{CellVerdict, Matrix, MatrixKernel, Reason, ReasonPlace};
+use cli_formats::escape::{Escaped, Syntax};
+use std::io::{self, Write};
+
+/// Writes the comma between an item and the one before it.
+pub fn write_comma<W: Write>(out: &mut W, number: usize) -> io::Result<()> {
+    if number > 0 {
+        return write!(out, ",");
+    }
+    Ok(())
+}
+
+/// Writes a string.
+pub fn write_string<W: Write>(out: &mut W, text: &str) -> io::Result<()> {
+    let text = Escaped {
+        syntax: Syntax::Json,
+        text,
+    };
+    write!(out, "\"{text}\"")
+}
+
+/// Writes strings as an array.
+fn write_strings<W: Write>(out: &mut W, texts: &[&str]) -> io::Result<()> {
+    write!(out, "[")?;
+    for (number, text) in texts.iter().enumerate() {
+        write_comma(out, number)?;
+        write_string(out, text)?;
+    }
+    write!(out, "]")
+}
+
+/// Writes numbers in ascending order as an array of the first and the last of each run.
+fn write_runs<W: Write>(out: &mut W, numbers: &[usize]) -> io::Result<()> {
+    write!(out, "[")?;
+    let mut last: Option<usize> = None;
+    for number in numbers {
+        match last {
+            Some(known) if *number == known.saturating_add(1) => {}
+            Some(known) => write!(out, "{known},{number},")?,
+            None => write!(out, "{number},")?,
+        }
+        last = Some(*number);
+    }
+    if let Some(known) = last {
+        write!(out, "{known}")?;
+    }
+    write!(out, "]")
+}
+
+/// The letter for a verdict.
+fn verdict_letter(verdict: CellVerdict) -> &'static str {
+    match verdict {
+        CellVerdict::Runs => "o",
+        CellVerdict::Breaks => "b",
+        CellVerdict::NoTarget => "n",
+    }
+}
+
+/// Writes verdicts as a string with a letter for each.
+fn write_verdicts<W: Write>(out: &mut W, verdicts: &[CellVerdict]) -> io::Result<()> {
+    write!(out, "\"")?;
+    for verdict in verdicts {
+        let letter = verdict_letter(*verdict);
+        write!(out, "{letter}")?;
+    }
+    write!(out, "\"")
+}
+
+/// Writes a kernel: its name with its verdicts, or with the reason why its types can't be read.
+fn write_kernel<W: Write>(out: &mut W, kernel: &MatrixKernel<'_>) -> io::Result<()> {
+    write!(out, "\n[")?;
+    write_string(out, kernel.name)?;
+    write!(out, ",")?;
+    match kernel.fault {
+        Some(fault) => {
+            write!(out, "null,")?;
+            write_string(out, fault)?;
+        }
+        None => write_verdicts(out, &kernel.verdicts)?,
+    }
+    write!(out, "]")
+}
+
+/// Writes a text and a number, or that there are none.
+fn write_numbered<W: Write>(out: &mut W, numbered: Option<(&str, u64)>) -> io::Result<()> {
+    match numbered {
+        Some((text, number)) => {
+            write_string(out, text)?;
+            write!(out, ",{number},")
+        }
+        None => write!(out, "null,0,"),
+    }
+}
+
+/// Writes a place: program, slot, function and its slot, file and line, kernels.
+fn write_place<W: Write>(out: &mut W, place: &ReasonPlace<'_>) -> io::Result<()> {
+    let program = place.program;
+    write!(out, "[{program},")?;
+    match place.slot {
+        Some(slot) => write!(out, "{slot},")?,
+        None => write!(out, "null,")?,
+    }
+    let within = place.within.map(|(name, slot)| (name, slot as u64));
+    write_numbered(out, within)?;
+    let line = place.line.map(|(file, line)| (file, u64::from(line)));
+    write_numbered(out, line)?;
+    write_runs(out, place.kernels)?;
+    write!(out, "]")
+}
+
+/// Writes a reason: whether programs break, subject, kinds, outcome, kernels, places.
+fn write_reason<W: Write>(out: &mut W, reason: &Reason<'_>) -> io::Result<()> {
+    let breaks = reason.breaks;
+    write!(out, "\n[{breaks},")?;
+    write_string(out, reason.subject)?;
+    write!(out, ",")?;
+    write_strings(out, &reason.kinds)?;
+    write!(out, ",")?;
+    write_string(out, reason.outcome)?;
+    write!(out, ",")?;
+    write_runs(out, reason.kernels)?;
+    write!(out, ",[")?;
+    for (number, place) in reason.places.iter().enumerate() {
+        write_comma(out, number)?;
+        write_place(out, place)?;
+    }
+    write!(out, "]]")
+}
+
+/// Writes a matrix as a JSON object.
+pub fn write_data<W: Write>(out: &mut W, matrix: &Matrix<'_>) -> io::Result<()> {
+    write!(out, "{{\"programs\":")?;
+    write_strings(out, &matrix.programs)?;
+    write!(out, ",\n\"kernels\":[")?;
+    for (number, kernel) in matrix.kernels.iter().enumerate() {
+        write_comma(out, number)?;
+        write_kernel(out, kernel)?;
+    }
+    write!(out, "],\n\"reasons\":[")?;
+    for (number, reason) in matrix.reasons.iter().enumerate() {
+        write_comma(out, number)?;
+        write_reason(out, reason)?;
+    }
+    write!(out, "]}}")
+}

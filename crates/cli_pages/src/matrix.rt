@@ -1,0 +1,68 @@
+//! The verdicts of kernels on programs, as pages and reports show them.
+
+/// The verdict of a kernel on a program.
+#[derive(Clone, Copy, PartialEq, Eq)]
+pub enum CellVerdict {
+    /// It runs.
+    Runs,
+    /// It breaks.
+    Breaks,
+    /// The kernel has no type of its attach target.
+    NoTarget,
+}
+
+/// A kernel, with its verdicts.
+#[derive(Drop)]
+pub struct MatrixKernel<'a> {
+    /// The kernel's name.
+    pub name: &'a str,
+    /// The reason why its types can't be read; then it has no verdicts.
+    pub fault: Option<&'a str>,
+    /// The verdicts on the programs, in their order.
+    pub verdicts: Vec<CellVerdict>,
+}
+
+/// A place of a reason in a linked program.
+#[derive(Clone, Copy)]
+pub struct ReasonPlace<'a> {
+    /// The number of the program.
+    pub program: usize,
+    /// The slot; none where the reason is about the whole program.
+    pub slot: Option<usize>,
+    /// The function that the slot was copied from, and the slot in it, where it is not the program's own.
+    pub within: Option<(&'a str, usize)>,
+    /// The source line.
+    pub line: Option<(&'a str, u32)>,
+    /// The numbers of the kernels, in ascending order.
+    pub kernels: &'a [usize],
+}
+
+/// A reason for which programs break or have no target.
+#[derive(Drop)]
+pub struct Reason<'a> {
+    /// Whether programs break for it; else they have no target.
+    pub breaks: bool,
+    /// The name of the type, field, function or program that the reason is about.
+    pub subject: &'a str,
+    /// The words for the kinds of question.
+    pub kinds: Vec<&'static str>,
+    /// The outcome, as what the kernel lacks.
+    pub outcome: &'a str,
+    /// The numbers of the kernels, in ascending order.
+    pub kernels: &'a [usize],
+    /// The places; none where the reason is about all programs.
+    pub places: Vec<ReasonPlace<'a>>,
+}
+
+/// The verdicts of kernels on programs.
+#[derive(Drop)]
+pub struct Matrix<'a> {
+    /// The name of the object's file.
+    pub file: &'a str,
+    /// The names of the programs.
+    pub programs: Vec<&'a str>,
+    /// The kernels, in their order.
+    pub kernels: Vec<MatrixKernel<'a>>,
+    /// The reasons.
+    pub reasons: Vec<Reason<'a>>,
+}

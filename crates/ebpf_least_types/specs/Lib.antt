@@ -1,0 +1,3 @@
+pub mod IdUses
+pub mod LeastTypes
+pub mod Memory

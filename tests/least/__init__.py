@@ -1,0 +1,1 @@
+"""`ebpf btf` and the outcomes over the types that it writes."""

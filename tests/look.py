@@ -1,0 +1,234 @@
+#!/usr/bin/env python3
+"""Looks at what `ebpf` writes for people and for CI: the pages of `ebpf check` and `ebpf list` in Chromium, SARIF by what its
+standard demands, annotations, graphs, colours and the progress; with names that try to break out of each. Without Chromium
+(`apt-get install chromium`) pages aren't looked at, which is printed. Ends with 'N passed, M failed', and with status 1 where one failed.
+usage: look.py PROGRAM [--kernels N] [--screenshots FOLDER]      PROGRAM: the built program `ebpf`; N: of the large page
+"""
+import argparse
+import json
+import re
+import shutil
+import subprocess
+import sys
+import tempfile
+from pathlib import Path
+
+from check_rows import EXAMPLE, Rows
+from checked.objects import GONE, HAS_B, IS_THERE, LACKS_B, Code, address, call, object_of
+from looked import page, sarif, terminal
+from rows.elf import EXIT
+
+# Names that mean something in HTML, JSON, Graphviz, Mermaid, annotations or a terminal. The name of a file has no slash.
+HOSTILE = [
+    "<script>fail()<!script>",
+    "<img src=x onerror=fail()>",
+    "\"quotes' and `more`",
+    "back\\slash\\n",
+    "new\nline",
+    "esc\x1b[31m",
+    "right\u202eto\u2066left\u200f",
+    "%0A::error::100%, a:b",
+    "&amp;#60;&lt;",
+    "];end;--> x[\"y",
+    "${1}{{2}}",
+]
+# Characters that are seen by their effect alone.
+UNSEEN = re.compile("[\x00-\x09\x0b-\x1f\x7f-\x9f\u061c\u200e\u200f\u2028-\u202e\u2066-\u2069]")
+
+
+def visible(name, sign="\\x"):
+    """A name with its controls, marks of direction and backslashes as bytes."""
+    return "".join(
+        "".join(f"{sign}{byte:02x}" for byte in c.encode()) if c in "\\\n" or UNSEEN.match(c) else c for c in name
+    )
+
+
+def hostile_object():
+    """An object with a program, a function and a map for each hostile name, and a file of lines with them all."""
+    functions, maps = [], {}
+    for number, name in enumerate(HOSTILE):
+        section = "kprobe/p" if number == 0 else f"kprobe/p{number}"
+        functions.append(Code(section, name, [call(f"f{name}"), address(1, f"m{name}"), GONE, EXIT]))
+        functions.append(Code(".text", f"f{name}", [EXIT]))
+        maps[f"m{name}"] = 1
+    lines = [(0, f"dir/{''.join(HOSTILE)}.c", 7)]
+    return object_of(functions, maps=maps, lines=lines)
+
+
+def expect_plain(rows, name, text):
+    """Nothing in a text is seen by its effect alone."""
+    rows.expect(f"{name}: unseen characters", UNSEEN.findall(text), [])
+
+
+def example(rows):
+    """The example of docs/CLI.md in each form."""
+    words = ["check", "memdrop.o", "btf", "--html", "page.html", "--sarif", "log.sarif"]
+    ran = rows.row("the example", words, 1)
+    plain = rows.run("check", "memdrop.o", "btf").stdout
+    rows.expect("files leave the text as it is", ran.stdout, plain)
+    log = json.loads((rows.folder / "log.sarif").read_text())
+    rows.expect("SARIF: schema", sarif.faults(log), [])
+    [result] = log["runs"][0]["results"]
+    place = result["locations"][0]["physicalLocation"]
+    rows.expect("SARIF: line", (place["artifactLocation"]["uri"], place["region"]), ("./memdrop.bpf.c", {"startLine": 83}))
+    text = "struct cfs_rq.nr_running <byte_off> no such member; program on_tick slot 11; on 1 of 2 kernels: btf/6.18"
+    rows.expect("SARIF: message", result["message"]["text"], text)
+    ran = rows.row("annotations", ["check", "memdrop.o", "btf", "--format", "github"], 1)
+    line = f"::error file=./memdrop.bpf.c,line=83,title=ebpf check::{text}\n"
+    rows.expect("annotations: output", ran.stdout, plain + line)
+    ok = rows.row("nothing breaks", ["check", "memdrop.o", "btf/5.18", "--sarif=none.sarif", "--format=github"], 0)
+    rows.expect("nothing breaks: no annotation", "::error" in ok.stdout, False)
+    log = json.loads((rows.folder / "none.sarif").read_text())
+    rows.expect("nothing breaks: SARIF", (sarif.faults(log), log["runs"][0]["results"]), ([], []))
+    said = "ebpf: nowhere/page.html: cannot write: No such file or directory (os error 2)"
+    rows.row("no folder for the page", ["check", "memdrop.o", "btf", "--html=nowhere/page.html"], 2, plain, said)
+    said = "ebpf: /dev/full: cannot write: No space left on device (os error 28)"
+    rows.row("no room for the page", ["check", "memdrop.o", "btf", "--html=/dev/full"], 2, plain, said)
+    rows.row("no room for SARIF", ["check", "memdrop.o", "btf", "--sarif=/dev/full"], 2, plain, said)
+    usage = "ebpf: --format takes text, json or github, and not xml"
+    rows.row("another form", ["check", "memdrop.o", "btf", "--format", "xml"], 2, "", usage)
+    rows.row("two forms", ["check", "memdrop.o", "btf", "--format=text", "-j"], 2, "", "ebpf: one of --format and --json")
+
+
+def graphs(rows):
+    """Graphs of the example: its nodes and edges."""
+    dot = rows.row("--dot", ["inspect", "memdrop.o", "--dot", "--program", "on_tick"], 0).stdout
+    wanted = [
+        'label="on_tick: 35 slots";',
+        'p0f0 [shape=box label="on_tick\\n21 slots"];',
+        'p0f1 [shape=box label="count\\n14 slots"];',
+        'p0m0 [shape=cylinder label="counts\\nmap"];',
+        "p0f0 -> p0f1 [label=call];",
+        "p0f1 -> p0m0 [style=dashed];",
+    ]
+    rows.expect("--dot: lines", [line.strip() for line in dot.split("\n")[3:9]], wanted)
+    flow = rows.row("--mermaid", ["inspect", "memdrop.o", "--mermaid", "--program", "on_tick"], 0).stdout
+    wanted = [
+        "flowchart LR",
+        'subgraph p0["on#95;tick: 35 slots"]',
+        'p0f0["on#95;tick<br/>21 slots"]',
+        'p0f1["count<br/>14 slots"]',
+        'p0m0[("counts<br/>map")]',
+        "p0f0 -->|call| p0f1",
+        "p0f1 -.-> p0m0",
+        "end",
+        "",
+    ]
+    rows.expect("--mermaid: lines", [line.strip() for line in flow.split("\n")], wanted)
+    rows.row("two graphs", ["inspect", "memdrop.o", "--dot", "--mermaid"], 2, "", "ebpf: one of --dot, --json and --mermaid")
+
+
+def hostile_graphs(rows):
+    """Each line of a graph with hostile names has the form of a line, and its labels read as the names."""
+    rows.write("hostile.o", hostile_object())
+    dot = rows.row("hostile --dot", ["inspect", "hostile.o", "--dot"], 0).stdout
+    expect_plain(rows, "hostile --dot", dot)
+    label = r'"(?:[^"\\]|\\\\|\\n)*"'
+    form = re.compile(
+        r"digraph programs \{|  rankdir=LR;|  subgraph cluster_\d+ \{|  \}|\}|"
+        rf"    label={label};|    p\d+[fm]\d+ \[shape=\w+ label={label}\];|    p\d+f\d+ -> p\d+[fm]\d+ \[\w+=\w+\];"
+    )
+    rows.expect("hostile --dot: lines", [line for line in dot.split("\n")[:-1] if not form.fullmatch(line)], [])
+    if shutil.which("dot"):
+        drawn = subprocess.run(["dot", "-Tsvg"], input=dot, capture_output=True, encoding="utf-8")
+        rows.expect("hostile --dot: Graphviz", (drawn.returncode, drawn.stderr), (0, ""))
+    flow = rows.row("hostile --mermaid", ["inspect", "hostile.o", "--mermaid"], 0).stdout
+    expect_plain(rows, "hostile --mermaid", flow)
+    label = r'"(?:[^"#&<>`]|#\d+;|<br/>)*"'
+    form = re.compile(
+        rf"flowchart LR|  subgraph p\d+\[{label}\]|  end|    p\d+f\d+\[{label}\]|    p\d+m\d+\[\({label}\)\]|"
+        r"    p\d+f\d+ (?:-->\|\w+\||-\.->) p\d+[fm]\d+"
+    )
+    rows.expect("hostile --mermaid: lines", [line for line in flow.split("\n")[:-1] if not form.fullmatch(line)], [])
+    read = re.sub(r"#(\d+);", lambda code: chr(int(code[1])), flow)
+    rows.expect("hostile --mermaid: names", [name for name in HOSTILE if visible(name) not in read], [])
+
+
+def hostile_reports(rows):
+    """SARIF and annotations with hostile names of programs, kernels and files."""
+    for name in HOSTILE:
+        rows.write(f"kernels/{name}", LACKS_B)
+    words = ["check", "hostile.o", "kernels", "--html=hostile.html", "--sarif=hostile.sarif", "--format=github"]
+    out = rows.row("hostile names", words, 1).stdout
+    expect_plain(rows, "hostile annotations", out)
+    lines = [line for line in out.split("\n") if line.startswith("::")]
+    form = re.compile(r"::error (?:file=[^:,]*,line=7,)?title=ebpf check::.*")
+    rows.expect("hostile annotations: one for each program", (len(lines), all(map(form.fullmatch, lines))), (len(HOSTILE), True))
+    rows.expect("hostile annotations: percent", re.findall("%(?!25|3A|2C)", "".join(lines)), [])
+    text = (rows.folder / "hostile.sarif").read_text()
+    expect_plain(rows, "hostile SARIF", text)
+    log = json.loads(text)
+    rows.expect("hostile SARIF: schema", sarif.faults(log), [])
+    results = log["runs"][0]["results"]
+    said = "".join(result["message"]["text"] for result in results)
+    expect_plain(rows, "hostile SARIF: messages", said)
+    rows.expect("hostile SARIF: names", [name for name in HOSTILE if visible(name) not in said], [])
+    uris = [result["locations"][0]["physicalLocation"]["artifactLocation"]["uri"] for result in results]
+    rows.expect("hostile SARIF: paths", [uri for uri in uris if not re.fullmatch(r"(?:[\w./~-]|%[0-9a-f]{2})*", uri, re.ASCII)], [])
+
+
+def lists(rows):
+    """The page of `ebpf list` leaves its text as it is, and has what the text has."""
+    rows.write("hostile.o", hostile_object())
+    for name in ["memdrop.o", "hostile.o"]:
+        plain = rows.run("list", name).stdout
+        rows.row(f"list --html of {name}", ["list", name, "--html", f"list-{name}.html"], 0, plain)
+        text = (rows.folder / f"list-{name}.html").read_text()
+        expect_plain(rows, f"list --html of {name}", text)
+        rows.expect(f"list --html of {name}: loads nothing", re.findall(r"<[^>]* (?:src|href)=|<script|<link|url\(|@import", text), [])
+        heads = re.findall(r"^[A-Z][A-Z -]+ \d+$", plain, re.MULTILINE)
+        rows.expect(f"list --html of {name}: tables", re.findall(r"<h2 id='table\d'>(.*?)</h2>", text), heads)
+    said = "ebpf: nowhere/page.html: cannot write: No such file or directory (os error 2)"
+    rows.row("list: no folder for the page", ["list", "memdrop.o", "--html=nowhere/page.html"], 2, None, said)
+
+
+def large(rows, count):
+    """An object of six programs over many kernels: of ten, three lack what four programs read, and one can't be read. The last
+    program has a target that no kernel has."""
+    codes = [[GONE, EXIT] if number % 3 else [IS_THERE, EXIT] for number in range(6)]
+    sections = [*(f"kprobe/p{number}" for number in range(5)), "fentry/no_such_function"]
+    functions = [Code(section, f"event_{number}", codes[number]) for number, section in enumerate(sections)]
+    rows.write("large.o", object_of(functions))
+    kinds = [HAS_B, HAS_B, LACKS_B] * 3 + [b"none"]
+    for number in range(count):
+        rows.write(f"large/{4 + number // 400}.{number // 20 % 20}.0-{number % 20}-generic", kinds[number % 10])
+    ran = rows.run("check", "large.o", "large", "--html", "large.html")
+    rows.expect("large page: status", ran.returncode, 2)
+
+
+def pages(rows, count, screenshots):
+    """The pages in Chromium."""
+    browser = shutil.which("chromium") or shutil.which("chromium-browser")
+    if not browser:
+        print("skipped: the pages in Chromium, which isn't installed")
+        return
+    large(rows, count)
+    page.small(rows, browser)
+    page.hostile(rows, browser, [visible(name) for name in HOSTILE])
+    page.many(rows, browser, count)
+    page.listed(rows, browser, rows.run("list", "memdrop.o").stdout)
+    page.hostile_list(rows, browser, [visible(name) for name in HOSTILE])
+    if screenshots:
+        page.screenshots(rows.folder, browser, screenshots)
+
+
+def main():
+    parser = argparse.ArgumentParser(usage=__doc__.split("usage: ")[1])
+    parser.add_argument("program")
+    parser.add_argument("--kernels", type=int, default=2000)
+    parser.add_argument("--screenshots", type=Path)
+    chosen = parser.parse_args()
+    with tempfile.TemporaryDirectory() as folder:
+        rows = Rows(str(Path(chosen.program).absolute()), None, None, Path(folder))
+        shutil.copytree(EXAMPLE / "btf", rows.folder / "btf")
+        shutil.copy(EXAMPLE / "memdrop.o", rows.folder)
+        for part in [example, graphs, hostile_graphs, hostile_reports, lists, terminal.colours, terminal.progress]:
+            part(rows)
+        pages(rows, chosen.kernels, chosen.screenshots)
+    print(*rows.failures, sep="\n", end="\n" * bool(rows.failures))
+    print(f"{rows.passed} passed, {len(rows.failures)} failed")
+    return bool(rows.failures)
+
+
+if __name__ == "__main__":
+    sys.exit(main())
