@@ -1,16 +1,15 @@
 -- The functions that are found by number are those that the programs reach, by key.
-use Rattle.std.proofs.Common.{◌≡◌, ℕ, zero, suc, ◌+◌, ◌<◌, ◌≤◌, Bool, true, false, cond, List, [], ◌∷◌, map, length, get_or, Option, Some, None, refl, sym, ap, ◌∙◌, subst, inl, inr, ◌⊎◌, arith, Vec}
-use Rattle.std.specs.Prelude.{◌==◌, ◌||◌, if◌then◌else◌, is_some, slice_get, slice_index_or}
+use Rattle.std.proofs.Common.{◌≡◌, ℕ, zero, suc, ◌+◌, ◌<◌, ◌≤◌, Bool, true, false, cond, List, [], ◌∷◌, map, length, Option, Some, None, refl, sym, ap, ◌∙◌, subst, inl, inr, arith, Vec}
+use Rattle.std.specs.Prelude.{◌==◌, ◌||◌, if◌then◌else◌, is_some}
 use Rattle.std.specs.declared.alloc.Global.{Global}
 use Rattle.std.specs.declared.cmp.Ordering.{Ordering}
 use Rattle.std.specs.Cmp.{IsTotalOrder, eq_by_cmp_equiv}
-use Rattle.std.specs.FinMap.{FinMap, IsAntisymmetric, get, entries, find, get-entries, contains_key, empty}
+use Rattle.std.specs.FinMap.{FinMap, IsAntisymmetric, get, entries, find, get-entries, contains_key}
 use Rattle.std.specs.List.{list_any, filter_map, cons_option, IsDistinct}
 use Rattle.std.proofs.lemmas.Map.Keys.{IsDistinct-from_sorted}
 use Rattle.ebpf_base.proofs.Mapped.{find-apart}
-use Rattle.std.specs.List.Sorted.{IsStrictlySortedBy}
 use Rattle.std.specs.Map.{keys_of, values_of}
-use Rattle.std.specs.Ordering.{eq_by_cmp, is_eq}
+use Rattle.std.specs.Ordering.{eq_by_cmp}
 use Rattle.std.proofs.lemmas.Bool.Decides.{nat_tests}
 use Rattle.std.proofs.lemmas.List.{length-map}
 use Rattle.ebpf_base.proofs.Lists.{there_is}
@@ -18,7 +17,7 @@ use Rattle.ebpf_base.proofs.Maps.{entries_rise, key_exact, is_equal}
 use Rattle.ebpf_base.proofs.TextMaps.{text_exact}
 use Rattle.ebpf_base.specs.Maps.{key_cmp, key_total, text_cmp, text_total}
 use Rattle.ebpf_linker.proofs.Renamed.{renamed, names_from, last_to, Numbers}
-use Rattle.ebpf_linker.specs.Functions.{Among, Walk, last_key_or, SlotReference, Nothing, Faulty, Names}
+use Rattle.ebpf_linker.specs.Functions.{Among, Walk, last_key_or, SlotReference, Names}
 use Rattle.ebpf_linker.specs.Numbered.{body_content, calls_at, functions_by_number, of_target, referred, Rises}
 use Rattle.ebpf_linker.specs.declared.body.Body.{Body}
 use Rattle.ebpf_linker.specs.declared.reference.Fault.{Fault}
@@ -35,8 +34,8 @@ use Rattle.ebpf_reloc.specs.PrivateContracts.{calls_from, number_of_key}
 use Rattle.ebpf_reloc.specs.References.{content_of, functions_of, reference_of}
 use Rattle.ebpf_reloc.specs.SlotTargets.{LinkableValue}
 use Rattle.ebpf_chosen_programs.proofs.Kept.{has_only_members}
-use Rattle.ebpf_chosen_programs.specs.PrivateContracts.{AreFound, Chain, IsLedTo, found_keys, is_found, key_set, program_numbers}
-use Rattle.ebpf_chosen_programs.specs.Reached.{AreReached, IsReached, LeadsTo, program_key}
+use Rattle.ebpf_chosen_programs.specs.PrivateContracts.{AreFound, Chain, found_keys, is_found, key_set, program_numbers}
+use Rattle.ebpf_chosen_programs.specs.Reached.{AreReached, IsReached, program_key}
 
 -- ---- a reference to a function, by slot and among the targets
 

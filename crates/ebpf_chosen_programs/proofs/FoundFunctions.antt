@@ -1,13 +1,11 @@
 -- The search for functions by number: it finds the first ones and those to which references lead.
-use Rattle.std.proofs.Common.{◌≡◌, ℕ, zero, suc, ◌+◌, ◌*◌, ◌<◌, ◌≤◌, Bool, true, false, cond, List, [], ◌∷◌, ◌++◌, map, length, get_or, set, refl, sym, ap, ◌∙◌, subst, inl, inr, ◌⊎◌, arith, Vec, ◌≢◌}
-use Rattle.std.specs.Prelude.{fold, replicate, slice_index_or, slice_set, if◌then◌else◌}
+use Rattle.std.proofs.Common.{◌≡◌, ℕ, zero, suc, ◌+◌, ◌*◌, ◌<◌, ◌≤◌, Bool, true, false, cond, List, [], ◌∷◌, ◌++◌, length, get_or, set, refl, sym, ap, ◌∙◌, subst, inl, inr, ◌⊎◌, arith, Vec}
+use Rattle.std.specs.Prelude.{fold, replicate, slice_set}
 use Rattle.std.specs.declared.alloc.Global.{Global}
-use Rattle.std.proofs.lemmas.List.{get_or-set_same, get_or-set_other, length-set}
-use Rattle.std.proofs.lemmas.Bool.Decides.{eqb_tells, leb_tells, nat_tests}
+use Rattle.std.proofs.lemmas.List.{get_or-set_same, length-set}
 use Rattle.ebpf_linker.proofs.Paths.{among_left, among_right, among_cases}
 use Rattle.ebpf_linker.specs.Functions.{Among, last_key_or}
 use Rattle.ebpf_linker.specs.declared.reference.Reference.{Reference}
-use Rattle.ebpf_linker.specs.declared.reference.Fault.{Fault}
 use Rattle.ebpf_linker.specs.declared.reference.Target.{Target}
 use Rattle.ebpf_linker.specs.declared.reference.Target.TheVariants.{Function as ToFunction, Nowhere}
 use Rattle.ebpf_chosen_programs.specs.PrivateContracts.{Found, is_found, with_found, with_target, targets_of, Refers, Chain, IsLedTo, AreFound}

@@ -1,6 +1,6 @@
 -- Sets of keys, and maps of which some entries are kept.
 use Rattle.std.proofs.Common.{◌≡◌, Bool, true, false, cond, List, [], ◌∷◌, map, Option, Some, None, refl, sym, ap, ◌∙◌, T}
-use Rattle.std.specs.Prelude.{◌||◌, is_some, not, ◌&&◌, ℕ}
+use Rattle.std.specs.Prelude.{◌||◌, is_some}
 use Rattle.std.specs.Cmp.{IsTotalOrder}
 use Rattle.std.specs.declared.cmp.Ordering.{Ordering}
 use Rattle.std.specs.FinMap.{FinMap, IsAntisymmetric, get, insert, empty, entries, entries_sorted, contains_key, from_sorted, entries-from_sorted, get-entries, get-from_sorted, get-retain_keys, get-insert, get-empty, retain_keys, same_map}
@@ -8,7 +8,7 @@ use Rattle.std.specs.FinMap.Entries.{find-where_key, is_sorted-where_key, where_
 use Rattle.std.specs.List.{filter, list_any}
 use Rattle.std.specs.Ordering.{eq_by_cmp}
 use Rattle.ebpf_base.proofs.Mapped.{put_all-map_values, map_values-identity}
-use Rattle.ebpf_base.specs.Maps.{put_all, mapped_entries, text_cmp, text_total, key_cmp, key_total}
+use Rattle.ebpf_base.specs.Maps.{put_all, mapped_entries}
 use Rattle.ebpf_chosen_programs.specs.PrivateContracts.{member}
 
 module _ {K X : Type 0} {R : K → K → Ordering} (o : IsTotalOrder R) (exact : IsAntisymmetric R) where

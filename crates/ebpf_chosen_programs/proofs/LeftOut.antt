@@ -1,9 +1,8 @@
 -- The functions that remaining programs reach have all that they had.
 use Rattle.std.proofs.Common.{◌≡◌, ℕ, ◌+◌, ◌*◌, ◌<◌, Bool, true, false, cond, List, [], ◌∷◌, ◌++◌, map, length, Option, Some, None, refl, sym, ap, ◌∙◌, subst, arith}
-use Rattle.std.specs.Prelude.{◌==◌, ◌||◌, ◌&&◌, not, nat_le, nat_lt, if◌then◌else◌, slice_get, option_map, unwrap_or, ◌^◌, ℤ}
-use Rattle.std.specs.declared.cmp.Ordering.{Ordering}
-use Rattle.std.specs.Cmp.{IsTotalOrder, both_ways, eq_by_cmp_equiv, nat_cmp_total}
-use Rattle.std.specs.FinMap.{FinMap, IsAntisymmetric, get, entries, find, get-entries, get-empty, empty, nat_cmp-IsAntisymmetric}
+use Rattle.std.specs.Prelude.{◌==◌, ◌||◌, ◌&&◌, not, nat_le, nat_lt, slice_get, option_map, unwrap_or, ◌^◌, ℤ}
+use Rattle.std.specs.Cmp.{both_ways, eq_by_cmp_equiv, nat_cmp_total}
+use Rattle.std.specs.FinMap.{FinMap, get, entries, find, get-entries, get-empty, empty, nat_cmp-IsAntisymmetric}
 use Rattle.std.specs.List.{list_any, filter_map, flat_map, cons_option, IsDistinct}
 use Rattle.std.specs.Map.{keys_of}
 use Rattle.std.specs.Option.{option_or}
@@ -14,14 +13,11 @@ use Rattle.std.proofs.lemmas.Option.{slice_get_within}
 use Rattle.ebpf_base.proofs.Mapped.{find-apart, later_number_stands}
 use Rattle.ebpf_base.proofs.Maps.{entries_rise, is_equal, key_exact}
 use Rattle.ebpf_base.proofs.TextMaps.{text_exact}
-use Rattle.ebpf_base.specs.Maps.{key_cmp, key_total, last_at, put_all, text_cmp, text_total}
+use Rattle.ebpf_base.specs.Maps.{key_cmp, last_at, text_cmp, text_total}
 use Rattle.ebpf_elf.specs.declared.relocation.ElfRelocation.{ElfRelocation}
-use Rattle.ebpf_linker.specs.Functions.{SlotReference}
 use Rattle.ebpf_model.specs.Symbols.{FunctionKey}
 use Rattle.ebpf_model.specs.Walks.{found_at}
-use Rattle.ebpf_model.specs.declared.error.RelocationError.{RelocationError}
 use Rattle.ebpf_model.specs.declared.function.Function.{Function}
-use Rattle.ebpf_model.specs.declared.symbol.ExternDesc.{ExternDesc}
 use Rattle.ebpf_model.specs.declared.symbol.Symbol.{Symbol}
 use Rattle.ebpf_object.specs.declared.object.Object.{Object}
 use Rattle.ebpf_parts.specs.declared.insn.bpf_insn.{bpf_insn}
@@ -30,8 +26,8 @@ use Rattle.ebpf_reloc.specs.Relocated.{Relocations, SectionRelocations}
 use Rattle.ebpf_reloc.specs.SlotTargets.{own_target, relocated_target, relocation_of}
 use Rattle.ebpf_chosen_programs.proofs.Kept.{get_kept}
 use Rattle.ebpf_chosen_programs.specs.Laws.{OneLeavingOut, ReferencesOfReachedStay, ReferredExternsStay, RelocationsOfReachedStay}
-use Rattle.ebpf_chosen_programs.specs.LeavingOut.{AreLeftOut, extern_name, extern_names, extern_names_in, extern_stays, is_among, kept_in_section, kept_relocations, lies_in, lies_in_some, remaining, stays, without_programs}
-use Rattle.ebpf_chosen_programs.specs.Reached.{IsReached, own_linkable}
+use Rattle.ebpf_chosen_programs.specs.LeavingOut.{extern_name, extern_names, extern_names_in, extern_stays, is_among, kept_in_section, kept_relocations, lies_in, lies_in_some, stays, without_programs}
+use Rattle.ebpf_chosen_programs.specs.Reached.{own_linkable}
 
 -- ---- the table of a section
 

@@ -14,7 +14,7 @@ use Rattle.ebpf_model.specs.declared.function.Function.{Function}
 use Rattle.ebpf_model.specs.declared.function.Program.{Program}
 use Rattle.ebpf_model.specs.declared.symbol.ExternDesc.{ExternDesc}
 use Rattle.ebpf_chosen_programs.proofs.Kept.{kept, has_only_members}
-use Rattle.ebpf_chosen_programs.specs.LeavingOut.{is_among, remaining, lies_in, lies_in_some, stays, kept_in_section}
+use Rattle.ebpf_chosen_programs.specs.LeavingOut.{is_among, remaining, lies_in, stays, kept_in_section}
 use Rattle.ebpf_chosen_programs.specs.PrivateContracts.{bytes_in_section, code_bytes, holds, name_set, stays_among, with_names}
 
 module _ {K X : Type 0} {R : K → K → Ordering} where

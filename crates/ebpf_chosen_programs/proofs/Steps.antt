@@ -1,5 +1,5 @@
 -- Steps of loops over slices: one item, then the others.
-use Rattle.std.proofs.Common.{◌≡◌, ℕ, zero, suc, ◌+◌, ◌<◌, ◌≤◌, Bool, true, false, List, [], ◌∷◌, ◌++◌, map, drop, length, get_or, None, Some, Option, Bor, refl, sym, ap, ◌∙◌, arith}
+use Rattle.std.proofs.Common.{◌≡◌, ℕ, zero, suc, ◌+◌, ◌<◌, ◌≤◌, Bool, true, false, List, [], ◌∷◌, map, drop, length, get_or, None, Option, Bor, refl, sym, ap, ◌∙◌, arith}
 use Rattle.std.specs.Prelude.{fold, slice_index_or}
 use Rattle.std.specs.FinMap.{FinMap, insert}
 use Rattle.ebpf_base.proofs.Lists.{rest_more, rest_none}

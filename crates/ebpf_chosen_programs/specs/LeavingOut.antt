@@ -6,7 +6,7 @@
 -- the extern `present`. Without `b` the relocations in `a` and `f` stay, and the extern `present`.
 -- The relocations in the function of `b` are gone, and so is the extern `lacking`.
 use Rattle.std.specs.Prelude.{◌≡◌, ℕ, ◌+◌, ◌*◌, ◌==◌, ◌&&◌, ◌||◌, not, nat_le, nat_lt, Bool, true}
-use Rattle.std.specs.Prelude.{false, List, [], ◌∷◌, map, length, Option, Some, None, unwrap_or}
+use Rattle.std.specs.Prelude.{false, List, [], map, length, Option, Some, None, unwrap_or}
 use Rattle.std.specs.Prelude.{if◌then◌else◌}
 use Rattle.std.specs.FinMap.{FinMap, get, contains_key, entries, empty, retain_keys}
 use Rattle.std.specs.List.{list_any, filter_map, flat_map}

@@ -1,12 +1,11 @@
 -- What contracts of private functions name and no public one.
 use Rattle.std.specs.Prelude.{◌≡◌, ℕ, ◌+◌, ◌*◌, ◌<◌, ◌==◌, ◌&&◌, nat_le, nat_lt, Bool, true, false}
-use Rattle.std.specs.Prelude.{List, [], ◌∷◌, ◌++◌, map, length, Option, Some, None, Vec}
+use Rattle.std.specs.Prelude.{List, [], ◌∷◌, ◌++◌, map, length, Vec}
 use Rattle.std.specs.Prelude.{if◌then◌else◌, not, ◌||◌, slice_set, slice_index_or}
 use Rattle.std.specs.declared.alloc.Global.{Global}
 use Rattle.std.specs.FinMap.{FinMap, entries, empty}
 use Rattle.std.specs.List.{filter, filter_map, list_any}
 use Rattle.std.specs.Map.{values_of}
-use Rattle.std.specs.Ordering.{nat_cmp}
 use Rattle.ebpf_base.specs.Maps.{text_cmp, key_cmp, put_all}
 use Rattle.ebpf_linker.specs.Functions.{Among, last_key_or}
 use Rattle.ebpf_linker.specs.Numbered.{calls_at}

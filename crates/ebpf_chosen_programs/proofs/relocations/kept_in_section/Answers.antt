@@ -1,4 +1,4 @@
-use Rattle.std.proofs.Common.{◌≡◌, ◌∙◌, ap, sym, List}
+use Rattle.std.proofs.Common.{◌∙◌, ap, sym}
 use Rattle.std.specs.FinMap.{contains_key, empty, entries}
 use Rattle.std.specs.List.{filter}
 use Rattle.ebpf_base.specs.Maps.{put_all}

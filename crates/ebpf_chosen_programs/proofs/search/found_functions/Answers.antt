@@ -1,6 +1,6 @@
-use Rattle.std.proofs.Common.{◌≡◌, ◌∙◌, ap, List, ℕ, Bool, false, length, replicate}
+use Rattle.std.proofs.Common.{◌∙◌, ap, List, ℕ, Bool, false, length, replicate}
 use Rattle.std.specs.Prelude.{fold}
-use Rattle.ebpf_chosen_programs.specs.PrivateContracts.{Found, with_found}
+use Rattle.ebpf_chosen_programs.specs.PrivateContracts.{with_found}
 use Rattle.ebpf_chosen_programs.proofs.FoundFunctions.{begun, followed, less_work}
 use Rattle.ebpf_chosen_programs.proofs.search.found_functions.Goals as goal
 
