@@ -907,6 +907,17 @@ EBPF_CHECKED uint32_t ebpf_set_value_size(struct ebpf_handle *handle, const char
 EBPF_CHECKED uint32_t ebpf_sanitize(struct ebpf_handle *handle, uint32_t has_newer);
 
 /*
+ * Leaves programs out: they are not linked, and what they alone need is not asked for. `names` has `count` names, each
+ * with a zero byte behind it.
+ *  - So a program that calls an extern that the kernel lacks doesn't stop the others.
+ *  - A remaining program keeps each function that it reaches, with all relocations there and the externs of these.
+ *  - The relocations of other functions are gone, and the externs to which only these referred. Maps stay.
+ *  - A name that no program has is refused (4), about the first such name. A name may occur twice.
+ * Numbers: 2, 3, 4, 6, 12.
+ */
+EBPF_CHECKED uint32_t ebpf_leave_out(struct ebpf_handle *handle, const char *const *names, size_t count);
+
+/*
  * ---- what a handle keeps for its caller
  *
  * These calls return what the handle has, with no buffer of the caller's.

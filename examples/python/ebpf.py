@@ -196,6 +196,7 @@ CALLS = {
     "ebpf_set_max_entries": (*_named, _u32),
     "ebpf_set_value_size": (*_named, _u32),
     "ebpf_sanitize": (_handle, _u32),
+    "ebpf_leave_out": (_handle, _p(c.c_char_p), _size),
     "ebpf_program_count": (_handle,),
     "ebpf_program_at": (_handle, _size, _p(_Program)),
     "ebpf_map_count": (_handle,),
@@ -795,6 +796,14 @@ class Object(_Linkable):
     def use_older_helpers(self):
         """Replaces the helper functions 112 to 115 by the older 4 and 45."""
         self._made(library.ebpf_sanitize(self._handle, 0))
+
+    def leave_out(self, *names):
+        """Leaves programs out: they are not linked, and what they alone need is not asked for. So a program that calls an
+        extern that the kernel lacks doesn't stop the others. Refused 4: no program has the name."""
+        if any("\0" in name for name in names):
+            raise ValueError("a name has a zero byte")
+        rows = (c.c_char_p * len(names))(*(name.encode() for name in names))
+        self._made(library.ebpf_leave_out(self._handle, rows, len(names)))
 
     def outcomes(self, types):
         """The outcome of each CO-RE relocation over a kernel's types (bytes or `Types`), in the order of .BTF.ext. Refused 200
