@@ -23,6 +23,8 @@ size_t ebpf_layer_row(enum ebpf_kept_kind kind)
 		return sizeof(struct ebpf_record_outcome);
 	case EBPF_KEPT_COPIES:
 		return sizeof(struct ebpf_code_copy);
+	case EBPF_KEPT_WITHOUT_DESCRIPTORS:
+		return sizeof(struct ebpf_map_slot);
 	case EBPF_KEPT_SLOTS:
 		return sizeof(struct ebpf_insn);
 	case EBPF_KEPT_FUNC_INFOS:
@@ -59,7 +61,11 @@ static uint32_t ask_list(struct exact_handle *exact, struct ebpf_asked *asked, s
 	case EBPF_KEPT_INITIAL_SLOTS:
 		return exact_ebpf_initial_slots(FILE_BYTES, exact, LISTED, EBPF_TOLD(*told));
 	case EBPF_KEPT_OUTCOMES:
-		return exact_ebpf_record_outcomes(exact, FILE_BYTES, LISTED, EBPF_TOLD(*told));
+		return asked->btf ? exact_ebpf_record_outcomes_with(exact, asked->btf, LISTED, EBPF_TOLD(*told)) :
+				    exact_ebpf_record_outcomes(exact, FILE_BYTES, LISTED, EBPF_TOLD(*told));
+	case EBPF_KEPT_WITHOUT_DESCRIPTORS:
+		return exact_ebpf_maps_without_descriptors(exact, asked->descriptors, asked->descriptors_len, FILE_BYTES,
+							   LISTED);
 	default:
 		return exact_ebpf_link_map(exact, FILE_BYTES, LISTED, EBPF_TOLD(*told));
 	}

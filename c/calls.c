@@ -139,6 +139,17 @@ uint32_t ebpf_attach_target(const char *section_name, size_t section_name_len, c
 		answer ? answer : &no_answer, type_id ? type_id : &no_type_id);
 }
 
+uint32_t ebpf_attach_target_with(const char *section_name, size_t section_name_len, const struct ebpf_btf *btf,
+		uint32_t *answer, uint32_t *type_id)
+{
+	struct exact_btf no_types = { NULL };
+	uint32_t no_answer = 0;
+	uint32_t no_type_id = 0;
+
+	return exact_ebpf_attach_target_with(EBPF_ARRAY(section_name, section_name_len), EBPF_TYPES(btf),
+		answer ? answer : &no_answer, type_id ? type_id : &no_type_id);
+}
+
 uint32_t ebpf_slots(const struct ebpf_handle *handle, const char *name, size_t name_len, struct ebpf_insn *slots,
 		size_t room, size_t *count)
 {
@@ -280,6 +291,20 @@ uint32_t ebpf_relocate_types(struct ebpf_handle *handle, const uint8_t *types, s
 	return ebpf_layer_change(handle, number, &told);
 }
 
+uint32_t ebpf_relocate_types_with(struct ebpf_handle *handle, const struct ebpf_btf *btf)
+{
+	struct exact_handle closed = { NULL };
+	struct exact_btf no_types = { NULL };
+	struct ebpf_told told;
+	uint32_t number;
+
+	ebpf_layer_begin(&told);
+	do
+		number = exact_ebpf_relocate_types_with(EBPF_EXACT(handle), EBPF_TYPES(btf), EBPF_TOLD(told));
+	while (ebpf_layer_is_cut(number, &told));
+	return ebpf_layer_change(handle, number, &told);
+}
+
 uint32_t ebpf_resolve_externs(struct ebpf_handle *handle, const uint8_t *types, size_t types_len,
 		const uint8_t *symbols, size_t symbols_len)
 {
@@ -293,6 +318,32 @@ uint32_t ebpf_resolve_externs(struct ebpf_handle *handle, const uint8_t *types, 
 			EBPF_ARRAY(symbols, symbols_len), EBPF_TOLD(told));
 	while (ebpf_layer_is_cut(number, &told));
 	return ebpf_layer_change(handle, number, &told);
+}
+
+uint32_t ebpf_resolve_externs_with(struct ebpf_handle *handle, const struct ebpf_btf *btf, const uint8_t *symbols,
+		size_t symbols_len)
+{
+	struct exact_handle closed = { NULL };
+	struct exact_btf no_types = { NULL };
+	struct ebpf_told told;
+	uint32_t number;
+
+	ebpf_layer_begin(&told);
+	do
+		number = exact_ebpf_resolve_externs_with(EBPF_EXACT(handle), EBPF_TYPES(btf),
+			EBPF_ARRAY(symbols, symbols_len), EBPF_TOLD(told));
+	while (ebpf_layer_is_cut(number, &told));
+	return ebpf_layer_change(handle, number, &told);
+}
+
+uint32_t ebpf_wants_symbols(const struct ebpf_handle *handle, uint32_t *wants)
+{
+	struct exact_handle closed = { NULL };
+	uint32_t no_wants = 0;
+	uint32_t number;
+
+	number = exact_ebpf_wants_symbols(EBPF_EXACT(handle), wants ? wants : &no_wants);
+	return ebpf_layer_end(handle, number, NULL);
 }
 
 uint32_t ebpf_relocate_externs(struct ebpf_handle *handle)

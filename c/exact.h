@@ -9,6 +9,11 @@ struct exact_handle {
 	void *at;
 };
 
+/* What they have of a kernel's types. */
+struct exact_btf {
+	void *at;
+};
+
 /* A map's name, a place in the text that is given beside the rows, and its descriptor. */
 struct exact_descriptor {
 	size_t name_at, name_len;
@@ -24,6 +29,10 @@ struct exact_value {
 
 uint32_t exact_ebpf_attach_target(const void *section_name, size_t section_name_len, const void *types,
 		size_t types_len, uint32_t *answer, uint32_t *type_id);
+uint32_t exact_ebpf_attach_target_with(const void *section_name, size_t section_name_len, struct exact_btf *kernel,
+		uint32_t *answer, uint32_t *type_id);
+void exact_ebpf_btf_close(struct exact_btf *kernel);
+uint32_t exact_ebpf_btf_open(const void *types, size_t types_len, struct exact_btf *kernel);
 uint32_t exact_ebpf_clone(struct exact_handle *handle, struct exact_handle *copy);
 void exact_ebpf_close(struct exact_handle *handle);
 uint32_t exact_ebpf_define_kconfig(struct exact_handle *handle, const struct exact_value *rows, size_t rows_len,
@@ -51,6 +60,8 @@ uint32_t exact_ebpf_kconfig_value(struct exact_handle *handle, const void *name,
 		size_t about_len, struct ebpf_refusal *report);
 uint32_t exact_ebpf_kernel_types(const void *file, size_t file_len, void *types, size_t types_len, size_t *len,
 		void *about, size_t about_len, struct ebpf_refusal *report);
+uint32_t exact_ebpf_leave_out(struct exact_handle *handle, const struct exact_descriptor *rows, size_t rows_len,
+		const void *text, size_t text_len, void *about, size_t about_len, struct ebpf_refusal *report);
 uint32_t exact_ebpf_license(struct exact_handle *handle, void *text, size_t text_len, size_t *len);
 uint32_t exact_ebpf_line_infos(struct exact_handle *handle, const void *name, size_t name_len,
 		struct ebpf_line_info *rows, size_t rows_len, size_t *count);
@@ -64,6 +75,9 @@ uint32_t exact_ebpf_map_data(struct exact_handle *handle, const void *name, size
 		size_t bytes_len, size_t *len);
 uint32_t exact_ebpf_maps(struct exact_handle *handle, struct ebpf_map *rows, size_t rows_len, void *text,
 		size_t text_len, struct ebpf_counts *counts);
+uint32_t exact_ebpf_maps_without_descriptors(struct exact_handle *handle, const struct exact_descriptor *descriptors,
+		size_t descriptors_len, const void *names, size_t names_len, struct ebpf_map_slot *rows,
+		size_t rows_len, void *text, size_t text_len, struct ebpf_counts *counts);
 uint32_t exact_ebpf_number_name(uint32_t number, void *text, size_t text_len, size_t *len);
 uint32_t exact_ebpf_open(const void *file, size_t file_len, struct exact_handle *handle, void *about,
 		size_t about_len, struct ebpf_refusal *report);
@@ -78,11 +92,21 @@ uint32_t exact_ebpf_prepare(const void *file, size_t file_len, const void *types
 uint32_t exact_ebpf_prepare_handle(struct exact_handle *handle, const void *types, size_t types_len,
 		const struct exact_descriptor *rows, size_t rows_len, const void *text, size_t text_len,
 		const void *symbols, size_t symbols_len, void *about, size_t about_len, struct ebpf_refusal *report);
+uint32_t exact_ebpf_prepare_handle_with(struct exact_handle *handle, struct exact_btf *kernel,
+		const struct exact_descriptor *rows, size_t rows_len, const void *text, size_t text_len,
+		const void *symbols, size_t symbols_len, void *about, size_t about_len, struct ebpf_refusal *report);
+uint32_t exact_ebpf_prepare_with(const void *file, size_t file_len, struct exact_btf *kernel,
+		const struct exact_descriptor *rows, size_t rows_len, const void *text, size_t text_len,
+		const void *symbols, size_t symbols_len, struct exact_handle *handle, void *about, size_t about_len,
+		struct ebpf_refusal *report);
 uint32_t exact_ebpf_program_section(struct exact_handle *handle, const void *name, size_t name_len, void *text,
 		size_t text_len, size_t *len);
 uint32_t exact_ebpf_programs(struct exact_handle *handle, struct ebpf_program *rows, size_t rows_len, void *text,
 		size_t text_len, struct ebpf_counts *counts);
 uint32_t exact_ebpf_record_outcomes(struct exact_handle *handle, const void *types, size_t types_len,
+		struct ebpf_record_outcome *rows, size_t rows_len, void *text, size_t text_len,
+		struct ebpf_counts *counts, void *about, size_t about_len, struct ebpf_refusal *report);
+uint32_t exact_ebpf_record_outcomes_with(struct exact_handle *handle, struct exact_btf *kernel,
 		struct ebpf_record_outcome *rows, size_t rows_len, void *text, size_t text_len,
 		struct ebpf_counts *counts, void *about, size_t about_len, struct ebpf_refusal *report);
 uint32_t exact_ebpf_relocate_calls(struct exact_handle *handle, void *about, size_t about_len,
@@ -93,8 +117,12 @@ uint32_t exact_ebpf_relocate_maps(struct exact_handle *handle, const struct exac
 		const void *text, size_t text_len, void *about, size_t about_len, struct ebpf_refusal *report);
 uint32_t exact_ebpf_relocate_types(struct exact_handle *handle, const void *types, size_t types_len, void *about,
 		size_t about_len, struct ebpf_refusal *report);
+uint32_t exact_ebpf_relocate_types_with(struct exact_handle *handle, struct exact_btf *kernel, void *about,
+		size_t about_len, struct ebpf_refusal *report);
 uint32_t exact_ebpf_resolve_externs(struct exact_handle *handle, const void *types, size_t types_len,
 		const void *symbols, size_t symbols_len, void *about, size_t about_len, struct ebpf_refusal *report);
+uint32_t exact_ebpf_resolve_externs_with(struct exact_handle *handle, struct exact_btf *kernel, const void *symbols,
+		size_t symbols_len, void *about, size_t about_len, struct ebpf_refusal *report);
 uint32_t exact_ebpf_sanitize(struct exact_handle *handle, uint32_t has_newer);
 uint32_t exact_ebpf_sections(struct exact_handle *handle, struct ebpf_section *rows, size_t rows_len, void *text,
 		size_t text_len, struct ebpf_counts *counts);
@@ -115,5 +143,6 @@ uint32_t exact_ebpf_value(struct exact_handle *handle, const void *name, size_t 
 uint32_t exact_ebpf_variables(struct exact_handle *handle, struct ebpf_variable *rows, size_t rows_len, void *text,
 		size_t text_len, struct ebpf_counts *counts);
 uint32_t exact_ebpf_version_number(void);
+uint32_t exact_ebpf_wants_symbols(struct exact_handle *handle, uint32_t *wants);
 
 #endif

@@ -147,9 +147,62 @@ uint32_t ebpf_relocate_maps(struct ebpf_handle *handle, const struct ebpf_descri
 	return ebpf_layer_change(handle, number, &told);
 }
 
-/* Runs all passes over what the handle holds, or over a file. */
-static uint32_t prepare(struct ebpf_handle *handle, const uint8_t *file, size_t file_len, int is_file,
-			const struct ebpf_prepare_inputs *of)
+uint32_t ebpf_maps_without_descriptors(const struct ebpf_handle *handle, const struct ebpf_descriptor *rows,
+				       size_t rows_len, size_t *count)
+{
+	struct ebpf_asked asked = { .kind = EBPF_KEPT_WITHOUT_DESCRIPTORS };
+	struct gathered all;
+	uint32_t number;
+
+	if (is_closed(handle))
+		return ebpf_layer_end(handle, EBPF_CLOSED, NULL);
+	if (!gather_descriptors(&all, rows, rows_len))
+		return ebpf_layer_end(handle, EBPF_MEMORY, NULL);
+	asked.name = all.text;
+	asked.name_len = all.text_len;
+	asked.descriptors = all.rows;
+	asked.descriptors_len = all.count;
+	number = ebpf_layer_taken(handle, &asked, count);
+	free(all.block);
+	return number;
+}
+
+#define ROWS all->rows, all->count, all->text, all->text_len
+#define SYMBOLS EBPF_ARRAY(of->symbols, of->symbols_len)
+
+/* What all passes are made over: what the handle holds, or a file. */
+struct prepared {
+	struct exact_handle *exact;
+	const uint8_t *file;
+	size_t file_len;
+	int is_file;
+};
+
+/* Over types that were read. */
+static uint32_t prepare_with(const struct prepared *over, const struct ebpf_prepare_inputs *of,
+			     const struct gathered *all, struct ebpf_told *told)
+{
+	struct exact_btf *btf = (struct exact_btf *)&of->btf->exact;
+
+	if (over->is_file)
+		return exact_ebpf_prepare_with(EBPF_ARRAY(over->file, over->file_len), btf, ROWS, SYMBOLS, over->exact,
+					       EBPF_TOLD(*told));
+	return exact_ebpf_prepare_handle_with(over->exact, btf, ROWS, SYMBOLS, EBPF_TOLD(*told));
+}
+
+/* Over types as bytes. */
+static uint32_t prepare_bytes(const struct prepared *over, const struct ebpf_prepare_inputs *of,
+			      const struct gathered *all, struct ebpf_told *told)
+{
+	if (over->is_file)
+		return exact_ebpf_prepare(EBPF_ARRAY(over->file, over->file_len), EBPF_ARRAY(of->types, of->types_len),
+					  ROWS, SYMBOLS, over->exact, EBPF_TOLD(*told));
+	return exact_ebpf_prepare_handle(over->exact, EBPF_ARRAY(of->types, of->types_len), ROWS, SYMBOLS,
+					 EBPF_TOLD(*told));
+}
+
+/* Runs all passes. */
+static uint32_t prepare(struct ebpf_handle *handle, const struct prepared *over, const struct ebpf_prepare_inputs *of)
 {
 	struct ebpf_told told;
 	struct gathered all;
@@ -159,13 +212,7 @@ static uint32_t prepare(struct ebpf_handle *handle, const uint8_t *file, size_t 
 		return ebpf_layer_change(handle, EBPF_MEMORY, NULL);
 	ebpf_layer_begin(&told);
 	do
-		number = is_file ? exact_ebpf_prepare(EBPF_ARRAY(file, file_len), EBPF_ARRAY(of->types, of->types_len),
-						      all.rows, all.count, all.text, all.text_len,
-						      EBPF_ARRAY(of->symbols, of->symbols_len), &handle->exact,
-						      EBPF_TOLD(told)) :
-				   exact_ebpf_prepare_handle(&handle->exact, EBPF_ARRAY(of->types, of->types_len),
-							     all.rows, all.count, all.text, all.text_len,
-							     EBPF_ARRAY(of->symbols, of->symbols_len), EBPF_TOLD(told));
+		number = (of->btf ? prepare_with : prepare_bytes)(over, of, &all, &told);
 	while (ebpf_layer_is_cut(number, &told));
 	free(all.block);
 	return ebpf_layer_change(handle, number, &told);
@@ -176,22 +223,26 @@ uint32_t ebpf_prepare(const uint8_t *file, size_t file_len, const struct ebpf_pr
 {
 	struct ebpf_prepare_inputs with = ebpf_prepare_defaults();
 	struct ebpf_handle *made = ebpf_layer_make();
+	struct prepared over;
 
 	*handle = made;
 	if (!made)
 		return EBPF_MEMORY;
 	if (!ebpf_layer_options(inputs, &with, sizeof(with)))
 		return ebpf_layer_end(made, EBPF_BAD_OPTIONS, NULL);
-	return prepare(made, file, file_len, 1, &with);
+	over = (struct prepared){ &made->exact, file, file_len, 1 };
+	return prepare(made, &over, &with);
 }
 
 uint32_t ebpf_prepare_handle(struct ebpf_handle *handle, const struct ebpf_prepare_inputs *inputs)
 {
 	struct ebpf_prepare_inputs with = ebpf_prepare_defaults();
+	struct prepared over;
 
 	if (is_closed(handle))
 		return ebpf_layer_change(handle, EBPF_CLOSED, NULL);
 	if (!ebpf_layer_options(inputs, &with, sizeof(with)))
 		return ebpf_layer_change(handle, EBPF_BAD_OPTIONS, NULL);
-	return prepare(handle, NULL, 0, 0, &with);
+	over = (struct prepared){ &handle->exact, NULL, 0, 0 };
+	return prepare(handle, &over, &with);
 }

@@ -92,3 +92,26 @@ void ebpf_close(struct ebpf_handle *handle)
 	free(handle->sentence);
 	free(handle);
 }
+
+/* ---- the types of a kernel */
+
+uint32_t ebpf_btf_open(const uint8_t *types, size_t types_len, struct ebpf_btf **btf)
+{
+	struct ebpf_btf *made = calloc(1, sizeof(*made));
+	uint32_t number = made ? exact_ebpf_btf_open(EBPF_ARRAY(types, types_len), &made->exact) : EBPF_MEMORY;
+
+	if (number != EBPF_DONE) {
+		free(made);
+		made = NULL;
+	}
+	*btf = made;
+	return number;
+}
+
+void ebpf_btf_close(struct ebpf_btf *btf)
+{
+	if (!btf)
+		return;
+	exact_ebpf_btf_close(&btf->exact);
+	free(btf);
+}

@@ -34,11 +34,19 @@ struct ebpf_told {
 	char name[EBPF_NAME_ROOM + 1];
 };
 
+/* The types of a kernel: what the proved calls have of them. */
+struct ebpf_btf {
+	struct exact_btf exact;
+};
+
 /* Where an empty array is. */
 extern uint64_t ebpf_layer_nothing;
 
 /* A null handle is a closed one, in a place of the call's own. */
 #define EBPF_EXACT(handle) ((handle) ? (struct exact_handle *)&(handle)->exact : &closed)
+
+/* Null types are closed ones. */
+#define EBPF_TYPES(btf) ((btf) ? (struct exact_btf *)&(btf)->exact : &no_types)
 
 /* A null array is empty. */
 #define EBPF_ARRAY(array, count) (array) ? (void *)(array) : (void *)&ebpf_layer_nothing, (array) ? (count) : 0
@@ -67,6 +75,7 @@ enum ebpf_kept_kind {
 	EBPF_KEPT_INITIAL_SLOTS,
 	EBPF_KEPT_OUTCOMES,
 	EBPF_KEPT_COPIES,
+	EBPF_KEPT_WITHOUT_DESCRIPTORS,
 	EBPF_KEPT_SLOTS,
 	EBPF_KEPT_FUNC_INFOS,
 	EBPF_KEPT_LINE_INFOS,
@@ -91,8 +100,11 @@ struct ebpf_kept {
 struct ebpf_asked {
 	enum ebpf_kept_kind kind;
 	size_t index;
-	const void *name; /* or a file, or types */
+	const void *name; /* or a file, or types, or the names of descriptors */
 	size_t name_len;
+	const struct exact_descriptor *descriptors;
+	size_t descriptors_len;
+	struct exact_btf *btf; /* types that were read, in the place of bytes */
 	const char *config;
 	size_t config_len;
 	uint64_t number;
@@ -102,6 +114,9 @@ struct ebpf_asked {
 const struct ebpf_kept *ebpf_layer_find(const struct ebpf_handle *handle, enum ebpf_kept_kind kind, size_t index);
 const struct ebpf_kept *ebpf_layer_take(const struct ebpf_handle *handle, struct ebpf_asked *asked);
 void ebpf_layer_drop(struct ebpf_handle *handle);
+
+/* lists.c */
+uint32_t ebpf_layer_taken(const struct ebpf_handle *handle, struct ebpf_asked *asked, size_t *count);
 
 /* asking.c */
 size_t ebpf_layer_row(enum ebpf_kept_kind kind);

@@ -118,15 +118,21 @@ const char *ebpf_variable_at(const struct ebpf_handle *handle, size_t index, str
 
 /* ---- lists that are taken by a call of their own, over something that it is given */
 
-static uint32_t taken(const struct ebpf_handle *handle, enum ebpf_kept_kind kind, const void *bytes, size_t len,
-		      size_t *count)
+uint32_t ebpf_layer_taken(const struct ebpf_handle *handle, struct ebpf_asked *asked, size_t *count)
 {
-	struct ebpf_asked asked = { .kind = kind, .name = bytes, .name_len = len };
-	const struct ebpf_kept *list = ebpf_layer_take(handle, &asked);
+	const struct ebpf_kept *list = ebpf_layer_take(handle, asked);
 
 	if (list && count)
 		*count = list->count;
 	return list ? EBPF_DONE : handle ? handle->error.number : EBPF_CLOSED;
+}
+
+static uint32_t taken(const struct ebpf_handle *handle, enum ebpf_kept_kind kind, const void *bytes, size_t len,
+		      size_t *count)
+{
+	struct ebpf_asked asked = { .kind = kind, .name = bytes, .name_len = len };
+
+	return ebpf_layer_taken(handle, &asked, count);
 }
 
 static const char *taken_at(const struct ebpf_handle *handle, enum ebpf_kept_kind kind, size_t index, void *row)
@@ -153,6 +159,14 @@ uint32_t ebpf_record_outcomes(const struct ebpf_handle *handle, const uint8_t *t
 	return taken(handle, EBPF_KEPT_OUTCOMES, types, types_len, count);
 }
 
+uint32_t ebpf_record_outcomes_with(const struct ebpf_handle *handle, const struct ebpf_btf *btf, size_t *count)
+{
+	struct exact_btf no_types = { NULL };
+	struct ebpf_asked asked = { .kind = EBPF_KEPT_OUTCOMES, .btf = EBPF_TYPES(btf) };
+
+	return ebpf_layer_taken(handle, &asked, count);
+}
+
 const char *ebpf_record_outcome_at(const struct ebpf_handle *handle, size_t index, struct ebpf_record_outcome *row)
 {
 	return taken_at(handle, EBPF_KEPT_OUTCOMES, index, row);
@@ -166,6 +180,11 @@ uint32_t ebpf_link_map(const struct ebpf_handle *handle, const char *name, size_
 const char *ebpf_code_copy_at(const struct ebpf_handle *handle, size_t index, struct ebpf_code_copy *row)
 {
 	return taken_at(handle, EBPF_KEPT_COPIES, index, row);
+}
+
+const char *ebpf_map_without_descriptor_at(const struct ebpf_handle *handle, size_t index, struct ebpf_map_slot *row)
+{
+	return taken_at(handle, EBPF_KEPT_WITHOUT_DESCRIPTORS, index, row);
 }
 
 /* ---- what belongs to a row, and single values */

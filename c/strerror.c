@@ -11,7 +11,7 @@ const char *ebpf_strerror(uint32_t number)
 	case EBPF_MEMORY:
 		return "out of memory";
 	case EBPF_CLOSED:
-		return "the handle has no object: it is NULL, or its file was refused";
+		return "the handle has no object: it is NULL, or its file was refused; or the types are NULL";
 	case EBPF_NO_PROGRAM:
 		return "no program has the name";
 	case EBPF_NO_MAP:

@@ -8,15 +8,16 @@
  *  - A count is no greater than what lies behind its pointer, and each pointer is aligned for its type.
  *  - What a call may write (each pointer without const) overlaps nothing else that the call is given. No other thread
  *    touches it during the call. What is const does not change during the call: that goes for a mapped file too.
- *  - A handle is what `ebpf_open`, `ebpf_prepare` or `ebpf_clone` gave. It stays on the thread that made it, and one
- *    call at a time uses it, also where it is const: a call takes the object out of the handle while it runs, and keeps
- *    its error and its lists there. Two threads that read one object have a handle each (`ebpf_clone`). `ebpf_close`
- *    frees it, once.
+ *  - A handle is what `ebpf_open`, `ebpf_prepare` or `ebpf_clone` gave. It may move from thread to thread, and one call
+ *    at a time uses it, also where it is const: a call takes the object out of the handle while it runs, and keeps its
+ *    error and its lists there. Two threads that read one object at a time have a handle each (`ebpf_clone`).
+ *    `ebpf_close` frees it, once.
+ *  - The same holds for the types that `ebpf_btf_open` gave, which `ebpf_btf_close` frees.
  *  - malloc, realloc and free are of one allocator and align as the C standard says. No call is made from a signal
  *    handler, nor in the child that a process with threads forked.
  * Beyond these anything may be passed: any bytes as a file, types, symbols, names or values, any numbers.
  *  - A null array is empty, whatever its count. A null handle is a closed one (3). A null count or row is not written.
- *    Only where a handle is given out (`struct ebpf_handle **`) the pointer is not null.
+ *    Only where a handle is given out (`struct ebpf_handle **`, `struct ebpf_btf **`) the pointer is not null.
  *  - Memory that a call writes needn't be initialised. The calls that give out a handle write it, and never read it.
  *  - No pointer that a call is given is kept behind the call. The object has copies of all that it needs.
  *
@@ -84,7 +85,7 @@ enum ebpf_number {
 	EBPF_DONE = 0, /* all is done and written */
 	EBPF_ROOM = 1, /* a buffer is too small; the counts say how much is needed */
 	EBPF_MEMORY = 2, /* out of memory */
-	EBPF_CLOSED = 3, /* the handle has no object: it is NULL, or its file was refused */
+	EBPF_CLOSED = 3, /* the handle has no object: it is NULL, or its file was refused; or the types are NULL */
 	EBPF_NO_PROGRAM = 4, /* no program has the name */
 	EBPF_NO_MAP = 5, /* no map has the name */
 	EBPF_BAD_NAME = 6, /* a name that is given is no UTF-8 */
@@ -198,7 +199,7 @@ enum ebpf_number {
 	EBPF_TYPES_INSTRUCTION = 248, /* an instruction can't take a value */
 	EBPF_TYPES_NO_TARGET = 249, /* kept, never returned */
 
-	/* 300 to 399: descriptors of maps. About the function. 320 and 321: `ebpf_prepare` and `ebpf_prepare_handle` alone */
+	/* 300 to 399: descriptors of maps. About the function, but for 320 and 321 */
 	EBPF_MAPS_UNKNOWN_SYMBOL = 300, /* maps: a relocation refers to an unknown symbol */
 	EBPF_MAPS_SECTION_NOT_FOUND = 301, /* maps: no descriptor is given for any map of the symbol's section */
 	EBPF_MAPS_UNKNOWN_FUNCTION = 302, /* maps: no function is where a reference leads */
@@ -492,6 +493,23 @@ EBPF_CHECKED uint32_t ebpf_clone(const struct ebpf_handle *handle, struct ebpf_h
 /* Frees the handle and what it holds. NULL is freed as `free` does: nothing happens. */
 void ebpf_close(struct ebpf_handle *handle);
 
+/* ---- a kernel's types, read once for many calls and many objects */
+
+/* The types of a kernel. */
+struct ebpf_btf;
+
+/*
+ * Reads the types of a kernel, and gives them out. `types` is raw BTF in the byte order that its magic number states:
+ * the bytes of /sys/kernel/btf/vmlinux. They are not needed after the call.
+ *  - A call that is given what this gave is the call over these bytes. No call changes it.
+ *  - *btf is NULL with other numbers than 0.
+ * Numbers: 2, 200 to 219.
+ */
+EBPF_CHECKED uint32_t ebpf_btf_open(const uint8_t *types, size_t types_len, struct ebpf_btf **btf) EBPF_NONNULL(3);
+
+/* Frees the types. NULL is freed as `free` does: nothing happens. */
+void ebpf_btf_close(struct ebpf_btf *btf);
+
 /* ---- what an object has */
 
 struct ebpf_object_info {
@@ -718,6 +736,10 @@ enum ebpf_target_answer {
 EBPF_CHECKED uint32_t ebpf_attach_target(const char *section_name, size_t section_name_len, const uint8_t *types,
 			size_t types_len, uint32_t *answer, uint32_t *type_id);
 
+/* The same over types that were read. Numbers: 2, 3, 6. */
+EBPF_CHECKED uint32_t ebpf_attach_target_with(const char *section_name, size_t section_name_len,
+			const struct ebpf_btf *btf, uint32_t *answer, uint32_t *type_id);
+
 /* struct bpf_insn */
 struct ebpf_insn {
 	uint8_t code;
@@ -885,6 +907,17 @@ EBPF_CHECKED uint32_t ebpf_set_value_size(struct ebpf_handle *handle, const char
 EBPF_CHECKED uint32_t ebpf_sanitize(struct ebpf_handle *handle, uint32_t has_newer);
 
 /*
+ * Leaves programs out: they are not linked, and what they alone need is not asked for. `names` has `count` names, each
+ * with a zero byte behind it.
+ *  - So a program that calls an extern that the kernel lacks doesn't stop the others.
+ *  - A remaining program keeps each function that it reaches, with all relocations there and the externs of these.
+ *  - The relocations of other functions are gone, and the externs to which only these referred. Maps stay.
+ *  - A name that no program has is refused (4), about the first such name. A name may occur twice.
+ * Numbers: 2, 3, 4, 6, 12.
+ */
+EBPF_CHECKED uint32_t ebpf_leave_out(struct ebpf_handle *handle, const char *const *names, size_t count);
+
+/*
  * ---- what a handle keeps for its caller
  *
  * These calls return what the handle has, with no buffer of the caller's.
@@ -977,10 +1010,10 @@ const char *ebpf_initial_slot_at(const struct ebpf_handle *handle, size_t index,
 
 /*
  * A map's name and its descriptor.
- *  - Each map that a slot refers to needs a row, a map of variables too. Else `ebpf_prepare` and `ebpf_prepare_handle`
- *    return EBPF_MAPS_MISSING_DESCRIPTOR, about the map. `ebpf_relocate_maps` takes the row of another map in its section.
- *  - Each row needs the name of a map of the object. Else the two return EBPF_MAPS_UNKNOWN_MAP, about the name.
- *    `ebpf_relocate_maps` passes the row over.
+ *  - Each map that a slot refers to needs a row, a map of variables too. Else the number is
+ *    EBPF_MAPS_MISSING_DESCRIPTOR, about the map. `ebpf_maps_without_descriptors` lists all such slots.
+ *  - Each row needs the name of a map of the object. Else the number is EBPF_MAPS_UNKNOWN_MAP, about the name. It comes
+ *    first.
  *  - Of two rows for one name, or for maps of one symbol, the later counts.
  */
 struct ebpf_descriptor {
@@ -994,6 +1027,9 @@ struct ebpf_descriptor {
  * states. Numbers: 2, 3, 11, 12, 200 to 299.
  */
 EBPF_CHECKED uint32_t ebpf_relocate_types(struct ebpf_handle *handle, const uint8_t *types, size_t types_len);
+
+/* The same over types that were read. Numbers: 2, 3, 11, 12, 220 to 299. */
+EBPF_CHECKED uint32_t ebpf_relocate_types_with(struct ebpf_handle *handle, const struct ebpf_btf *btf);
 
 /* the outcome of a CO-RE relocation over a kernel's types; the names of this part call it a record */
 enum ebpf_record_result {
@@ -1037,11 +1073,38 @@ struct ebpf_record_outcome {
  */
 EBPF_CHECKED uint32_t ebpf_record_outcomes(const struct ebpf_handle *handle, const uint8_t *types, size_t types_len,
 			size_t *count);
+
+/* The same over types that were read. Numbers: 2, 3. */
+EBPF_CHECKED uint32_t ebpf_record_outcomes_with(const struct ebpf_handle *handle, const struct ebpf_btf *btf,
+			size_t *count);
 const char *ebpf_record_outcome_at(const struct ebpf_handle *handle, size_t index, struct ebpf_record_outcome *row);
+
+/* A slot that refers to a map. */
+struct ebpf_map_slot {
+	size_t name_at, name_len; /* the place of the map's name in the text */
+	size_t section;		  /* the index of the section of the slot's function */
+	uint64_t address;	  /* the function's address there, in bytes */
+	size_t slot;		  /* the number of the slot in the function */
+};
+
+/*
+ * Takes the list of the slots whose own map has no row here, by their functions' sections and addresses, then by slot.
+ * *count is how many rows `ebpf_map_without_descriptor_at` has then: it returns the name of the row's map.
+ *  - With none each slot that refers to a map gets the descriptor of its own map. So a loader that makes only the maps
+ *    that programs refer to calls it with no rows, and makes the maps of these names.
+ *  - A slot's own map is that of its symbol, else the map of the symbol's section, as of a variable in .bss. A slot that
+ *    refers to a section without maps has none.
+ *  - Call it before `ebpf_relocate_maps`. The object is unchanged.
+ *  - Descriptors of the rows are not read. Names that the object lacks are passed over.
+ * Numbers: 2, 3, 6.
+ */
+EBPF_CHECKED uint32_t ebpf_maps_without_descriptors(const struct ebpf_handle *handle,
+			const struct ebpf_descriptor *rows, size_t rows_len, size_t *count);
+const char *ebpf_map_without_descriptor_at(const struct ebpf_handle *handle, size_t index, struct ebpf_map_slot *row);
 
 /*
  * Writes descriptors of maps into the slots that refer to them. A row whose name is no UTF-8 is refused before all
- * other faults of the rows. Numbers: 2, 3, 6, 11, 12, 300 to 311.
+ * other faults of the rows. Numbers: 2, 3, 6, 11, 12, 300 to 399.
  */
 EBPF_CHECKED uint32_t ebpf_relocate_maps(struct ebpf_handle *handle, const struct ebpf_descriptor *rows,
 			size_t rows_len);
@@ -1053,6 +1116,17 @@ EBPF_CHECKED uint32_t ebpf_relocate_maps(struct ebpf_handle *handle, const struc
  */
 EBPF_CHECKED uint32_t ebpf_resolve_externs(struct ebpf_handle *handle, const uint8_t *types, size_t types_len,
 			const uint8_t *symbols, size_t symbols_len);
+
+/* The same over types that were read. Numbers: 2, 3, 11, 12, 400 to 499. */
+EBPF_CHECKED uint32_t ebpf_resolve_externs_with(struct ebpf_handle *handle, const struct ebpf_btf *btf,
+			const uint8_t *symbols, size_t symbols_len);
+
+/*
+ * Sets *wants to 1 if finding the externs reads the kernel's symbols, else to 0: then give none, and don't read
+ * /proc/kallsyms, which takes long. It is 1 if the object has types, and an extern without a type that is not found yet.
+ * Numbers: 3.
+ */
+EBPF_CHECKED uint32_t ebpf_wants_symbols(const struct ebpf_handle *handle, uint32_t *wants);
 
 /* Writes what is known of the externs into the slots that refer to them. Numbers: 2, 3, 11, 12, 500 to 599. */
 EBPF_CHECKED uint32_t ebpf_relocate_externs(struct ebpf_handle *handle);
@@ -1106,12 +1180,13 @@ struct ebpf_prepare_inputs {
 	size_t descriptors_len;
 	const uint8_t *symbols; /* as for ebpf_resolve_externs */
 	size_t symbols_len;
+	const struct ebpf_btf *btf; /* the kernel's types, if they were read: then `types` is not read */
 };
 
 /* No inputs. Set what there is. */
 EBPF_INLINE struct ebpf_prepare_inputs ebpf_prepare_defaults(void)
 {
-	struct ebpf_prepare_inputs inputs = { sizeof(struct ebpf_prepare_inputs), NULL, 0, NULL, 0, NULL, 0 };
+	struct ebpf_prepare_inputs inputs = { sizeof(struct ebpf_prepare_inputs), NULL, 0, NULL, 0, NULL, 0, NULL };
 
 	return inputs;
 }
@@ -1119,7 +1194,7 @@ EBPF_INLINE struct ebpf_prepare_inputs ebpf_prepare_defaults(void)
 /*
  * Opens the object of a file by strict parsing, and runs all of these passes over it. It gives out a handle as
  * `ebpf_open` does, also where it refuses. The descriptors' names are looked at first, then the types are read, then
- * the file. Each slot's own map has to have a descriptor, else the number is 320, before the first pass. `inputs` may
+ * the file. Rows that are not complete are refused (320, 321) before the first pass. `inputs` may
  * be NULL: then there are none. They are refused as options are (90).
  * Numbers: 2, 6, 90, 100 to 199, 200 to 299, .., 600 to 699.
  */

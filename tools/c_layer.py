@@ -6,7 +6,7 @@
 
 The proved calls take no null pointer, and those that can refuse by a name write it into a buffer. The layer adds:
   - a null array is given as an empty one, whatever its count;
-  - a null handle is given as a closed one, so the call returns 3;
+  - a null handle is given as a closed one, so the call returns 3, and so are null types;
   - a null result (a count, a row) is given a place of the layer's own;
   - a refusal is kept in the handle, with its whole name: the call is made once more where that was cut;
   - a call that takes the handle without const drops the lists that the handle keeps.
@@ -24,6 +24,7 @@ NAMES = {
     "ebpf_descriptor": "exact_descriptor",
     "ebpf_value": "exact_value",
     "ebpf_handle": "exact_handle",
+    "ebpf_types": "exact_btf",
     "bpf_insn": "ebpf_insn",
     "bpf_func_info": "ebpf_func_info",
     "bpf_line_info": "ebpf_line_info",
@@ -80,7 +81,8 @@ def prototypes(text):
 def in_exact(kind):
     """A type of the header as the proved call has it."""
     kind = re.sub(r"^(const )?(uint8_t|char) \*$", r"\1void *", kind)
-    return "struct exact_handle *" if kind.removeprefix("const ") == "struct ebpf_handle *" else kind
+    of_layer = re.fullmatch(r"(?:const )?struct ebpf_(handle|btf) \*", kind)
+    return f"struct exact_{of_layer[1]} *" if of_layer else kind
 
 
 def follows(call, of_exports):
@@ -110,6 +112,11 @@ EXACT_HEAD = """\
 
 /* What the proved calls have of an object. */
 struct exact_handle {
+	void *at;
+};
+
+/* What they have of a kernel's types. */
+struct exact_btf {
 	void *at;
 };
 
@@ -172,6 +179,9 @@ def passed(parameters):
             words.append(f"EBPF_EXACT({name})")
             places.append("struct exact_handle closed = { NULL };")
             held = kind
+        elif in_exact(kind) == "struct exact_btf *":
+            words.append(f"EBPF_TYPES({name})")
+            places.append("struct exact_btf no_types = { NULL };")
         elif kind.endswith("*") and behind[0] == "size_t":
             words.append(f"EBPF_ARRAY({name}, {behind[1]})")
             at += 1

@@ -11,8 +11,8 @@ An `Object` is opened, and its values may be set. `Object.prepare` makes all pas
 are as BPF_PROG_LOAD takes them. `Object.steps` makes the passes one by one. The object that a pass was made of is closed,
 so no pass is made twice. A call that refuses raises `Refused`, and changes nothing. Both close themselves.
 
-The library is that of the environment's EBPF_LIBRARY (a path), else `libebpf.so.1`. An object stays on the thread that
-opened it. Python 3.10 or later.
+The library is that of the environment's EBPF_LIBRARY (a path), else `libebpf.so.1`. One thread at a time uses an object.
+Python 3.10 or later.
 """
 import builtins
 import ctypes as c
@@ -123,9 +123,13 @@ class _Descriptor(c.Structure):
     _fields_ = [("name", _byte_p), ("name_len", _size), ("descriptor", c.c_int32)]
 
 
+class _MapSlot(c.Structure):
+    _fields_ = [("name_at", _size), ("name_len", _size), ("section", _size), ("address", _u64), ("slot", _size)]
+
+
 class _PrepareInputs(c.Structure):
     _fields_ = [("size", _size), ("types", _byte_p), ("types_len", _size), ("descriptors", c.POINTER(_Descriptor))]
-    _fields_ += [("descriptors_len", _size), ("symbols", _byte_p), ("symbols_len", _size)]
+    _fields_ += [("descriptors_len", _size), ("symbols", _byte_p), ("symbols_len", _size), ("btf", c.c_void_p)]
 
 
 class _RecordOutcome(c.Structure):
@@ -162,6 +166,8 @@ CALLS = {
     "ebpf_open": (*_bytes, _p(_OpenOptions), _p(_handle)),
     "ebpf_clone": (_handle, _p(_handle)),
     "ebpf_close": (_handle,),
+    "ebpf_btf_open": (*_bytes, _p(_handle)),
+    "ebpf_btf_close": (_handle,),
     "ebpf_info": (_handle, _p(_Info)),
     "ebpf_license": (_handle, *_room, _p(_size)),
     "ebpf_states_license": (_handle, _p(_u32)),
@@ -174,6 +180,7 @@ CALLS = {
     "ebpf_program_section": (*_named, *_room, _p(_size)),
     "ebpf_sections": (_handle, *_list(_Section)),
     "ebpf_attach_target": (*_bytes, *_bytes, _p(_u32), _p(_u32)),
+    "ebpf_attach_target_with": (*_bytes, _handle, _p(_u32), _p(_u32)),
     "ebpf_slots": (*_named, _p(Insn), _size, _p(_size)),
     "ebpf_func_infos": (*_named, _p(FuncInfo), _size, _p(_size)),
     "ebpf_line_infos": (*_named, _p(LineInfo), _size, _p(_size)),
@@ -189,6 +196,7 @@ CALLS = {
     "ebpf_set_max_entries": (*_named, _u32),
     "ebpf_set_value_size": (*_named, _u32),
     "ebpf_sanitize": (_handle, _u32),
+    "ebpf_leave_out": (_handle, _p(c.c_char_p), _size),
     "ebpf_program_count": (_handle,),
     "ebpf_program_at": (_handle, _size, _p(_Program)),
     "ebpf_map_count": (_handle,),
@@ -211,10 +219,16 @@ CALLS = {
     "ebpf_initial_slots": (_handle, *_bytes, _p(_size)),
     "ebpf_initial_slot_at": (_handle, _size, _p(_InitialSlot)),
     "ebpf_relocate_types": (_handle, *_bytes),
+    "ebpf_relocate_types_with": (_handle, _handle),
     "ebpf_record_outcomes": (_handle, *_bytes, _p(_size)),
+    "ebpf_record_outcomes_with": (_handle, _handle, _p(_size)),
     "ebpf_record_outcome_at": (_handle, _size, _p(_RecordOutcome)),
+    "ebpf_maps_without_descriptors": (_handle, _p(_Descriptor), _size, _p(_size)),
+    "ebpf_map_without_descriptor_at": (_handle, _size, _p(_MapSlot)),
     "ebpf_relocate_maps": (_handle, _p(_Descriptor), _size),
     "ebpf_resolve_externs": (_handle, *_bytes, *_bytes),
+    "ebpf_resolve_externs_with": (_handle, _handle, *_bytes),
+    "ebpf_wants_symbols": (_handle, _p(_u32)),
     "ebpf_relocate_externs": (_handle,),
     "ebpf_relocate_calls": (_handle,),
     "ebpf_link_map": (*_named, _p(_size)),
@@ -226,6 +240,7 @@ CALLS = {
 # What those return that return no number. A text that a handle keeps is an address.
 RESULTS = {
     "ebpf_close": None,
+    "ebpf_btf_close": None,
     "ebpf_strerror": _byte_p,
     "ebpf_explain": _byte_p,
     "ebpf_last_error": _p(_Error),
@@ -412,6 +427,16 @@ class InitialSlot:
 
 
 @dataclasses.dataclass(frozen=True)
+class MapSlot:
+    """A slot that refers to the map `map`: its number in the function at `address` of a section."""
+
+    map: str
+    section: int
+    address: int
+    slot: int
+
+
+@dataclasses.dataclass(frozen=True)
 class CodeCopy:
     """A copy of a function in a linked program: `slots` slots from `base` on."""
 
@@ -472,6 +497,47 @@ def _result(row, name):
     numbers = [row.value, row.absence, row.fault]
     given = [number if row.result == place else None for place, number in enumerate(numbers)]
     return Outcome(name, row.number, row.section, row.address, row.slot if row.has_slot else None, *given)
+
+
+class Types:
+    """A kernel's types, read once for many calls and many objects: `Types(types)` of bytes as /sys/kernel/btf/vmlinux has
+    them. Each call that takes a kernel's types takes bytes, which it reads anew, or these. One thread at a time uses them.
+    Refused 200 to 219."""
+
+    def __init__(self, types):
+        at = c.c_void_p()
+        number = library.ebpf_btf_open(*_data(types), c.byref(at))
+        self._at = at.value
+        if number != DONE:
+            raise _raised(number)
+
+    def __enter__(self):
+        return self
+
+    def __exit__(self, *_):
+        self.close()
+
+    def __del__(self):
+        self.close()
+
+    def close(self):
+        """Frees the types. Closed ones stay closed, and each call that is given them raises ValueError."""
+        at, self._at = getattr(self, "_at", None), None
+        if at and library:
+            library.ebpf_btf_close(at)
+
+    @property
+    def _handle(self):
+        if not self._at:
+            raise ValueError("the types are closed")
+        return self._at
+
+
+def _over(call, types, *given):
+    """Makes a call over types: over those that were read, or over bytes."""
+    if isinstance(types, Types):
+        return getattr(library, f"{call}_with")(*given[:1], types._handle, *given[1:])
+    return getattr(library, call)(*given[:1], *_data(types), *given[1:])
 
 
 class Contents:
@@ -601,6 +667,20 @@ class Contents:
         rows, text = self._listed(_Extern, library.ebpf_externs)
         return [_extern(row, text(row.name_at, row.name_len)) for row in rows]
 
+    def wants_symbols(self):
+        """Whether finding the externs reads the kernel's symbols, the text of /proc/kallsyms; else give none."""
+        wants = _u32()
+        self._made(library.ebpf_wants_symbols(self._handle, c.byref(wants)))
+        return bool(wants)
+
+    def maps_without_descriptors(self, maps=()):
+        """The slots whose own map is not among these names, by their functions and then by slot. With none each slot that
+        refers to a map gets the descriptor of its own map. Ask it before the pass that writes descriptors."""
+        rows, count = _descriptor_rows(dict.fromkeys(maps, 0)), _size()
+        self._made(library.ebpf_maps_without_descriptors(self._handle, rows, len(rows), c.byref(count)))
+        found = self._rows(_MapSlot, library.ebpf_map_without_descriptor_at, count)
+        return [MapSlot(name, row.section, row.address, row.slot) for row, name, _ in found]
+
     def sections(self):
         """The named sections of the file, in byte order of their names."""
         rows, text = self._listed(_Section, library.ebpf_sections)
@@ -717,21 +797,32 @@ class Object(_Linkable):
         """Replaces the helper functions 112 to 115 by the older 4 and 45."""
         self._made(library.ebpf_sanitize(self._handle, 0))
 
+    def leave_out(self, *names):
+        """Leaves programs out: they are not linked, and what they alone need is not asked for. So a program that calls an
+        extern that the kernel lacks doesn't stop the others. Refused 4: no program has the name."""
+        if any("\0" in name for name in names):
+            raise ValueError("a name has a zero byte")
+        rows = (c.c_char_p * len(names))(*(name.encode() for name in names))
+        self._made(library.ebpf_leave_out(self._handle, rows, len(names)))
+
     def outcomes(self, types):
-        """The outcome of each CO-RE relocation over a kernel's types (bytes), in the order of .BTF.ext. Refused 200 to 219."""
+        """The outcome of each CO-RE relocation over a kernel's types (bytes or `Types`), in the order of .BTF.ext. Refused 200
+        to 219."""
         count = _size()
-        self._made(library.ebpf_record_outcomes(self._handle, *_data(types), c.byref(count)))
+        self._made(_over("ebpf_record_outcomes", types, self._handle, c.byref(count)))
         rows = self._rows(_RecordOutcome, library.ebpf_record_outcome_at, count)
         return [_result(row, name) for row, name, _ in rows]
 
     def prepare(self, types=b"", symbols=b"", maps=python_types.MappingProxyType({})):
         """Runs all passes, and gives the object as a `Prepared`; this one is closed then.
 
-        `types`: the kernel's types, as /sys/kernel/btf/vmlinux has them; empty: functions are not relocated. `symbols`: the
-        text of /proc/kallsyms. `maps`: {name: descriptor}. Refused 200 to 699: the object is as it was.
+        `types`: the kernel's types, as bytes that /sys/kernel/btf/vmlinux has, or `Types`; empty: functions are not relocated.
+        `symbols`: the text of /proc/kallsyms. `maps`: {name: descriptor}. Refused 200 to 699: the object is as it was.
         """
-        rows = _descriptor_rows(maps)
-        inputs = _PrepareInputs(c.sizeof(_PrepareInputs), *_data(types), rows, len(rows), *_data(symbols))
+        rows, btf = _descriptor_rows(maps), None
+        if isinstance(types, Types):
+            types, btf = b"", types._handle
+        inputs = _PrepareInputs(c.sizeof(_PrepareInputs), *_data(types), rows, len(rows), *_data(symbols), btf)
         self._made(library.ebpf_prepare_handle(self._handle, c.byref(inputs)))
         return self._moved(Prepared)
 
@@ -745,17 +836,18 @@ class Steps(_Linkable):
     Refused 11: the pass was made; 12: a later one was."""
 
     def relocate_types(self, types):
-        """Relocates the functions to a kernel's types (CO-RE). Refused 200 to 299."""
-        self._made(library.ebpf_relocate_types(self._handle, *_data(types)))
+        """Relocates the functions to a kernel's types (CO-RE), bytes or `Types`. Refused 200 to 299."""
+        self._made(_over("ebpf_relocate_types", types, self._handle))
 
     def relocate_maps(self, maps):
-        """Writes descriptors of maps, {name: descriptor}. Refused 300 to 311."""
+        """Writes descriptors of maps, {name: descriptor}. Refused 300 to 399: a map has none (320), a name is of no map
+        (321)."""
         rows = _descriptor_rows(maps)
         self._made(library.ebpf_relocate_maps(self._handle, rows, len(rows)))
 
     def resolve_externs(self, types, symbols):
-        """Finds the externs in a kernel's types and in its symbols. Refused 200 to 219, 400 to 499."""
-        self._made(library.ebpf_resolve_externs(self._handle, *_data(types), *_data(symbols)))
+        """Finds the externs in a kernel's types, bytes or `Types`, and in its symbols. Refused 200 to 219, 400 to 499."""
+        self._made(_over("ebpf_resolve_externs", types, self._handle, *_data(symbols)))
 
     def relocate_externs(self):
         """Writes what is known of the externs. Refused 500 to 599."""
@@ -809,10 +901,13 @@ NOT_WANTED, UNNAMED, FOUND, NOT_FOUND = 0, 1, 2, 3
 
 
 def attach_target(section, types):
-    """The type that the programs of a section of this name are attached to, by a kernel's types: (answer, id). The answer is
-    NOT_WANTED, UNNAMED, FOUND or NOT_FOUND; the id is 0 where none is found. Refused 200 to 219."""
-    answer, type_id = _u32(), _u32()
-    number = library.ebpf_attach_target(*_text(section), *_data(types), c.byref(answer), c.byref(type_id))
+    """The type that the programs of a section of this name are attached to, by a kernel's types (bytes or `Types`): (answer,
+    id). The answer is NOT_WANTED, UNNAMED, FOUND or NOT_FOUND; the id is 0 where none is found. Refused 200 to 219."""
+    answer, type_id, named = _u32(), _u32(), _text(section)
+    if isinstance(types, Types):
+        number = library.ebpf_attach_target_with(*named, types._handle, c.byref(answer), c.byref(type_id))
+    else:
+        number = library.ebpf_attach_target(*named, *_data(types), c.byref(answer), c.byref(type_id))
     if number != DONE:
         raise _raised(number, section)
     return answer.value, type_id.value

@@ -55,9 +55,9 @@ def fits(kind, in_c):
     if in_c == "void":
         return kind is None
     base = in_c.removeprefix("const ").removesuffix("*").strip()
-    if base in ("uint8_t", "char", "struct ebpf_handle"):
+    if base in ("uint8_t", "char", "struct ebpf_handle", "struct ebpf_btf"):
         return kind in (c.c_char_p, c.c_void_p)
-    if base == "struct ebpf_handle *":
+    if base in ("struct ebpf_handle *", "struct ebpf_btf *"):
         return kind is c.POINTER(c.c_void_p)
     wanted = NUMBERS.get(base) or STRUCTS[base.removeprefix("struct ebpf_")]
     return kind is c.POINTER(wanted)
@@ -207,6 +207,36 @@ class Passes(unittest.TestCase):
             outcomes = object.outcomes(NO_TYPES)
             self.assertTrue(outcomes)
             self.assertEqual({(it.value, it.absence, it.fault) for it in outcomes}, {(None, 1, None)})
+
+    def test_types_that_are_read_once(self):
+        with ebpf.open(COUNTER) as object, ebpf.Types(NO_TYPES) as types:
+            self.assertEqual(object.outcomes(types), object.outcomes(NO_TYPES))
+            for section in ("xdp", "fentry", "fentry/none"):
+                self.assertEqual(ebpf.attach_target(section, types), ebpf.attach_target(section, NO_TYPES))
+            steps, other = object.copy().steps(), object.copy().steps()
+            steps.relocate_types(types)
+            other.relocate_types(NO_TYPES)
+            for it in (steps, other):
+                it.relocate_maps(COUNTER_MAPS)
+            steps.resolve_externs(types, b"")
+            other.resolve_externs(NO_TYPES, b"")
+            code = lambda it: [bytes(slot) for slot in it.slots("on_packet")]
+            self.assertEqual(code(steps), code(other))
+            with object.copy().prepare(types, maps=COUNTER_MAPS) as one, object.copy().prepare(NO_TYPES, maps=COUNTER_MAPS) as two:
+                self.assertEqual(code(one), code(two))
+        with self.assertRaises(ebpf.Refused) as raised:
+            ebpf.Types(b"no types")
+        self.assertEqual(raised.exception.number, 200)
+        with self.assertRaises(ValueError):
+            ebpf.attach_target("xdp", types)
+
+    def test_what_is_wanted(self):
+        with ebpf.open(COUNTER) as object:
+            self.assertFalse(object.wants_symbols())
+            slots = object.maps_without_descriptors()
+            self.assertEqual({it.map for it in slots}, set(COUNTER_MAPS))
+            rest = object.maps_without_descriptors(["counts", "none"])
+            self.assertEqual(rest, [it for it in slots if it.map != "counts"])
 
 
 if __name__ == "__main__":

@@ -5,7 +5,7 @@ import sys
 from pathlib import Path
 
 import make_rows
-from c_interface import builds, compiled, detail_rows, examples, exports, found_rows, growth_rows, loader_rows, more_rows, page_code, record_rows, rows_of_objects
+from c_interface import builds, compiled, detail_rows, examples, exports, found_rows, growth_rows, habits, loader_rows, more_rows, page_code, record_rows, rows_of_objects
 from c_interface.runs import Files, run
 from growths.inputs import COUNTER, KERNEL, LINES, REFERENCES, SMALL, TASKS
 from growths.run import Runner
@@ -127,6 +127,8 @@ def main(folder, library, words):
     for name in [name for name in made if name.startswith(("bounds", "layer"))]:
         passed, fault = said_by(made[name].path, folder)
         count.add("bounds and the layer", name, fault, passed)
+    for what, fault in habits.checked(Path(folder), library):
+        count.add("habits", what, fault)
     of_calls(folder, count, made)
     for what, fault in compiled.compared(made[f"calls-{builds.compilers()[0]}"].path, Path(folder)):
         count.add("compiled", what, fault)

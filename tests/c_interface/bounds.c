@@ -419,7 +419,7 @@ static void *prepare(void *to)
 {
 	struct ebpf_handle *object = opened(&given[0]);
 	struct ebpf_prepare_inputs inputs = {
-		sizeof(inputs), given[1].at, given[1].size, NULL, 0, given[2].at, given[2].size
+		sizeof(inputs), given[1].at, given[1].size, NULL, 0, given[2].at, given[2].size, NULL
 	};
 	struct ebpf_descriptor *rows;
 	size_t found = 0;

@@ -4,7 +4,7 @@
  * usage: calls [-m] OBJECT TYPES SYMBOLS ACTION..      an empty file of types is none
  *
  * An action is a name, and words behind `=` with colons between them where it asks for some:
- *	open prepare prepare_handle prepare_handle=NAME:N,.. clone types maps maps=NAME:N,.. resolve externs calls
+ *	open prepare prepare_handle prepare_handle=NAME:N,.. clone types maps maps=NAME:N,.. missing missing=NAME:N,.. resolve externs calls
  *	value=NAME:must|may:DIGITS entries=NAME:N
  *	values=NAME:must|may:DIGITS,.. size=NAME:N sanitize=N
  *	                                     change what the handle holds, and print `NAME NUMBER ABOUT {DETAIL N ..}`
@@ -153,12 +153,24 @@ static uint32_t copy(void)
 	return put(ebpf_clone(object, &made));
 }
 
+/* Each slot whose map has no descriptor, by the map's name. */
+static uint32_t put_missing(void)
+{
+	struct ebpf_map_slot slot;
+	const char *name;
+	uint32_t number = ebpf_maps_without_descriptors(object, given.rows, given.count, NULL);
+
+	for (size_t at = 0; number == EBPF_DONE && (name = ebpf_map_without_descriptor_at(object, at, &slot)); at++)
+		printf("slot %zu of %zu:%llu refers to %s\n", slot.slot, slot.section, (unsigned long long)slot.address, name);
+	return number;
+}
+
 /* `counted`: growths of memory are, so that only the call itself may be made. */
 static uint32_t change(const char *name, char *rest, int counted)
 {
 	struct made_on on = made_on();
 	struct ebpf_prepare_inputs inputs = { sizeof(inputs), types.at,	  types.len,  given.rows,
-					      given.count,    symbols.at, symbols.len };
+					      given.count,    symbols.at, symbols.len, NULL };
 	int64_t number = loader_call(&on, name, rest);
 	char *map;
 
@@ -188,6 +200,8 @@ static uint32_t change(const char *name, char *rest, int counted)
 		return ebpf_relocate_types(object, types.at, types.len);
 	if (!strcmp(name, "maps"))
 		return ebpf_relocate_maps(object, given.rows, given.count);
+	if (!strcmp(name, "missing"))
+		return put_missing();
 	if (!strcmp(name, "resolve"))
 		return ebpf_resolve_externs(object, types.at, types.len, symbols.at, symbols.len);
 	if (!strcmp(name, "externs"))
@@ -347,7 +361,7 @@ static void act(char *word, int is_marked)
 
 	if (lists(name))
 		return;
-	if (!strcmp(name, "maps") || !strcmp(name, "prepare") || !strcmp(name, "prepare_handle"))
+	if (!strcmp(name, "maps") || !strcmp(name, "missing") || !strcmp(name, "prepare") || !strcmp(name, "prepare_handle"))
 		give_map_fds(name, rest);
 	if (is_marked) {
 		printf("before:\n");

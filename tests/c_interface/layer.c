@@ -187,8 +187,10 @@ static void check_given(const struct layer_files *files)
 	CHECK("rows", !strcmp(ebpf_last_error(object)->name, "wanted") && ebpf_last_error(object)->refusal.other_size == 3);
 	CHECK("rows", ebpf_relocate_maps(object, maps, 2) == EBPF_BAD_NAME);
 	maps[1] = maps[2];
-	CHECK("rows", ebpf_relocate_maps(object, maps, 2) == EBPF_MAPS_SECTION_NOT_FOUND);
-	CHECK("rows", ebpf_last_error(object)->refusal.has & EBPF_HAS_SYMBOL);
+	CHECK("rows", ebpf_relocate_maps(object, maps, 2) == EBPF_MAPS_UNKNOWN_MAP && is_last(object, EBPF_MAPS_UNKNOWN_MAP));
+	CHECK("rows", !ebpf_last_error(object)->name_len);
+	CHECK("rows", ebpf_relocate_maps(object, maps, 1) == EBPF_MAPS_MISSING_DESCRIPTOR);
+	CHECK("rows", ebpf_last_error(object)->name_len && strcmp(ebpf_last_error(object)->name, "counts"));
 	/* lengths that no memory has */
 	rows[0].name_len = rows[2].name_len = SIZE_MAX / 2;
 	CHECK("rows", ebpf_set_values(object, rows, 3) == EBPF_MEMORY && is_last(object, EBPF_MEMORY));
@@ -211,6 +213,9 @@ int main(int words, char **word)
 	check_errors(&files);
 	check_given(&files);
 	check_kept(&files);
+	check_types(&files);
+	check_wanted(&files);
+	check_leaving();
 	check_memory(&files);
 	for (int at = 0; at < 5; at++)
 		free(to[at]->at);

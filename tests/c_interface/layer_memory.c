@@ -125,6 +125,50 @@ static uint32_t take_outcomes(struct ebpf_handle **of)
 	return ebpf_record_outcomes(*of, given->types.at, given->types.len, NULL);
 }
 
+/* Types that were read before. */
+static struct ebpf_btf *types_read;
+
+static uint32_t take_outcomes_with(struct ebpf_handle **of)
+{
+	return ebpf_record_outcomes_with(*of, types_read, NULL);
+}
+
+static uint32_t relocate_with(struct ebpf_handle **of)
+{
+	return ebpf_relocate_types_with(*of, types_read);
+}
+
+static uint32_t prepare_with(struct ebpf_handle **of)
+{
+	struct ebpf_prepare_inputs inputs = ebpf_prepare_defaults();
+
+	inputs.btf = types_read;
+	return ebpf_prepare(given->small.at, given->small.len, &inputs, of);
+}
+
+static uint32_t resolve_with(struct ebpf_handle **of)
+{
+	return ebpf_resolve_externs_with(*of, types_read, NULL, 0);
+}
+
+static uint32_t prepare_held_with(struct ebpf_handle **of)
+{
+	struct ebpf_descriptor rows[] = { { "counts", 6, 1 }, { ".bss", 4, 2 }, { ".rodata", 7, 3 }, { "tables", 6, 4 } };
+	struct ebpf_prepare_inputs inputs = ebpf_prepare_defaults();
+
+	inputs.btf = types_read;
+	inputs.descriptors = rows;
+	inputs.descriptors_len = 4;
+	return ebpf_prepare_handle(*of, &inputs);
+}
+
+static uint32_t take_missing(struct ebpf_handle **of)
+{
+	struct ebpf_descriptor rows[] = { { "counts", 6, 1 } };
+
+	return ebpf_maps_without_descriptors(*of, rows, 1, NULL);
+}
+
 static uint32_t take_copies(struct ebpf_handle **of)
 {
 	return ebpf_link_map(*of, "on_packet", 9, NULL);
@@ -203,6 +247,14 @@ static uint32_t define(struct ebpf_handle **of)
 	return ebpf_define_kconfig(*of, rows, 1);
 }
 
+static uint32_t leave_out(struct ebpf_handle **of)
+{
+	static const char *const names[] = { "on_packet" };
+
+	/* with memory the same call finds no such program */
+	return ebpf_program_count(*of) ? ebpf_leave_out(*of, names, 1) : EBPF_DONE;
+}
+
 /* Calls, by the object that they are made on: 0: none, 1: counter.o, 2: that for loaders; and their number. */
 static const struct {
 	const char *name;
@@ -213,6 +265,7 @@ static const struct {
 	{ "ebpf_open", open_file, 0, EBPF_DONE },
 	{ "ebpf_open, refused", open_refused, 0, EBPF_PARSE_BAD_SECTION_TABLE },
 	{ "ebpf_prepare", prepare_file, 0, EBPF_DONE },
+	{ "ebpf_prepare, with types", prepare_with, 0, EBPF_DONE },
 	{ "ebpf_clone", clone, 1, EBPF_DONE },
 	{ "ebpf_program_count", count_programs, 1, EBPF_DONE },
 	{ "ebpf_map_at", take_map, 1, EBPF_DONE },
@@ -222,10 +275,16 @@ static const struct {
 	{ "ebpf_kernel_types", take_types, 1, EBPF_DONE },
 	{ "ebpf_record_outcomes", take_outcomes, 1, EBPF_DONE },
 	{ "ebpf_link_map", take_copies, 1, EBPF_DONE },
+	{ "ebpf_maps_without_descriptors", take_missing, 1, EBPF_DONE },
+	{ "ebpf_record_outcomes_with", take_outcomes_with, 1, EBPF_DONE },
+	{ "ebpf_relocate_types_with", relocate_with, 1, EBPF_DONE },
+	{ "ebpf_resolve_externs_with", resolve_with, 1, EBPF_DONE },
+	{ "ebpf_prepare_handle, with types", prepare_held_with, 1, EBPF_DONE },
 	{ "ebpf_set_values", set_values, 1, EBPF_DONE },
+	{ "ebpf_leave_out", leave_out, 1, EBPF_DONE },
 	{ "ebpf_set_value", set_unknown, 1, EBPF_PARSE_SYMBOL_NOT_FOUND },
 	{ "ebpf_explain", explain, 1, EBPF_PARSE_SYMBOL_NOT_FOUND },
-	{ "ebpf_relocate_maps", relocate_maps, 1, EBPF_MAPS_SECTION_NOT_FOUND },
+	{ "ebpf_relocate_maps", relocate_maps, 1, EBPF_MAPS_MISSING_DESCRIPTOR },
 	{ "ebpf_kconfig_value", configured, 2, EBPF_DONE },
 	{ "ebpf_kconfig_number", numbered, 2, EBPF_DONE },
 	{ "ebpf_initial_slots", initial, 2, EBPF_DONE },
@@ -274,10 +333,33 @@ static int is_tried(size_t number, size_t count)
 	return count < 200 || number < 20 || number + 20 > count || middle < 20 || number % (count / 50) == 0;
 }
 
+/* Reading types, with each allocation failing in turn. */
+static void check_reading(void)
+{
+	size_t number = 0, before = taken;
+
+	do {
+		struct ebpf_btf *made = (void *)&number;
+		uint32_t returned;
+
+		has_failed = 0;
+		left = number++;
+		returned = ebpf_btf_open(given->types.at, given->types.len, &made);
+		left = SIZE_MAX;
+		CHECK("ebpf_btf_open", returned == (has_failed ? EBPF_MEMORY : EBPF_DONE) && (made == NULL) == has_failed);
+		ebpf_btf_close(made);
+		CHECK("ebpf_btf_open", taken == before);
+	} while (has_failed);
+	CHECK("ebpf_btf_open", number > 3);
+}
+
 void check_memory(const struct layer_files *files)
 {
 	given = files;
 	memset(long_name, 'n', 1000);
+	check_reading();
+	if (ebpf_btf_open(files->types.at, files->types.len, &types_read) != EBPF_DONE)
+		errx(3, "the types of the repository can't be read");
 	for (size_t which = 0; which < sizeof(calls) / sizeof(*calls); which++) {
 		size_t count = 0, other;
 
@@ -287,4 +369,5 @@ void check_memory(const struct layer_files *files)
 			if (is_tried(number, count))
 				CHECK(calls[which].name, with_failure(which, number, &other));
 	}
+	ebpf_btf_close(types_read);
 }

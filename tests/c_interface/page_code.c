@@ -43,6 +43,27 @@ static void open_within(struct bytes of)
 	ebpf_close(handle);
 }
 
+/* All passes over types that were read. */
+static void prepare_over(struct bytes file, struct bytes kernel)
+{
+	struct ebpf_handle *handle = opened(file);
+	const uint8_t *types = kernel.at;
+	size_t types_len = kernel.len, maps = 0, count = 0;
+	struct ebpf_descriptor rows[16];
+	struct ebpf_map map;
+	uint32_t number;
+
+	for (; maps < 16 && (rows[maps].name = ebpf_map_at(handle, maps, &map)); maps++) {
+		rows[maps].name_len = map.name_len;
+		rows[maps].descriptor = (int32_t)maps + 3;
+	}
+#include "read.inc"
+	ebpf_program_slots(handle, 0, &count);
+	printf("over types that were read: %u, %zu slots\n", number, count);
+	ebpf_close(handle);
+	ebpf_btf_close(btf);
+}
+
 /* The programs as the handle keeps them, and as they are written into buffers. */
 static void list(struct bytes file)
 {
@@ -60,11 +81,10 @@ static void list(struct bytes file)
 	ebpf_close(handle);
 }
 
-/* The refusal where one map alone has a descriptor. */
+/* The refusal of a value of another size. */
 static void refuse(struct bytes file)
 {
 	struct ebpf_handle *handle = opened(file);
-	const int fd = 3;
 	uint32_t number;
 
 #include "refused.inc"
@@ -83,6 +103,7 @@ int main(int words, char **word)
 	other = read_file(word[3]);
 	prepare(object, types);
 	open_within(other);
+	prepare_over(other, types);
 	list(other);
 	refuse(other);
 	free(object.at);

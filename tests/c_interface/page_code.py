@@ -15,22 +15,23 @@ from shown.blocks import blocks_of
 CHECK = TOP / "examples/check"
 
 # The C of the pages in their order, by the files that page_code.c includes.
-PIECES = ["prepared", "opened", "kept", "listed", "refused"]
+PIECES = ["prepared", "opened", "read", "kept", "listed", "refused"]
 
-# The number of a relocation of maps without a descriptor in words, as docs/C.md has it.
-SENTENCE = 'maps: no descriptor is given for any map of the symbol\'s section: "count" (symbol 12, section 12)'
+# The refusal of a value of another size in words, as docs/C.md has it.
+SENTENCE = 'a value does not fit its variable or its map; about the variable: "seen" (size 8, other size 4)'
 
 # What page_code prints. `ebpf link` in docs/CLI.md has the 35 slots, of which slot 11 is poisoned. `readelf -s` has the
-# sizes of the programs, and the number of the symbol `seen`, whose map gets no descriptor.
+# sizes of the programs, and of the symbol `seen`.
 PRINTED = [
     "prepared 0: 35 slots, slot 11 calls 0xbad2310",
     "opened",
+    "over types that were read: 0, 33 slots",
     "on_packet has 15 slots",
     "on_wake has 13 slots",
     "listed 0: on_packet 15 on_wake 13",
     SENTENCE,
-    "count refers to symbol 12",
-    "refused 301",
+    "seen has 8 bytes",
+    "refused 150",
 ]
 
 

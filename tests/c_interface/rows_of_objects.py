@@ -179,15 +179,22 @@ def of_fds(case, words, text):
     """Descriptors, and the slots of a lone program."""
     files = case.files["object"], b"", b""
     given = ",".join(word.replace("=", ":") for word in words)
-    action = f"maps={given}"
     answer, _, slots = re.fullmatch(r"(Ok\(\(\)\)|Err\((.*)\)) ([0-9a-f ,]*)", text).groups()
     said = "maps 0" if answer.startswith("Ok") else refused("maps", refusals.of_slots("maps", answer))
     slots = slot_digits(slots)
-    if is_lone(case, slots):
-        wanted = ["open 0", said, f"program p slots {len(slots)}", *slots]
-        yield CallsRow(case.name, files, ["open", action, "slots"], wanted)
-    else:
-        yield CallsRow(case.name, files, ["open", action], ["open 0", said])
+
+    def judge(lines):
+        maps = [line.split()[1] for line in lines if line.startswith("map ")]
+        unknown = [name for name in (word.partition("=")[0] for word in words) if name not in maps]
+        missing = [line.rpartition(" ")[2] for line in lines if line.startswith("slot ")]
+        incomplete = [f"maps 321 {name}" for name in unknown] + [f"maps 320 {name}" for name in missing]
+        wanted = [incomplete[0] if incomplete else said]
+        if is_lone(case, slots) and not incomplete:
+            wanted += [f"program p slots {len(slots)}", *slots]
+        behind = lines[lines.index("missing 0") + 1 :]
+        return None if behind[: len(wanted)] == wanted else f"{lines} in place of {wanted}"
+
+    yield CallsRow(case.name, files, ["open", "listed", f"missing={given}", f"maps={given}", "slots"], judge)
 
 
 def of_resolving(case, words, text):

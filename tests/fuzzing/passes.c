@@ -403,7 +403,7 @@ static void as_stated(const char *stage, uint64_t first)
 {
 	struct ebpf_open_options options = ebpf_open_defaults();
 	struct ebpf_prepare_inputs inputs = {
-		sizeof(inputs), types.at, types.len, NULL, 0, symbols.at, symbols.len
+		sizeof(inputs), types.at, types.len, NULL, 0, symbols.at, symbols.len, NULL
 	};
 	struct ebpf_handle *object = NULL;
 	uint32_t number;

@@ -4,16 +4,18 @@ use Rattle.std.proofs.lemmas.Option.{none-some}
 use Rattle.std.specs.Prelude.{if◌then◌else◌}
 use Rattle.capi_exports.specs.PassOrder.{HasPassed, fault_of_pass, fault_of_setting}
 use Rattle.capi_exports.specs.PassSequences.{MakesTypes, MakesMaps, MakesResolution, MakesAll, IsPass, AreCalls, after_calls, before_passes, or_unpassed, IsComposed, AnyCallsCompose}
-use Rattle.capi_exports.specs.Passes.{HasWrittenExterns, HasLinked}
+use Rattle.capi_exports.specs.Passes.{HasWrittenExterns, HasLinked, PreparationInputs, all_passes}
 use Rattle.capi_exports.specs.declared.held.Held.{Held}
 use Rattle.capi_exports.specs.declared.held.Pass.{Pass}
 use Rattle.capi_exports.specs.declared.held.Pass.TheVariants.{Types, Maps, Resolution, Externs, Calls}
 use Rattle.capi_rows.specs.Descriptors.{descriptors_in}
 use Rattle.ebpf_btf.specs.TypeInfo.{TypeInfo}
+use Rattle.ebpf_ksyms.specs.Sources.{Text}
 use Rattle.ebpf_model.specs.Symbols.{TextSections}
 use Rattle.ebpf_object.proofs.Headline.{passes_finish}
 use Rattle.ebpf_object.specs.Chain.{Passes, Chain, Links, with_descriptors}
 use Rattle.ebpf_object.specs.Names.{has_function_in}
+use Rattle.ebpf_object.specs.Prepared.{Stages}
 use Rattle.ebpf_object.specs.Stages.{RelocatesTypes, own_maps}
 use Rattle.ebpf_object.specs.WrittenSlots.{with_externs}
 use Rattle.ebpf_object.specs.declared.object.Object.{Object}
@@ -32,6 +34,20 @@ last_made old new (inr (inr (inl p))) = (Resolution, p.last)
 last_made old new (inr (inr (inr (inl p)))) = (Externs, p.last)
 last_made old new (inr (inr (inr (inr (inl p))))) = (Calls, p.last)
 last_made old new (inr (inr (inr (inr (inr p))))) = (Calls, p.last)
+
+-- ---- what calls over bytes and over types have in common
+
+relocated : (old new : Object) → MakesTypes old new → (target : TypeInfo) × RelocatesTypes (Some target) old new
+relocated old new (inl (types, c)) = (c.target, (c.relocated, c.others_stay))
+relocated old new (inr (kernel, c)) = (kernel, (c.relocated, c.others_stay))
+
+resolved : (old new : Object) → MakesResolution old new → new ≡ record old { externs = new.externs }
+resolved old new (inl (types, symbols, c)) = c.others_stay
+resolved old new (inr (kernel, symbols, c)) = c.others_stay
+
+staged : (old new : Object) → MakesAll old new → (inputs : PreparationInputs) × (kernel : Option TypeInfo) × Stages (all_passes inputs kernel) (Text inputs.symbols) old new
+staged old new (inl (inputs, c)) = (inputs, c.kernel, c.stages)
+staged old new (inr (kernel, inputs, c)) = (inputs, Some kernel, c.stages)
 
 -- ---- what an object is after each pass, made or left out
 module _ (begun : Object) where
@@ -135,9 +151,9 @@ module _ (begun : Object) where
 
     types_made : HasPassed Types Types MakesTypes old new → Now new.last
     types_made p =
-        let c = p.change.1 in
+        let made = relocated old.object new.object p.change in
         subst Now (sym p.last)
-        (subst (λ (o : Object). (target : Option TypeInfo) × RelocatesTypes target o new.object) (may_types old.last old.object p.allowed before) (Some c.target, (c.relocated, c.others_stay)))
+        (subst (λ (o : Object). (target : Option TypeInfo) × RelocatesTypes target o new.object) (may_types old.last old.object p.allowed before) (Some made.0, made.1))
 
     maps_made : HasPassed Maps Maps MakesMaps old new → Now new.last
     maps_made p =
@@ -145,7 +161,7 @@ module _ (begun : Object) where
         subst Now (sym p.last) (old.object, may_maps old.last old.object p.allowed before, Some given, p.change.2.is)
 
     resolution_made : HasPassed Resolution Resolution MakesResolution old new → Now new.last
-    resolution_made p = subst Now (sym p.last) (old.object, may_resolution old.last old.object p.allowed before, p.change.2.others_stay)
+    resolution_made p = subst Now (sym p.last) (old.object, may_resolution old.last old.object p.allowed before, resolved old.object new.object p.change)
 
     externs_made : HasPassed Externs Externs HasWrittenExterns old new → Now new.last
     externs_made p = subst Now (sym p.last) (old.object, may_externs old.last old.object p.allowed before, true, p.change.is)
@@ -155,9 +171,9 @@ module _ (begun : Object) where
 
     all_made : HasPassed Types Calls MakesAll old new → Now new.last
     all_made p =
-        let s = p.change.1.stages in
-        let types : AfterTypes s.relocated = subst (λ (o : Object). (target : Option TypeInfo) × RelocatesTypes target o s.relocated) (may_types old.last old.object p.allowed before) (p.change.1.kernel, s.types) in
-        let maps : AfterMaps s.fds_written = (s.relocated, types, Some (has_function_in s.relocated.functions, own_maps s.relocated.maps (descriptors_in p.change.0.text p.change.0.rows)), s.maps) in
+        let (inputs, kernel, s) = staged old.object new.object p.change in
+        let types : AfterTypes s.relocated = subst (λ (o : Object). (target : Option TypeInfo) × RelocatesTypes target o s.relocated) (may_types old.last old.object p.allowed before) (kernel, s.types) in
+        let maps : AfterMaps s.fds_written = (s.relocated, types, Some (has_function_in s.relocated.functions, own_maps s.relocated.maps (descriptors_in inputs.text inputs.rows)), s.maps) in
         let resolution : AfterResolution s.resolved = (s.fds_written, maps, s.resolution.1) in
         let externs : AfterExterns s.unlinked = (s.resolved, resolution, true, s.externs) in
         subst Now (sym p.last) (s.unlinked, externs, Some (has_function_in s.unlinked.functions), s.calls)

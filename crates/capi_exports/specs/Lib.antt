@@ -1,6 +1,10 @@
 pub mod Handles
+pub mod KernelHandles
 pub mod PassOrder
 pub mod Answers
 pub mod Settings
+pub mod LeavingOut
 pub mod Passes
+pub mod KernelPasses
 pub mod PassSequences
+pub mod WantedSymbols

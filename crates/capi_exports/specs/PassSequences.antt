@@ -5,32 +5,42 @@
 -- again, which is refused: begun is the object with the value, and of the passes `maps` is chosen.
 use Rattle.std.specs.Prelude.{◌≡◌, ◌⊎◌, ⊤, ℕ, List, [], ◌∷◌, Option, Some, None}
 use Rattle.capi_exports.specs.PassOrder.{HasPassed, HasSetting}
-use Rattle.capi_exports.specs.Passes.{PreparationInputs, HasPutMapFds, HasRelocatedTypes}
+use Rattle.capi_exports.specs.Passes.{PreparationInputs, HasRelocatedTypes}
+use Rattle.capi_rows.specs.Descriptors.{HasWrittenMapFds}
 use Rattle.capi_exports.specs.Passes.{HasResolved, HasWrittenExterns, HasLinked}
 use Rattle.capi_exports.specs.Passes.{HasPreparedHeld}
+use Rattle.capi_exports.specs.KernelPasses.{HasPreparedHeldTo, HasRelocatedTo, HasResolvedIn}
 use Rattle.capi_exports.specs.declared.held.Held.{Held}
 use Rattle.capi_exports.specs.declared.held.Pass.{Pass}
 use Rattle.capi_exports.specs.declared.held.Pass.TheVariants.{Types, Maps, Resolution, Externs}
 use Rattle.capi_exports.specs.declared.held.Pass.TheVariants.{Calls}
 use Rattle.capi_rows.specs.declared.reads.ebpf_descriptor.{ebpf_descriptor}
+use Rattle.ebpf_btf.specs.TypeInfo.{TypeInfo}
 use Rattle.ebpf_object.specs.Chain.{Passes}
 use Rattle.ebpf_object.specs.Headline.{IsFinished}
 use Rattle.ebpf_object.specs.declared.object.Object.{Object}
 
--- ---- one call
+-- ---- one call, over bytes or over types that were read
 
 abbrev pub MakesTypes : Object → Object → Type 0
-MakesTypes old new = (types : List ℕ) × HasRelocatedTypes types old new
+MakesTypes old new =
+    ((types : List ℕ) × HasRelocatedTypes types old new)
+    ⊎ ((kernel : TypeInfo) × HasRelocatedTo kernel old new)
 
 abbrev pub MakesMaps : Object → Object → Type 0
 MakesMaps old new =
-    (rows : List ebpf_descriptor) × (text : List ℕ) × HasPutMapFds rows text old new
+    (rows : List ebpf_descriptor) × (text : List ℕ) × HasWrittenMapFds rows text old new
 
 abbrev pub MakesResolution : Object → Object → Type 0
-MakesResolution old new = (types symbols : List ℕ) × HasResolved types symbols old new
+MakesResolution old new =
+    ((types symbols : List ℕ) × HasResolved types symbols old new)
+    ⊎ ((kernel : TypeInfo) × (symbols : List ℕ) × HasResolvedIn kernel symbols old new)
 
 abbrev pub MakesAll : Object → Object → Type 0
-MakesAll old new = (inputs : PreparationInputs) × HasPreparedHeld inputs old new
+MakesAll old new =
+    ((inputs : PreparationInputs) × HasPreparedHeld inputs old new)
+    ⊎
+    ((kernel : TypeInfo) × (inputs : PreparationInputs) × HasPreparedHeldTo kernel inputs old new)
 
 -- a pass is made, or all of them
 abbrev pub IsPass : Held → Held → Type 0

@@ -22,9 +22,8 @@ use Rattle.ebpf_object.specs.Prepared.{IsFirstPrepareFault, IsParsed, IsStageFau
 use Rattle.ebpf_object.specs.Prepared.{RefusesPreparing, Stages}
 use Rattle.ebpf_object.specs.WrittenSlots.{relocated_slots, AreRelocatedToTypes, with_externs}
 use Rattle.ebpf_object.specs.WrittenSlots.{externs_fault}
-use Rattle.ebpf_object.specs.Stages.{Chosen, Wrapped, fds_fault, fds_written}
+use Rattle.ebpf_object.specs.Stages.{Chosen}
 use Rattle.ebpf_object.specs.declared.object.Object.{Object}
-use Rattle.ebpf_object.specs.declared.prepare_error.PrepareError.TheVariants.{Maps}
 use Rattle.ebpf_parts.specs.declared.parse_mode.ParseMode.{ParseMode}
 use Rattle.ebpf_parts.specs.declared.parse_mode.ParseMode.TheVariants.{Strict}
 use Rattle.ebpf_reloc.specs.Linking.{IsFirstRefusal}
@@ -34,24 +33,6 @@ use Rattle.capi_rows.specs.Handles.{IsRefusal}
 use Rattle.capi_rows.specs.Numbers.{ksyms_refusal, types_refusal, prepare_refusal}
 use Rattle.capi_rows.specs.Numbers.{kernel_types_refusal}
 use Rattle.capi_rows.specs.declared.reads.ebpf_descriptor.{ebpf_descriptor}
-
--- ---- descriptors
-
--- written into the slots that refer to the maps, each of which can take its descriptor
-pub record HasPutMapFds (rows : List ebpf_descriptor) (text : List ℕ) (old new : Object)
-    : Type 0 where
-  pub named : have_names text rows ≡ true
-  pub sound : fds_fault (Some (descriptors_in text rows)) old ≡ None
-  pub is : new ≡ fds_written (Some (descriptors_in text rows)) old
-
--- they can't be written
-abbrev pub CannotPutMapFds : List ebpf_descriptor → List ℕ → Object → Refusal → Type 0
-CannotPutMapFds rows text o =
-    NamesFirst rows text
-    (IsRefusal
-    (RefusesPreparing
-    (Wrapped Maps (λ e. fds_fault (Some (descriptors_in text rows)) o ≡ Some e)))
-    prepare_refusal)
 
 -- ---- types
 

@@ -4,7 +4,13 @@
 mod handle;
 mod held;
 mod kconfig;
+mod kernel;
+mod kernel_calls;
+mod kernel_lists;
+mod kernel_preparing;
+mod kernel_types;
 mod laws;
+mod leaving_out;
 mod linking;
 mod list_calls;
 mod map_settings;
@@ -16,3 +22,4 @@ mod read_calls;
 mod target_answers;
 mod variable_calls;
 mod version;
+mod wanted_calls;

@@ -271,7 +271,7 @@ pub extern "C" fn exact_ebpf_find_program(
 
 /// The rows of an object's records over a kernel's types.
 #[tactic(auto, using(crate::proofs::Texts::listed_alike))]
-fn rows_over(
+pub fn rows_over(
     alloc: Global,
     object: &Object,
     target: &Btf,

@@ -1,7 +1,8 @@
 //! The passes over an object that a handle holds, but that of calls.
 
 ghost use Rattle.std.specs.Prelude.{◌≡◌, ◌<◌, OnOk, OnErr, IfErr, ◌⊎◌, not, ◌==◌, None};
-ghost use Rattle.capi_exports.specs.Passes.{CannotPutMapFds, CannotRelocateTypes, CannotResolve, CannotWriteExterns, HasPutMapFds, HasRelocatedTypes, HasResolved, HasWrittenExterns};
+ghost use Rattle.capi_exports.specs.Passes.{CannotRelocateTypes, CannotResolve, CannotWriteExterns, HasRelocatedTypes, HasResolved, HasWrittenExterns};
+ghost use Rattle.capi_rows.specs.Descriptors.{CannotWriteMapFds, HasWrittenMapFds};
 ghost use Rattle.capi_exports.specs.PassOrder.{CannotPass, HasPassed, OfHandle, Sets};
 ghost use Rattle.capi_exports.specs.Settings.{HasSanitized, IsSanitized};
 ghost use Rattle.capi_exports.specs.declared.held.Pass.TheVariants.{Types, Maps, Resolution, Externs};
@@ -16,7 +17,7 @@ use capi_rows::reads::{descriptors_in, ebpf_descriptor, have_names};
 use capi_rows::refusal::{Refusal, ebpf_refusal, reported_number, tell};
 use capi_rows::refusals::{ksyms_refusal, prepare_refusal, types_refusal};
 use ebpf_object::Object;
-use ebpf_object::prepare::relocate_own_maps;
+use ebpf_object::prepare::relocate_complete_maps;
 use std::alloc::Global;
 
 /// Relocates the functions of an object to the types that the bytes spell.
@@ -89,16 +90,16 @@ fn write_map_fds(
     rows: &[ebpf_descriptor],
     text: &[u8],
 ) -> Result<(), Refusal>
-    ensures ok { OnOk result (HasPutMapFds rows.now text.now object.old object.new) }
+    ensures ok { OnOk result (HasWrittenMapFds rows.now text.now object.old object.new) }
     ensures unchanged { OnErr result (object.new ≡ object.old) }
-    ensures why { IfErr result (CannotPutMapFds rows.now text.now object.old) }
+    ensures why { IfErr result (CannotWriteMapFds rows.now text.now object.old) }
     ensures refuses { IfErr result (λ r. 0 < r.number) }
 {
     if !have_names(rows, text) {
         return Err(Refusal::plain(BAD_NAME));
     }
     let descriptors = descriptors_in(alloc, rows, text)?;
-    match relocate_own_maps(alloc, object, &descriptors) {
+    match relocate_complete_maps(alloc, object, &descriptors) {
         Ok(()) => Ok(()),
         Err(error) => Err(prepare_refusal(error)),
     }
@@ -112,9 +113,9 @@ fn pass_maps(
     text: &[u8],
 ) -> Result<(), Refusal>
     ensures ok { OnOk result
-        (HasPassed Maps Maps (HasPutMapFds rows.now text.now) held.old held.new) }
+        (HasPassed Maps Maps (HasWrittenMapFds rows.now text.now) held.old held.new) }
     ensures unchanged { OnErr result (held.new ≡ held.old) }
-    ensures why { IfErr result (CannotPass Maps (CannotPutMapFds rows.now text.now) held.old) }
+    ensures why { IfErr result (CannotPass Maps (CannotWriteMapFds rows.now text.now) held.old) }
     ensures refuses { IfErr result (λ r. 0 < r.number) }
 {
     if let Some(number) = fault_of_pass(held.last, Pass::Maps) {
@@ -126,13 +127,14 @@ fn pass_maps(
 }
 
 /// Writes the descriptors of maps of what a handle holds into the slots that refer to them. Each row says where its
-/// map's name stands in `text`. A name that the object lacks is passed over; of maps of one symbol or one section the
-/// later one counts.
+/// map's name stands in `text`. Each slot's own map has to have a row, and each row a map; of maps of one symbol or one
+/// section the later one counts.
 ///
 /// # Answers
 ///
 /// 0; 2; 3 where the handle is closed; then 11 where the pass is the last that was made, 12 where a later one was; then
-/// 6 where a row's name is not inside the text or is no text; then 300 to 311 for the first relocation that can't be
+/// 6 where a row's name is not inside the text or is no text; then 321 for the first row of no map, about its name; then
+/// 320 for the first slot whose own map has no row, about the map; then 300 to 311 for the first relocation that can't be
 /// applied, about its function. What the handle holds is then as it was.
 #[unsafe(no_mangle)]
 pub extern "C" fn exact_ebpf_relocate_maps(
@@ -144,12 +146,12 @@ pub extern "C" fn exact_ebpf_relocate_maps(
     report: &mut ebpf_refusal,
 ) -> u32
     ensures fds_written { result ≡ DONE
-        → Changes (HasPassed Maps Maps (HasPutMapFds rows.now text.now)) handle.old.held
+        → Changes (HasPassed Maps Maps (HasWrittenMapFds rows.now text.now)) handle.old.held
         handle.new.held }
     ensures quiet { result ≡ DONE → (about.new ≡ about.old) × (report.new ≡ report.old) }
     ensures refused { ¬ (result ≡ DONE)
         → IsRefused (WhyHeld handle.old.held (CannotPass Maps
-        (CannotPutMapFds rows.now text.now))) result
+        (CannotWriteMapFds rows.now text.now))) result
         handle.old.held handle.new.held about.old about.new report.new }
 {
     let Some(mut held) = handle.take(alloc) else {

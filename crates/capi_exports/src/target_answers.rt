@@ -18,7 +18,7 @@ use ebpf_load_info::{AttachTarget, attach_target};
 use std::alloc::Global;
 
 /// The number of what is known of a target.
-fn target_number(target: &AttachTarget) -> u32
+pub fn target_number(target: &AttachTarget) -> u32
     ensures { result ≡ target_number target.now }
 {
     match target {
@@ -30,7 +30,7 @@ fn target_number(target: &AttachTarget) -> u32
 }
 
 /// The id of a target's type, 0 where none is found.
-fn target_type_id(target: &AttachTarget) -> u32
+pub fn target_type_id(target: &AttachTarget) -> u32
     ensures { result ≡ target_type_id target.now }
 {
     match target {

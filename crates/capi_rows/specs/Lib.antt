@@ -7,10 +7,12 @@ pub mod Kconfig
 pub mod Records
 pub mod Numbers
 pub mod MapRows
+pub mod MapSlots
 pub mod NumberNames
 pub mod Reads
 pub mod ProgramRows
 pub mod Variables
+pub mod WantedSymbols
 pub mod Answers
 pub mod Refusals
 pub mod Listings

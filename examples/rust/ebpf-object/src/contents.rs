@@ -1,6 +1,9 @@
 //! What can be asked of an object at any time.
 use crate::error::Error;
-use crate::rows::{CodeCopy, CodeReference, Extern, Info, InitialSlot, KconfigExtern, Map, Program, Section, Variable};
+use crate::object::descriptor_rows;
+use crate::rows::{
+    CodeCopy, CodeReference, Extern, Info, InitialSlot, KconfigExtern, Map, MapSlot, Program, Section, Variable,
+};
 use ebpf_sys as sys;
 use std::ffi::{CStr, CString};
 use std::ptr::{self, NonNull};
@@ -8,17 +11,25 @@ use std::ptr::{self, NonNull};
 /// What an object holds: its programs, its maps and more. [`Object`](crate::Object), [`Steps`](crate::Steps) and
 /// [`Prepared`](crate::Prepared) lead to it by `Deref`.
 ///
-/// It stays on the thread that made it, as `ebpf.h` asks: it is neither `Send` nor `Sync`. All that its calls return is
-/// both.
+/// It may move to another thread (`Send`). One call at a time uses it, as `ebpf.h` asks, so it isn't `Sync`. All that its
+/// calls return is both.
 ///
-/// ```compile_fail,E0277
+/// ```
 /// fn is_send<T: Send>() {}
 /// is_send::<ebpf_object::Object>();
+/// ```
+///
+/// ```compile_fail,E0277
+/// fn is_sync<T: Sync>() {}
+/// is_sync::<ebpf_object::Object>();
 /// ```
 #[derive(Debug)]
 pub struct Contents {
     handle: NonNull<sys::ebpf_handle>,
 }
+
+// SAFETY: `ebpf.h` lets a handle move from thread to thread; no one else has it.
+unsafe impl Send for Contents {}
 
 impl Drop for Contents {
     fn drop(&mut self) {
@@ -32,7 +43,7 @@ impl Contents {
     ///
     /// # Safety
     ///
-    /// The handle is null or open, was given out on this thread, and no one else has it.
+    /// The handle is null or open, and no one else has it.
     pub(crate) unsafe fn own(handle: *mut sys::ebpf_handle) -> Result<Contents, Error> {
         NonNull::new(handle).map(|handle| Contents { handle }).ok_or(Error::OutOfMemory)
     }
@@ -166,6 +177,52 @@ impl Contents {
         self.filled(map, |it| unsafe {
             sys::ebpf_map_data(self.as_raw(), map.as_ptr().cast(), map.len(), it.at, it.room, it.count)
         })
+    }
+
+    /// The slots whose own map has no row here, by their functions and then by slot. With none each slot that refers to a map
+    /// gets the descriptor of its own map. Ask it before the pass that writes descriptors; these are not read.
+    ///
+    /// # Errors
+    ///
+    /// - [`Error::OutOfMemory`].
+    ///
+    /// # Examples
+    ///
+    /// ```
+    /// use ebpf_object::{Object, OpenOptions};
+    ///
+    /// # fn main() -> Result<(), Box<dyn std::error::Error>> {
+    /// let object = Object::open(&std::fs::read("tests/data/counter.o")?, OpenOptions::lenient())?;
+    /// let missing = object.maps_without_descriptors(&[(".bss", 5), (".rodata", 6), ("tables", 7)])?;
+    /// assert!(missing.iter().all(|slot| slot.map == "counts"));
+    /// # Ok(())
+    /// # }
+    /// ```
+    pub fn maps_without_descriptors<S: AsRef<str>>(&self, maps: &[(S, i32)]) -> Result<Vec<MapSlot>, Error> {
+        let rows = descriptor_rows(maps);
+        let mut count = 0;
+        // SAFETY: the handle is open, the names of rows are borrowed for the call, and the count is ours.
+        let number =
+            unsafe { sys::ebpf_maps_without_descriptors(self.as_raw(), rows.as_ptr(), rows.len(), &mut count) };
+        self.outcome(number, "")?;
+        self.rows(count, sys::ebpf_map_without_descriptor_at, |row, map, _| MapSlot {
+            map,
+            section: row.section,
+            address: row.address,
+            slot: row.slot,
+        })
+    }
+
+    /// Whether finding the externs reads the kernel's symbols, the text of `/proc/kallsyms`; else give none.
+    ///
+    /// # Errors
+    ///
+    /// None is known.
+    pub fn wants_symbols(&self) -> Result<bool, Error> {
+        let mut wants = 0;
+        // SAFETY: the handle is open, and the number is ours.
+        self.outcome(unsafe { sys::ebpf_wants_symbols(self.as_raw(), &mut wants) }, "")?;
+        Ok(wants != 0)
     }
 
     /// The externs of `.ksyms`, in byte order of their names.

@@ -11,13 +11,14 @@
 //! | [`Object`] | values and sizes are set, link maps and outcomes are asked |
 //! | [`Steps`] | passes are made one by one, each at most once and in order |
 //! | [`Prepared`] | programs are read as `BPF_PROG_LOAD` takes them |
+//! | [`Types`] | a kernel's types, read once: the calls `_with` take them in place of bytes |
 //!
 //! [`Object::prepare`] leads from the first to the last in one call. What each of them has is read by [`Contents`].
 //!
 //! # Threads
 //!
-//! An object stays on the thread that opened it, since `ebpf.h` asks that of a handle. All that is read of it, and errors,
-//! may go to other threads.
+//! An object may move to another thread, and is used on one at a time: it is `Send` and not `Sync`. All that is read of it,
+//! and errors, are both.
 //!
 //! # Examples
 //!
@@ -51,12 +52,13 @@ pub use code::{FuncInfo, Insn, LineInfo};
 pub use contents::Contents;
 pub use ebpf_sys as sys;
 pub use error::{Details, Error, Failed, Refusal};
-pub use kernel::{attach_target, library_version, AttachTarget, Kernel};
+pub use kernel::{attach_target, attach_target_with, library_version, AttachTarget, Kernel, Types};
 pub use kinds::{Absence, KconfigKind, ProgramKind, SectionKind};
 pub use object::{Object, OpenOptions, PrepareFailed, Setting};
 pub use outcomes::{Outcome, OutcomeResult, OutcomeSlot};
 pub use prepared::Prepared;
 pub use rows::{
-    CodeCopy, CodeReference, Extern, Info, InitialSlot, KconfigExtern, Map, MapShape, Program, Section, Variable,
+    CodeCopy, CodeReference, Extern, Info, InitialSlot, KconfigExtern, Map, MapShape, MapSlot, Program, Section,
+    Variable,
 };
 pub use steps::{ExternsRelocated, ExternsResolved, MapsRelocated, Opened, Steps, TypesRelocated};

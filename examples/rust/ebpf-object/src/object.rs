@@ -1,11 +1,12 @@
 //! An object before its passes.
 use crate::contents::Contents;
 use crate::error::{Error, Failed};
-use crate::kernel::{checked_version, Kernel};
+use crate::kernel::{checked_version, Kernel, Types};
 use crate::prepared::Prepared;
 use crate::rows::{CodeCopy, CodeReference};
 use crate::steps::{Opened, Steps};
 use ebpf_sys as sys;
+use std::ffi::{c_char, CString};
 use std::ops::Deref;
 use std::ptr;
 
@@ -181,19 +182,50 @@ impl Object {
     /// # }
     /// ```
     pub fn prepare<S: AsRef<str>>(self, kernel: &Kernel<'_>, maps: &[(S, i32)]) -> Result<Prepared, PrepareFailed> {
-        let mut contents = self.contents;
-        let rows = descriptor_rows(maps);
         let (types, symbols) = (kernel.types(), kernel.symbols());
-        let inputs = sys::ebpf_prepare_inputs {
+        self.prepared(maps, |inputs| sys::ebpf_prepare_inputs {
             types: types.as_ptr(),
             types_len: types.len(),
-            descriptors: rows.as_ptr(),
-            descriptors_len: rows.len(),
             symbols: symbols.as_ptr(),
             symbols_len: symbols.len(),
+            ..inputs
+        })
+    }
+
+    /// The same over types that were read, and the text of `/proc/kallsyms`, empty where
+    /// [`Contents::wants_symbols`] says no.
+    ///
+    /// # Errors
+    ///
+    /// As for [`Object::prepare`].
+    pub fn prepare_with<S: AsRef<str>>(
+        self,
+        types: &Types,
+        symbols: &[u8],
+        maps: &[(S, i32)],
+    ) -> Result<Prepared, PrepareFailed> {
+        self.prepared(maps, |inputs| sys::ebpf_prepare_inputs {
+            btf: types.as_raw(),
+            symbols: symbols.as_ptr(),
+            symbols_len: symbols.len(),
+            ..inputs
+        })
+    }
+
+    /// Runs all passes with these maps, and with what else is given. Its pointers are borrowed for the call.
+    fn prepared<S: AsRef<str>>(
+        self,
+        maps: &[(S, i32)],
+        given: impl FnOnce(sys::ebpf_prepare_inputs) -> sys::ebpf_prepare_inputs,
+    ) -> Result<Prepared, PrepareFailed> {
+        let mut contents = self.contents;
+        let rows = descriptor_rows(maps);
+        let inputs = given(sys::ebpf_prepare_inputs {
+            descriptors: rows.as_ptr(),
+            descriptors_len: rows.len(),
             ..Default::default()
-        };
-        // SAFETY: the handle is open, and the slices and the names of rows are borrowed for the call.
+        });
+        // SAFETY: the handle is open, and the slices, the types and the names of rows are borrowed for the call.
         let number = unsafe { sys::ebpf_prepare_handle(contents.handle(), &inputs) };
         match contents.outcome(number, "") {
             Ok(()) => Ok(Prepared::of(contents)),
@@ -316,6 +348,22 @@ impl Object {
         let handle = self.contents.handle();
         // SAFETY: the handle is open.
         let number = unsafe { sys::ebpf_sanitize(handle, 0) };
+        self.outcome(number, "")
+    }
+
+    /// Leaves programs out: they are not linked, and what they alone need is not asked for. So a program that calls an
+    /// extern that the kernel lacks doesn't stop the others.
+    ///
+    /// # Errors
+    ///
+    /// [`Error::NoProgram`]: no program has the name, of several such names the first.
+    pub fn leave_out(&mut self, names: &[&str]) -> Result<(), Error> {
+        let with_zero = |name: &&str| CString::new(*name).map_err(|_| Error::NoProgram((*name).into()));
+        let terminated: Vec<CString> = names.iter().map(with_zero).collect::<Result<_, _>>()?;
+        let pointers: Vec<*const c_char> = terminated.iter().map(|name| name.as_ptr()).collect();
+        let handle = self.contents.handle();
+        // SAFETY: the handle is open, and a zero byte is behind each name.
+        let number = unsafe { sys::ebpf_leave_out(handle, pointers.as_ptr(), pointers.len()) };
         self.outcome(number, "")
     }
 }

@@ -1,5 +1,6 @@
 //! The outcomes of CO-RE relocations.
 use crate::error::{Details, Error, Refusal};
+use crate::kernel::Types;
 use crate::kinds::Absence;
 use crate::object::Object;
 use ebpf_sys as sys;
@@ -66,6 +67,18 @@ impl Object {
         let mut count = 0;
         // SAFETY: the handle is open, the types are borrowed for the call, and the count is ours.
         let number = unsafe { sys::ebpf_record_outcomes(self.as_raw(), types.as_ptr(), types.len(), &mut count) };
+        self.outcome(number, "")?;
+        self.rows(count, sys::ebpf_record_outcome_at, |row, section, _| outcome(row, section))
+    }
+    /// The same over types that were read.
+    ///
+    /// # Errors
+    ///
+    /// - [`Error::OutOfMemory`].
+    pub fn outcomes_with(&self, types: &Types) -> Result<Vec<Outcome>, Error> {
+        let mut count = 0;
+        // SAFETY: the handle and the types are open, and the count is ours.
+        let number = unsafe { sys::ebpf_record_outcomes_with(self.as_raw(), types.as_raw(), &mut count) };
         self.outcome(number, "")?;
         self.rows(count, sys::ebpf_record_outcome_at, |row, section, _| outcome(row, section))
     }

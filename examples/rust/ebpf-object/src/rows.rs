@@ -74,6 +74,20 @@ pub struct Map {
     pub inner: Option<MapShape>,
 }
 
+/// A slot that refers to a map.
+#[derive(Clone, Debug, PartialEq, Eq)]
+#[non_exhaustive]
+pub struct MapSlot {
+    /// The map's name.
+    pub map: String,
+    /// The index of the section of the slot's function.
+    pub section: usize,
+    /// The function's address there, in bytes.
+    pub address: u64,
+    /// The number of the slot in the function.
+    pub slot: usize,
+}
+
 /// An extern of `.ksyms`.
 #[derive(Clone, Debug, PartialEq, Eq)]
 #[non_exhaustive]

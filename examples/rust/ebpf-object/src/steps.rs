@@ -1,6 +1,7 @@
 //! The passes one by one.
 use crate::contents::Contents;
 use crate::error::{Error, Failed};
+use crate::kernel::Types;
 use crate::object::{descriptor_rows, Object};
 use crate::prepared::Prepared;
 use crate::rows::{CodeCopy, CodeReference};
@@ -174,15 +175,25 @@ impl<Last: order::Before<TypesRelocated>> Steps<Last> {
         // SAFETY: the handle is open, and the types are borrowed for the call.
         self.pass(|handle| unsafe { sys::ebpf_relocate_types(handle, types.as_ptr(), types.len()) })
     }
-}
 
-impl<Last: order::Before<MapsRelocated>> Steps<Last> {
-    /// Writes descriptors of maps into the slots that refer to them. Unlike [`Object::prepare`] it takes the row of another
-    /// map of the section for a map without a row, and passes over a row of no map.
+    /// The same over types that were read.
     ///
     /// # Errors
     ///
-    /// - [`Error::Maps`]: no map of a symbol's section has a row (301), or a descriptor can't be written.
+    /// - [`Error::Types`]: a relocation can't be applied.
+    pub fn relocate_types_with(self, types: &Types) -> Result<Steps<TypesRelocated>, Failed<Steps<Last>>> {
+        // SAFETY: the handle and the types are open.
+        self.pass(|handle| unsafe { sys::ebpf_relocate_types_with(handle, types.as_raw()) })
+    }
+}
+
+impl<Last: order::Before<MapsRelocated>> Steps<Last> {
+    /// Writes descriptors of maps into the slots that refer to them. Each map that a slot refers to needs a row, a map of
+    /// variables too ([`Contents::maps_without_descriptors`]).
+    ///
+    /// # Errors
+    ///
+    /// - [`Error::Maps`]: a map has no row (320), a row is of no map (321), or a descriptor can't be written.
     pub fn relocate_maps<S: AsRef<str>>(self, maps: &[(S, i32)]) -> Result<Steps<MapsRelocated>, Failed<Steps<Last>>> {
         let rows = descriptor_rows(maps);
         // SAFETY: the handle is open, and the names of rows are borrowed for the call.
@@ -201,6 +212,21 @@ impl<Last: order::Before<ExternsResolved>> Steps<Last> {
         let (lines, len) = (symbols.as_ptr(), symbols.len());
         // SAFETY: the handle is open, and the slices are borrowed for the call.
         self.pass(|handle| unsafe { sys::ebpf_resolve_externs(handle, types.as_ptr(), types.len(), lines, len) })
+    }
+
+    /// The same over types that were read.
+    ///
+    /// # Errors
+    ///
+    /// - [`Error::Ksyms`]: an extern can't be found, or a line of the symbols can't be read.
+    pub fn resolve_externs_with(
+        self,
+        types: &Types,
+        symbols: &[u8],
+    ) -> Result<Steps<ExternsResolved>, Failed<Steps<Last>>> {
+        let (lines, len) = (symbols.as_ptr(), symbols.len());
+        // SAFETY: the handle and the types are open, and the symbols are borrowed for the call.
+        self.pass(|handle| unsafe { sys::ebpf_resolve_externs_with(handle, types.as_raw(), lines, len) })
     }
 }
 

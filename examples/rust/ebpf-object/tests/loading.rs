@@ -1,5 +1,7 @@
 //! What a loader asks for beside the passes.
-use ebpf_object::{attach_target, AttachTarget, Error, KconfigKind, Object, OpenOptions};
+use ebpf_object::{
+    attach_target, attach_target_with, AttachTarget, Error, KconfigKind, Kernel, Object, OpenOptions, Types,
+};
 use std::path::Path;
 
 fn file(name: &str) -> Vec<u8> {
@@ -61,4 +63,45 @@ fn initial_values_are_listed() {
     assert_eq!(object.initial_slots(&bytes), Ok(vec![]));
     let error = object.initial_slots(b"no file").expect_err("no file");
     assert!(matches!(&error, Error::InitialSlots(it) if it.number == 800), "{error}");
+}
+
+/// Types that are read once give what their bytes give, as often as they are used.
+#[test]
+fn types_are_read_once() {
+    let bytes = file("counter.o");
+    let object = Object::open(&bytes, OpenOptions::lenient()).expect("an object");
+    let types = object.kernel_types(&bytes).expect("types");
+    let read = Types::read(&types).expect("the same types");
+    assert!(matches!(Types::read(b"no types"), Err(Error::Types(it)) if it.number == 200));
+    for section in ["xdp", "fentry", "fentry/count", "fentry/none"] {
+        assert_eq!(attach_target_with(section, &read), attach_target(section, &types));
+    }
+    assert_eq!(object.outcomes_with(&read), object.outcomes(&types));
+    let maps = [("counts", 5), (".bss", 6), (".rodata", 7), ("tables", 8)];
+    let kernel = Kernel::none().with_types(types.clone());
+    let copy = object.try_clone().expect("a copy");
+    let steps = object.try_clone().expect("a copy").steps();
+    let steps = steps.relocate_types_with(&read).expect("relocated").relocate_maps(&maps).expect("descriptors");
+    let steps = steps.resolve_externs_with(&read, &[]).expect("externs").relocate_externs().expect("externs");
+    let linked = steps.relocate_calls().expect("linked");
+    let prepared = copy.prepare(&kernel, &maps).expect("prepared");
+    let with = object.prepare_with(&read, &[], &maps).expect("prepared");
+    for program in ["on_packet", "on_wake"] {
+        assert_eq!(with.slots(program), prepared.slots(program));
+        assert_eq!(linked.slots(program), prepared.slots(program));
+    }
+}
+
+#[test]
+fn what_is_wanted_is_listed() {
+    let object = Object::open(&file("counter.o"), OpenOptions::lenient()).expect("an object");
+    assert_eq!(object.wants_symbols(), Ok(false));
+    let all = object.maps_without_descriptors::<&str>(&[]).expect("slots");
+    assert!(["counts", ".bss", ".rodata", "tables"].iter().all(|map| all.iter().any(|it| it.map == *map)));
+    let rest = object.maps_without_descriptors(&[("counts", 5), ("none", 6)]).expect("slots");
+    assert_eq!(rest, all.iter().filter(|it| it.map != "counts").cloned().collect::<Vec<_>>());
+    let slots = object.slots("on_packet").expect("slots");
+    let program = object.program("on_packet").expect("a program");
+    let own: Vec<_> = all.iter().filter(|it| it.section == program.section && it.address == program.address).collect();
+    assert!(!own.is_empty() && own.iter().all(|it| slots[it.slot].code == 0x18));
 }

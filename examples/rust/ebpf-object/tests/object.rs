@@ -144,10 +144,10 @@ fn a_row_of_no_map_is_refused() {
 fn steps_are_made_in_order() {
     let object = counter();
     let failed = object.steps().relocate_maps::<&str>(&[]).expect_err("no descriptor");
-    // the first reference of `count` is to symbol 11 in section 9, the map `counts`
-    let details = failed.error().refusal().expect("a refusal").details;
-    assert_eq!((failed.error().number(), details.symbol, details.section), (301, Some(11), Some(9)));
-    let mut object = failed.into_state().into_object();
+    let (steps, error) = failed.into_parts();
+    let first = &steps.maps_without_descriptors::<&str>(&[]).expect("slots")[0];
+    assert_eq!(refused(&error), (320, Some(first.map.as_str())));
+    let mut object = steps.into_object();
     object.set_value("wanted", &42u32.to_le_bytes()).expect("no pass was made");
     let steps = object.steps().relocate_maps(&COUNTER_MAPS).expect("descriptors");
     assert!(format!("{steps:?}").contains("MapsRelocated"));
@@ -232,6 +232,15 @@ fn what_is_read_goes_to_other_threads() {
     assert_eq!(other.join().expect("no panic"), 2);
     is_sent(Object::open(b"", OpenOptions::strict()).expect_err("no object"));
     is_sent(Kernel::none());
+}
+
+#[test]
+fn an_object_goes_to_other_threads() {
+    let object = counter();
+    let other = std::thread::spawn(move || object.prepare::<&str>(&Kernel::none(), &[]).expect_err("no descriptors"));
+    let (object, error) = other.join().expect("no panic").into_parts();
+    assert_eq!(error.number(), 320);
+    assert_eq!(object.programs().expect("programs").len(), 2);
 }
 
 #[test]

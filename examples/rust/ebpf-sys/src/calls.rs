@@ -74,6 +74,18 @@ extern "C" {
     /// Frees the handle and what it holds. NULL is freed as `free` does: nothing happens.
     pub fn ebpf_close(handle: *mut ebpf_handle);
 
+    /// Reads the types of a kernel, and gives them out. `types` is raw BTF in the byte order that its magic number
+    /// states: the bytes of /sys/kernel/btf/vmlinux. They are not needed after the call.
+    ///
+    /// - A call that is given what this gave is the call over these bytes. No call changes it.
+    /// - `*btf` is NULL with other numbers than 0.
+    ///
+    /// Numbers: 2, 200 to 219.
+    pub fn ebpf_btf_open(types: *const u8, types_len: usize, btf: *mut *mut ebpf_btf) -> u32;
+
+    /// Frees the types. NULL is freed as `free` does: nothing happens.
+    pub fn ebpf_btf_close(btf: *mut ebpf_btf);
+
     /// Numbers: 3.
     pub fn ebpf_info(handle: *const ebpf_handle, info: *mut ebpf_object_info) -> u32;
 
@@ -196,6 +208,15 @@ extern "C" {
         section_name_len: usize,
         types: *const u8,
         types_len: usize,
+        answer: *mut u32,
+        type_id: *mut u32,
+    ) -> u32;
+
+    /// The same over types that were read. Numbers: 2, 3, 6.
+    pub fn ebpf_attach_target_with(
+        section_name: *const c_char,
+        section_name_len: usize,
+        btf: *const ebpf_btf,
         answer: *mut u32,
         type_id: *mut u32,
     ) -> u32;
@@ -354,6 +375,17 @@ extern "C" {
     /// (probe_read_user, probe_read_kernel). 45 (probe_read_str) replaces 114 and 115. Numbers: 3, 12.
     pub fn ebpf_sanitize(handle: *mut ebpf_handle, has_newer: u32) -> u32;
 
+    /// Leaves programs out: they are not linked, and what they alone need is not asked for. `names` has `count` names,
+    /// each with a zero byte behind it.
+    ///
+    /// - So a program that calls an extern that the kernel lacks doesn't stop the others.
+    /// - A remaining program keeps each function that it reaches, with all relocations there and the externs of these.
+    /// - The relocations of other functions are gone, and the externs to which only these referred. Maps stay.
+    /// - A name that no program has is refused (4), about the first such name. A name may occur twice.
+    ///
+    /// Numbers: 2, 3, 4, 6, 12.
+    pub fn ebpf_leave_out(handle: *mut ebpf_handle, names: *const *const c_char, count: usize) -> u32;
+
     /// `ebpf_program_count` of the header.
     pub fn ebpf_program_count(handle: *const ebpf_handle) -> usize;
 
@@ -450,6 +482,9 @@ extern "C" {
     /// states. Numbers: 2, 3, 11, 12, 200 to 299.
     pub fn ebpf_relocate_types(handle: *mut ebpf_handle, types: *const u8, types_len: usize) -> u32;
 
+    /// The same over types that were read. Numbers: 2, 3, 11, 12, 220 to 299.
+    pub fn ebpf_relocate_types_with(handle: *mut ebpf_handle, btf: *const ebpf_btf) -> u32;
+
     /// Takes the list of the outcomes of all CO-RE relocations, in the order of .BTF.ext, also behind one that is
     /// refused. Call it before `ebpf_relocate_types`. The object is unchanged. `*count` is how many rows
     /// `ebpf_record_outcome_at` has then: it returns the name of the row's section.
@@ -466,6 +501,9 @@ extern "C" {
         count: *mut usize,
     ) -> u32;
 
+    /// The same over types that were read. Numbers: 2, 3.
+    pub fn ebpf_record_outcomes_with(handle: *const ebpf_handle, btf: *const ebpf_btf, count: *mut usize) -> u32;
+
     /// `ebpf_record_outcome_at` of the header.
     pub fn ebpf_record_outcome_at(
         handle: *const ebpf_handle,
@@ -473,8 +511,33 @@ extern "C" {
         row: *mut ebpf_record_outcome,
     ) -> *const c_char;
 
+    /// Takes the list of the slots whose own map has no row here, by their functions' sections and addresses, then by
+    /// slot. `*count` is how many rows `ebpf_map_without_descriptor_at` has then: it returns the name of the row's map.
+    ///
+    /// - With none each slot that refers to a map gets the descriptor of its own map. So a loader that makes only the
+    ///   maps that programs refer to calls it with no rows, and makes the maps of these names.
+    /// - A slot's own map is that of its symbol, else the map of the symbol's section, as of a variable in .bss. A slot
+    ///   that refers to a section without maps has none.
+    /// - Call it before `ebpf_relocate_maps`. The object is unchanged.
+    /// - Descriptors of the rows are not read. Names that the object lacks are passed over.
+    ///
+    /// Numbers: 2, 3, 6.
+    pub fn ebpf_maps_without_descriptors(
+        handle: *const ebpf_handle,
+        rows: *const ebpf_descriptor,
+        rows_len: usize,
+        count: *mut usize,
+    ) -> u32;
+
+    /// `ebpf_map_without_descriptor_at` of the header.
+    pub fn ebpf_map_without_descriptor_at(
+        handle: *const ebpf_handle,
+        index: usize,
+        row: *mut ebpf_map_slot,
+    ) -> *const c_char;
+
     /// Writes descriptors of maps into the slots that refer to them. A row whose name is no UTF-8 is refused before all
-    /// other faults of the rows. Numbers: 2, 3, 6, 11, 12, 300 to 311.
+    /// other faults of the rows. Numbers: 2, 3, 6, 11, 12, 300 to 399.
     pub fn ebpf_relocate_maps(handle: *mut ebpf_handle, rows: *const ebpf_descriptor, rows_len: usize) -> u32;
 
     /// Finds the externs in a kernel's types and in its symbols, which are given as the text of /proc/kallsyms. Types
@@ -487,6 +550,19 @@ extern "C" {
         symbols: *const u8,
         symbols_len: usize,
     ) -> u32;
+
+    /// The same over types that were read. Numbers: 2, 3, 11, 12, 400 to 499.
+    pub fn ebpf_resolve_externs_with(
+        handle: *mut ebpf_handle,
+        btf: *const ebpf_btf,
+        symbols: *const u8,
+        symbols_len: usize,
+    ) -> u32;
+
+    /// Sets `*wants` to 1 if finding the externs reads the kernel's symbols, else to 0: then give none, and don't read
+    /// /proc/kallsyms, which takes long. It is 1 if the object has types, and an extern without a type that is not
+    /// found yet. Numbers: 3.
+    pub fn ebpf_wants_symbols(handle: *const ebpf_handle, wants: *mut u32) -> u32;
 
     /// Writes what is known of the externs into the slots that refer to them. Numbers: 2, 3, 11, 12, 500 to 599.
     pub fn ebpf_relocate_externs(handle: *mut ebpf_handle) -> u32;
@@ -522,9 +598,9 @@ extern "C" {
 
     /// Opens the object of a file by strict parsing, and runs all of these passes over it. It gives out a handle as
     /// `ebpf_open` does, also where it refuses. The descriptors' names are looked at first, then the types are read,
-    /// then the file. Each slot's own map has to have a descriptor, else the number is 320, before the first pass.
-    /// `inputs` may be NULL: then there are none. They are refused as options are (90). Numbers: 2, 6, 90, 100 to 199,
-    /// 200 to 299, .., 600 to 699.
+    /// then the file. Rows that are not complete are refused (320, 321) before the first pass. `inputs` may be NULL:
+    /// then there are none. They are refused as options are (90). Numbers: 2, 6, 90, 100 to 199, 200 to 299, .., 600 to
+    /// 699.
     pub fn ebpf_prepare(
         file: *const u8,
         file_len: usize,

@@ -13,13 +13,14 @@
 //! - A count is no greater than what lies behind its pointer, and each pointer is aligned for its type.
 //! - What a call may write overlaps nothing else that the call is given. No other thread touches it during the call. What
 //!   is const does not change during the call.
-//! - A handle is what [`ebpf_open`], [`ebpf_prepare`] or [`ebpf_clone`] gave. It stays on the thread that made it, and one
+//! - A handle is what [`ebpf_open`], [`ebpf_prepare`] or [`ebpf_clone`] gave. It may move from thread to thread, and one
 //!   call at a time uses it, also where it is const. [`ebpf_close`] frees it, once.
+//! - The same holds for the types that [`ebpf_btf_open`] gave, which [`ebpf_btf_close`] frees.
 //! - What a handle keeps for its caller is gone once a call that takes the handle without const has returned.
 //! - No call is made from a signal handler, nor in the child that a process with threads forked.
 //!
-//! A null array is empty, a null handle is a closed one ([`EBPF_CLOSED`]), and a null count or row is not written. Only
-//! where a handle is given out the pointer is not null.
+//! A null array is empty, a null handle and null types are closed ones ([`EBPF_CLOSED`]), and a null count or row is not
+//! written. Only where a handle or types are given out the pointer is not null.
 //!
 //! # Examples
 //!
@@ -82,6 +83,7 @@ impl Default for ebpf_prepare_inputs {
             descriptors_len: 0,
             symbols: ptr::null(),
             symbols_len: 0,
+            btf: ptr::null(),
         }
     }
 }

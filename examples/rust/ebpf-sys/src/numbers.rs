@@ -17,7 +17,7 @@ pub const EBPF_ROOM: u32 = 1;
 /// Out of memory.
 pub const EBPF_MEMORY: u32 = 2;
 
-/// The handle has no object: it is NULL, or its file was refused.
+/// The handle has no object: it is NULL, or its file was refused; or the types are NULL.
 pub const EBPF_CLOSED: u32 = 3;
 
 /// No program has the name.

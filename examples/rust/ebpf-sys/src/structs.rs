@@ -79,6 +79,14 @@ pub struct ebpf_open_options {
     pub reserved: u32,
 }
 
+/// The types of a kernel.
+#[repr(C)]
+#[derive(Debug)]
+pub struct ebpf_btf {
+    _hidden: [u8; 0],
+    _stays: PhantomData<*mut u8>,
+}
+
 /// `struct ebpf_object_info` of the header.
 #[repr(C)]
 #[derive(Clone, Copy, Debug, Default, PartialEq, Eq)]
@@ -325,11 +333,10 @@ pub struct ebpf_initial_slot {
 
 /// A map's name and its descriptor.
 ///
-/// - Each map that a slot refers to needs a row, a map of variables too. Else `ebpf_prepare` and `ebpf_prepare_handle`
-///   return EBPF_MAPS_MISSING_DESCRIPTOR, about the map. `ebpf_relocate_maps` takes the row of another map in its
-///   section.
-/// - Each row needs the name of a map of the object. Else the two return EBPF_MAPS_UNKNOWN_MAP, about the name.
-///   `ebpf_relocate_maps` passes the row over.
+/// - Each map that a slot refers to needs a row, a map of variables too. Else the number is
+///   EBPF_MAPS_MISSING_DESCRIPTOR, about the map. `ebpf_maps_without_descriptors` lists all such slots.
+/// - Each row needs the name of a map of the object. Else the number is EBPF_MAPS_UNKNOWN_MAP, about the name. It comes
+///   first.
 /// - Of two rows for one name, or for maps of one symbol, the later counts.
 #[repr(C)]
 #[derive(Clone, Copy, Debug, PartialEq, Eq)]
@@ -368,6 +375,22 @@ pub struct ebpf_record_outcome {
     pub absence: u32,
     /// Of enum ebpf_number, 220 to 249; 0 where it is not refused.
     pub fault: u32,
+}
+
+/// A slot that refers to a map.
+#[repr(C)]
+#[derive(Clone, Copy, Debug, Default, PartialEq, Eq)]
+pub struct ebpf_map_slot {
+    /// The place of the map's name in the text.
+    pub name_at: usize,
+    /// The place of the map's name in the text.
+    pub name_len: usize,
+    /// The index of the section of the slot's function.
+    pub section: usize,
+    /// The function's address there, in bytes.
+    pub address: u64,
+    /// The number of the slot in the function.
+    pub slot: usize,
 }
 
 /// A copy of a function in a linked program. Slots are counted, each 8 bytes.
@@ -418,4 +441,6 @@ pub struct ebpf_prepare_inputs {
     pub symbols: *const u8,
     /// The length in bytes of the text that begins at `symbols_at`.
     pub symbols_len: usize,
+    /// The kernel's types, if they were read: then `types` is not read.
+    pub btf: *const ebpf_btf,
 }

@@ -15,7 +15,7 @@ mod kconfig;
 mod maps;
 mod programs;
 
-use ebpf_object::{Kernel, Object, OpenOptions, Variable};
+use ebpf_object::{Object, OpenOptions, Types, Variable};
 use maps::Maps;
 use programs::Programs;
 use std::error::Error;
@@ -24,7 +24,7 @@ use std::process::ExitCode;
 
 const USAGE: &str = "usage: load [--config FILE] [--run PROGRAM] [--data BYTES] [--show MAP|VARIABLE] FILE";
 
-/// Why a step fails; without `Send`, since a failed prepare has the object in it.
+/// Why a step fails.
 type Fault = Box<dyn Error>;
 
 #[derive(Default)]
@@ -59,13 +59,27 @@ struct Loaded {
     variables: Vec<Variable>,
 }
 
+/// The types of the running kernel, which are read once.
+fn kernel_types() -> Result<Types, Fault> {
+    let types = fs::read("/sys/kernel/btf/vmlinux").map_err(|error| format!("the kernel's types: {error}"))?;
+    Ok(Types::read(&types)?)
+}
+
+/// The kernel's symbols, which take long to read; none where the object needs none.
+fn kernel_symbols(object: &Object) -> Result<Vec<u8>, Fault> {
+    if !object.wants_symbols()? {
+        return Ok(Vec::new());
+    }
+    Ok(fs::read("/proc/kallsyms").map_err(|error| format!("the kernel's symbols: {error}"))?)
+}
+
 /// From the file to programs that the kernel has, with all that they refer to.
 fn load(options: &Options) -> Result<Loaded, Fault> {
     let file = fs::read(&options.file).map_err(|error| format!("{}: {error}", options.file))?;
     let mut object = Object::open(&file, OpenOptions::lenient())?;
     let asked = options.run.as_deref();
     asked.map_or(Ok(()), |name| object.program(name).map(drop))?;
-    let kernel = Kernel::running().map_err(|error| format!("the kernel's types and symbols: {error}"))?;
+    let kernel = kernel_types()?;
     kconfig::define(&mut object, options.config.as_deref())?;
     let types = bpf::load_types(&object.kernel_types(&file)?)?;
     let maps = Maps::make(&object, types.as_ref())?;
@@ -73,7 +87,8 @@ fn load(options: &Options) -> Result<Loaded, Fault> {
     for it in initial.iter().filter(|it| !it.is_program) {
         maps.put(&it.map, it.index, maps.descriptor(&it.target)?)?;
     }
-    let prepared = object.prepare(&kernel, &maps.descriptors())?;
+    let symbols = kernel_symbols(&object)?;
+    let prepared = object.prepare_with(&kernel, &symbols, &maps.descriptors())?;
     let programs = Programs::load(&prepared, &kernel, types.as_ref(), asked)?;
     for it in initial.iter().filter(|it| it.is_program) {
         maps.put(&it.map, it.index, programs.descriptor(&it.target)?)?;

@@ -1,7 +1,7 @@
 //! Programs in the kernel.
 use crate::bpf::{self, Command, ProgLoad, TestRun};
 use crate::Fault;
-use ebpf_object::{attach_target, AttachTarget, FuncInfo, Kernel, LineInfo, Prepared, Program};
+use ebpf_object::{attach_target_with, AttachTarget, FuncInfo, LineInfo, Prepared, Program, Types};
 use std::ffi::CString;
 use std::mem::size_of;
 use std::os::fd::OwnedFd;
@@ -20,12 +20,12 @@ pub struct Programs {
 }
 
 /// The id of the type that a program is attached to, 0 where it is loaded without one.
-fn target_of(object: &Prepared, kernel: &Kernel<'_>, program: &Program) -> Result<u32, Fault> {
+fn target_of(object: &Prepared, kernel: &Types, program: &Program) -> Result<u32, Fault> {
     if !program.wants_target {
         return Ok(0);
     }
     let section = object.program_section(&program.name)?.unwrap_or_default();
-    match attach_target(&section, kernel.types())? {
+    match attach_target_with(&section, kernel)? {
         AttachTarget::Found(id) => Ok(id),
         AttachTarget::NotWanted => Ok(0),
         AttachTarget::Unnamed => Err(format!("the section {section} of {} names no target", program.name).into()),
@@ -51,7 +51,7 @@ unsafe fn hand_over(attributes: &mut ProgLoad, name: &str) -> Result<OwnedFd, Fa
     loaded.map_err(|error| bpf::refused(&error, &format!("the program {name}"), &log))
 }
 
-fn load(object: &Prepared, kernel: &Kernel<'_>, types: Option<&OwnedFd>, program: &Program) -> Result<OwnedFd, Fault> {
+fn load(object: &Prepared, kernel: &Types, types: Option<&OwnedFd>, program: &Program) -> Result<OwnedFd, Fault> {
     let name = &program.name;
     if program.program_type == 0 {
         return Err(format!("the section of the program {name} says no type of programs").into());
@@ -88,7 +88,7 @@ impl Programs {
     /// Loads each program but those of sections with `?`, of which the one that is asked for alone.
     pub fn load(
         object: &Prepared,
-        kernel: &Kernel<'_>,
+        kernel: &Types,
         types: Option<&OwnedFd>,
         asked: Option<&str>,
     ) -> Result<Programs, Fault> {

@@ -39,7 +39,8 @@ pub const LAYOUTS: &[Layout] = &[
         ebpf_record_outcome: name_at, name_len, number, section, address, slot, value, has_slot, result,
         absence, fault
     ),
+    layout!(ebpf_map_slot: name_at, name_len, section, address, slot),
     layout!(ebpf_code_copy: name_at, name_len, base, slots, section, address),
     layout!(ebpf_code_reference: slot, base, is_call),
-    layout!(ebpf_prepare_inputs: size, types, types_len, descriptors, descriptors_len, symbols, symbols_len),
+    layout!(ebpf_prepare_inputs: size, types, types_len, descriptors, descriptors_len, symbols, symbols_len, btf),
 ];
