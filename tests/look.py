@@ -216,9 +216,10 @@ def source_paths(rows):
 
 def unread(rows):
     """A kernel that can't be read is in each form, and doesn't look like success."""
-    words = ["check", "memdrop.o", "memdrop.o", "btf/5.18", "--sarif=unread.sarif", "--format=github"]
-    ran = rows.row("unread", words, 2)
-    said = "kernel memdrop.o can't be read: "
+    rows.write("no::types", b"none")
+    words = ["check", "memdrop.o", "no::types", "btf/5.18", "--sarif=unread.sarif", "--format=github"]
+    ran = rows.row("unread", words, 2, None, "")
+    said = "kernel no::types can't be read: "
     rows.expect("unread: one annotation", [line.split(said)[0] for line in ran.stdout.split("\n")], ["::error title=ebpf check::", ""])
     rows.expect("unread: standard error", ran.stderr, "")
     log = json.loads((rows.folder / "unread.sarif").read_text())
