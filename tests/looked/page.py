@@ -231,7 +231,7 @@ def hostile_list(rows, browser, names):
     """The page of `ebpf list` with hostile names: they are text, and none of them is run."""
     said = answer(rows, browser, "list-hostile.o.html", LISTED)
     rows.expect("hostile list page: failed", said.get("failed"), [])
-    rows.expect("hostile list page: names", [name for name in names if name not in said.get("text", "")], [])
+    rows.expect("hostile list page: names", [name for name in names if name.strip() not in said.get("text", "")], [])
     tags = ["dd", "dl", "dt", "h1", "h2", "section", "table", "tbody", "td", "th", "thead", "tr"]
     rows.expect("hostile list page: elements", [tag for tag in said.get("tags", []) if tag not in tags], [])
 
