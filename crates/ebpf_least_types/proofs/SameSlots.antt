@@ -18,7 +18,7 @@ use Rattle.ebpf_core_relo.specs.Carried.{written}
 use Rattle.ebpf_core_relo.specs.Records.{RelocationInputs, Written, all_applied, answer_in_section, named_applied, put_outcome, record_applied, records_applied, relocation_inputs_between, slots_so_far, unnamed_section}
 use Rattle.ebpf_core_relo.specs.Spans.{span_at, spans_of}
 use Rattle.ebpf_elf.specs.declared.section.SectionIndex.{SectionIndex}
-use Rattle.ebpf_least_types.specs.LeastTypes.{AskForNoId, HasSameOutcome, HaveOutcomesBySection, HaveSameOutcomes, SlotsAreAlike, asks_for_kernel_id, records_with}
+use Rattle.ebpf_least_types.specs.LeastTypes.{AskForNoId, HasSameOutcome, HaveOutcomesBySection, SlotsAreAlike, asks_for_kernel_id, records_with}
 use Rattle.ebpf_model.specs.declared.function.Function.{Function}
 use Rattle.ebpf_object.specs.WrittenSlots.{relocated_slots_by}
 use Rattle.ebpf_object.specs.declared.object.Object.{Object}

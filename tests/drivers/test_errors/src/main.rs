@@ -7,6 +7,7 @@ mod externs;
 mod file;
 mod initial_slots;
 mod kernel_types;
+mod least_types;
 mod lines;
 mod object;
 mod prepare;
@@ -32,6 +33,7 @@ fn show_all(lines: &mut Lines, file: &[u8]) {
     settings::show_all(lines);
     initial_slots::show_all(lines);
     kernel_types::show_all(lines);
+    least_types::show_all(lines);
 }
 
 /// Prints all errors, with what the names of a file add.

@@ -1,5 +1,4 @@
-use Rattle.std.proofs.Common.{refl}
-use Rattle.ebpf_least_types.proofs.SameSoFar.{object_more, objects_all}
+use Rattle.ebpf_least_types.proofs.SameSoFar.{objects_all}
 use Rattle.ebpf_least_types.proofs.same_outcomes.same_for_all.Goals as goal
 
 pub returns : goal.returns

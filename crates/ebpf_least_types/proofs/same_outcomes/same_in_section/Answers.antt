@@ -1,5 +1,4 @@
-use Rattle.std.proofs.Common.{◌∙◌, refl}
-use Rattle.ebpf_least_types.proofs.SameSoFar.{record_more, records_all}
+use Rattle.ebpf_least_types.proofs.SameSoFar.{records_all}
 use Rattle.ebpf_least_types.proofs.same_outcomes.same_in_section.Goals as goal
 
 pub returns-clause-same : goal.returns-clause-same

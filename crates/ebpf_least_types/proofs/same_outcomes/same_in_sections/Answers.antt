@@ -1,5 +1,4 @@
-use Rattle.std.proofs.Common.{◌∙◌, refl}
-use Rattle.ebpf_least_types.proofs.SameSoFar.{section_more, sections_all}
+use Rattle.ebpf_least_types.proofs.SameSoFar.{sections_all}
 use Rattle.ebpf_least_types.proofs.same_outcomes.same_in_sections.Goals as goal
 
 pub returns : goal.returns
