@@ -60,6 +60,8 @@ uint32_t exact_ebpf_kconfig_value(struct exact_handle *handle, const void *name,
 		size_t about_len, struct ebpf_refusal *report);
 uint32_t exact_ebpf_kernel_types(const void *file, size_t file_len, void *types, size_t types_len, size_t *len,
 		void *about, size_t about_len, struct ebpf_refusal *report);
+uint32_t exact_ebpf_leave_out(struct exact_handle *handle, const struct exact_descriptor *rows, size_t rows_len,
+		const void *text, size_t text_len, void *about, size_t about_len, struct ebpf_refusal *report);
 uint32_t exact_ebpf_license(struct exact_handle *handle, void *text, size_t text_len, size_t *len);
 uint32_t exact_ebpf_line_infos(struct exact_handle *handle, const void *name, size_t name_len,
 		struct ebpf_line_info *rows, size_t rows_len, size_t *count);

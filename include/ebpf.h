@@ -8,11 +8,11 @@
  *  - A count is no greater than what lies behind its pointer, and each pointer is aligned for its type.
  *  - What a call may write (each pointer without const) overlaps nothing else that the call is given. No other thread
  *    touches it during the call. What is const does not change during the call: that goes for a mapped file too.
- *  - A handle is what `ebpf_open`, `ebpf_prepare` or `ebpf_clone` gave. It stays on the thread that made it, and one
- *    call at a time uses it, also where it is const: a call takes the object out of the handle while it runs, and keeps
- *    its error and its lists there. Two threads that read one object have a handle each (`ebpf_clone`). `ebpf_close`
- *    frees it, once.
- *  - The same holds for the types that `ebpf_btf_open` gave: they stay on their thread, and `ebpf_btf_close` frees them.
+ *  - A handle is what `ebpf_open`, `ebpf_prepare` or `ebpf_clone` gave. It may move from thread to thread, and one call
+ *    at a time uses it, also where it is const: a call takes the object out of the handle while it runs, and keeps its
+ *    error and its lists there. Two threads that read one object at a time have a handle each (`ebpf_clone`).
+ *    `ebpf_close` frees it, once.
+ *  - The same holds for the types that `ebpf_btf_open` gave, which `ebpf_btf_close` frees.
  *  - malloc, realloc and free are of one allocator and align as the C standard says. No call is made from a signal
  *    handler, nor in the child that a process with threads forked.
  * Beyond these anything may be passed: any bytes as a file, types, symbols, names or values, any numbers.
@@ -905,6 +905,17 @@ EBPF_CHECKED uint32_t ebpf_set_value_size(struct ebpf_handle *handle, const char
  * (probe_read_user, probe_read_kernel). 45 (probe_read_str) replaces 114 and 115. Numbers: 3, 12.
  */
 EBPF_CHECKED uint32_t ebpf_sanitize(struct ebpf_handle *handle, uint32_t has_newer);
+
+/*
+ * Leaves programs out: they are not linked, and what they alone need is not asked for. `names` has `count` names, each
+ * with a zero byte behind it.
+ *  - So a program that calls an extern that the kernel lacks doesn't stop the others.
+ *  - A remaining program keeps each function that it reaches, with all relocations there and the externs of these.
+ *  - The relocations of other functions are gone, and the externs to which only these referred. Maps stay.
+ *  - A name that no program has is refused (4), about the first such name. A name may occur twice.
+ * Numbers: 2, 3, 4, 6, 12.
+ */
+EBPF_CHECKED uint32_t ebpf_leave_out(struct ebpf_handle *handle, const char *const *names, size_t count);
 
 /*
  * ---- what a handle keeps for its caller

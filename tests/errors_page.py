@@ -66,6 +66,7 @@ TYPES = {
     "extern_types::KsymsError": ("ebpf_ksyms/src/error.rt", "The errors of `resolve_externs` (stage `ksyms`)."),
     "ebpf_kconfig::KconfigError": ("ebpf_kconfig/src/error.rt", "The errors of `kconfig`, `define_kconfig`, `kconfig_value` and `kconfig_number`."),
     "ebpf_initial_slots::InitialSlotError": ("ebpf_initial_slots/src/error.rt", "The errors of `initial_slots`. `readelf -r` shows the relocations of `.maps`."),
+    "ebpf_chosen_programs::LeaveOutError": ("ebpf_chosen_programs/src/error.rt", "The errors of `leave_out`."),
     "ebpf_btf_load::KernelTypesError": ("ebpf_btf_load/src/error.rt", "The errors of `kernel_types`. `bpftool btf dump file FILE` shows the types."),
 }
 
@@ -184,11 +185,12 @@ ADVICE = {
     "ebpf_initial_slots::InitialSlotError::UnsupportedKeySize": "declare keys of 4 bytes, or insert its maps once it is loaded",
     "ebpf_initial_slots::InitialSlotError::NotInMaps": "name maps that are declared in `.maps`",
     "ebpf_initial_slots::InitialSlotError::UnknownMap": "name maps of this object that aren't `static`",
-    "ebpf_initial_slots::InitialSlotError::UnknownProgram": "name programs of this object that aren't `static`",
+    "ebpf_initial_slots::InitialSlotError::UnknownProgram": "name programs of this object that aren't `static`, and that are not left out",
     "ebpf_initial_slots::InitialSlotError::NotAnEntryPoint": "rename one of the two symbols of that name",
     "ebpf_initial_slots::InitialSlotError::NoValues": "declare `__array(values, ..)` as the last member",
     "ebpf_initial_slots::InitialSlotError::OutsideValues": "give values only to `values`, the last member",
     "ebpf_initial_slots::InitialSlotError::Misaligned": "declare the member with libbpf's `__array`",
+    "ebpf_chosen_programs::LeaveOutError::UnknownProgram": "name programs that `ebpf list` shows",
     "ebpf_btf_load::KernelTypesError::ElfError": DAMAGED,
     "ebpf_btf_load::KernelTypesError::BtfError": "see `BtfError`",
     "ebpf_btf_load::KernelTypesError::NoSectionSize": "compile again; don't strip",

@@ -82,7 +82,8 @@ def rust_type(kind):
     stars, words = kind.count("*"), [it for it in words if it not in ("const", "struct", "enum") and "*" not in it]
     one = TYPES.get(words[0], words[0])
     for depth in range(stars):
-        one = f"*{'const' if depth == 0 and 'const ' in kind else 'mut'} {one}"
+        is_const = "*const" in kind if depth else "const " in kind
+        one = f"*{'const' if is_const else 'mut'} {one}"
     return one
 
 

@@ -2,13 +2,14 @@
  * Loads the programs of an eBPF object file into the running kernel, runs one of them, and prints what it returns and what a
  * map or a variable holds then; on bpf(2) and libebpf.a alone.
  *
- * usage: loader [--config FILE] [--wait MILLISECONDS] FILE PROGRAM [MAP|VARIABLE [BYTES]]
+ * usage: loader [--config FILE] [--wait MILLISECONDS] [--without PROGRAM].. FILE PROGRAM [MAP|VARIABLE [BYTES]]
  *        loader --targets FILE
  *
  * BYTES: a file with the bytes that the program runs on; 64 zero bytes if left out.
  * --config: a file with the kernel's configuration; if left out that of the running kernel, by /boot/config-RELEASE or by
  *           /proc/config.gz, which `zcat` unpacks.
  * --wait: how long to wait between the run and the map, or how long a program of tp_btf stays attached.
+ * --without: leaves a program out, so that an extern that the kernel lacks stops only this program.
  * --targets: prints what the programs are attached to, as ids of the kernel's types, and loads nothing.
  *
  * Programs of a section with `?` are loaded where they are asked for. A program of iter runs as a walk, whose lines are
@@ -22,13 +23,15 @@ struct options {
 	const char *config;
 	unsigned milliseconds;
 	int targets;
+	const char **without; /* the names of programs that are left out */
+	size_t without_count;
 	char **words;
 	int count;
 };
 
 static _Noreturn void usage(void)
 {
-	fputs("usage: loader [--config FILE] [--wait MILLISECONDS] FILE PROGRAM [MAP|VARIABLE [BYTES]]\n"
+	fputs("usage: loader [--config FILE] [--wait MILLISECONDS] [--without PROGRAM].. FILE PROGRAM [MAP|VARIABLE [BYTES]]\n"
 	      "       loader --targets FILE\n",
 	      stderr);
 	exit(2);
@@ -39,6 +42,7 @@ static struct options parse(int count, char **word)
 	struct options of = { 0 };
 	int at = 1;
 
+	of.without = zeros(count, sizeof(*of.without));
 	for (; at < count && !strncmp(word[at], "--", 2); at++) {
 		if (!strcmp(word[at], "--targets"))
 			of.targets = 1;
@@ -46,6 +50,8 @@ static struct options parse(int count, char **word)
 			of.config = word[++at];
 		else if (!strcmp(word[at], "--wait") && at + 1 < count)
 			of.milliseconds = strtoul(word[++at], NULL, 10);
+		else if (!strcmp(word[at], "--without") && at + 1 < count)
+			of.without[of.without_count++] = word[++at];
 		else
 			usage();
 	}
@@ -56,12 +62,13 @@ static struct options parse(int count, char **word)
 	return of;
 }
 
-static void open_object(struct loading *of, const char *path)
+static void open_object(struct loading *of, const char *path, const struct options *options)
 {
 	if (ebpf_check_version())
 		errx(1, "the library has the version %u", ebpf_version_number());
 	of->file = read_file(path);
 	check(of, path, ebpf_open(of->file.at, of->file.len, NULL, &of->object));
+	check(of, path, ebpf_leave_out(of->object, options->without, options->without_count));
 	read_kernel_types(of);
 }
 
@@ -137,11 +144,12 @@ int main(int count, char **word)
 	struct loading of = { .object = NULL };
 	struct options options = parse(count, word);
 
-	open_object(&of, options.words[0]);
+	open_object(&of, options.words[0], &options);
 	if (options.targets)
 		print_targets(&of);
 	else
 		load_and_run(&of, &options);
 	free_all(&of);
+	free(options.without);
 	return 0;
 }

@@ -11,8 +11,8 @@ An `Object` is opened, and its values may be set. `Object.prepare` makes all pas
 are as BPF_PROG_LOAD takes them. `Object.steps` makes the passes one by one. The object that a pass was made of is closed,
 so no pass is made twice. A call that refuses raises `Refused`, and changes nothing. Both close themselves.
 
-The library is that of the environment's EBPF_LIBRARY (a path), else `libebpf.so.1`. An object stays on the thread that
-opened it. Python 3.10 or later.
+The library is that of the environment's EBPF_LIBRARY (a path), else `libebpf.so.1`. One thread at a time uses an object.
+Python 3.10 or later.
 """
 import builtins
 import ctypes as c
@@ -196,6 +196,7 @@ CALLS = {
     "ebpf_set_max_entries": (*_named, _u32),
     "ebpf_set_value_size": (*_named, _u32),
     "ebpf_sanitize": (_handle, _u32),
+    "ebpf_leave_out": (_handle, _p(c.c_char_p), _size),
     "ebpf_program_count": (_handle,),
     "ebpf_program_at": (_handle, _size, _p(_Program)),
     "ebpf_map_count": (_handle,),
@@ -500,8 +501,8 @@ def _result(row, name):
 
 class Types:
     """A kernel's types, read once for many calls and many objects: `Types(types)` of bytes as /sys/kernel/btf/vmlinux has
-    them. Each call that takes a kernel's types takes bytes, which it reads anew, or these. They stay on the thread that read
-    them. Refused 200 to 219."""
+    them. Each call that takes a kernel's types takes bytes, which it reads anew, or these. One thread at a time uses them.
+    Refused 200 to 219."""
 
     def __init__(self, types):
         at = c.c_void_p()
@@ -795,6 +796,14 @@ class Object(_Linkable):
     def use_older_helpers(self):
         """Replaces the helper functions 112 to 115 by the older 4 and 45."""
         self._made(library.ebpf_sanitize(self._handle, 0))
+
+    def leave_out(self, *names):
+        """Leaves programs out: they are not linked, and what they alone need is not asked for. So a program that calls an
+        extern that the kernel lacks doesn't stop the others. Refused 4: no program has the name."""
+        if any("\0" in name for name in names):
+            raise ValueError("a name has a zero byte")
+        rows = (c.c_char_p * len(names))(*(name.encode() for name in names))
+        self._made(library.ebpf_leave_out(self._handle, rows, len(names)))
 
     def outcomes(self, types):
         """The outcome of each CO-RE relocation over a kernel's types (bytes or `Types`), in the order of .BTF.ext. Refused 200

@@ -51,6 +51,7 @@ void check_nulls(const struct guarded *file)
 	CHECK("ebpf_relocate_types", ebpf_relocate_types(NULL, NULL, 0) == EBPF_CLOSED);
 	CHECK("ebpf_relocate_maps", ebpf_relocate_maps(NULL, NULL, 0) == EBPF_CLOSED);
 	CHECK("ebpf_sanitize", ebpf_sanitize(NULL, 0) == EBPF_CLOSED);
+	CHECK("ebpf_leave_out", ebpf_leave_out(NULL, NULL, 0) == EBPF_CLOSED);
 	CHECK("ebpf_value", ebpf_value(NULL, NULL, 0, NULL, 0, NULL) == EBPF_CLOSED);
 	CHECK("ebpf_number_name", ebpf_number_name(0, NULL, 9, NULL) == EBPF_ROOM);
 	CHECK("ebpf_kernel_types", !ebpf_kernel_types(NULL, NULL, 0, NULL));

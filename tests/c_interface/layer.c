@@ -215,6 +215,7 @@ int main(int words, char **word)
 	check_kept(&files);
 	check_types(&files);
 	check_wanted(&files);
+	check_leaving();
 	check_memory(&files);
 	for (int at = 0; at < 5; at++)
 		free(to[at]->at);

@@ -24,6 +24,9 @@ void check_types(const struct layer_files *files);
 /* layer_wanted.c: descriptors and symbols that an object wants */
 void check_wanted(const struct layer_files *files);
 
+/* layer_leaving.c: programs that are left out */
+void check_leaving(void);
+
 /* layer_memory.c: each allocation failing in turn */
 void check_memory(const struct layer_files *files);
 

@@ -242,6 +242,14 @@ static uint32_t define(struct ebpf_handle **of)
 	return ebpf_define_kconfig(*of, rows, 1);
 }
 
+static uint32_t leave_out(struct ebpf_handle **of)
+{
+	static const char *const names[] = { "on_packet" };
+
+	/* with memory the same call finds no such program */
+	return ebpf_program_count(*of) ? ebpf_leave_out(*of, names, 1) : EBPF_DONE;
+}
+
 /* Calls, by the object that they are made on: 0: none, 1: counter.o, 2: that for loaders; and their number. */
 static const struct {
 	const char *name;
@@ -267,6 +275,7 @@ static const struct {
 	{ "ebpf_relocate_types_with", relocate_with, 1, EBPF_DONE },
 	{ "ebpf_prepare_handle, with types", prepare_held_with, 1, EBPF_DONE },
 	{ "ebpf_set_values", set_values, 1, EBPF_DONE },
+	{ "ebpf_leave_out", leave_out, 1, EBPF_DONE },
 	{ "ebpf_set_value", set_unknown, 1, EBPF_PARSE_SYMBOL_NOT_FOUND },
 	{ "ebpf_explain", explain, 1, EBPF_PARSE_SYMBOL_NOT_FOUND },
 	{ "ebpf_relocate_maps", relocate_maps, 1, EBPF_MAPS_MISSING_DESCRIPTOR },

@@ -3,6 +3,7 @@ pub mod KernelHandles
 pub mod PassOrder
 pub mod Answers
 pub mod Settings
+pub mod LeavingOut
 pub mod Passes
 pub mod KernelPasses
 pub mod PassSequences

@@ -10,6 +10,7 @@ mod kernel_lists;
 mod kernel_preparing;
 mod kernel_types;
 mod laws;
+mod leaving_out;
 mod linking;
 mod list_calls;
 mod map_settings;

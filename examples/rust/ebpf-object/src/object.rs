@@ -6,6 +6,7 @@ use crate::prepared::Prepared;
 use crate::rows::{CodeCopy, CodeReference};
 use crate::steps::{Opened, Steps};
 use ebpf_sys as sys;
+use std::ffi::{c_char, CString};
 use std::ops::Deref;
 use std::ptr;
 
@@ -347,6 +348,22 @@ impl Object {
         let handle = self.contents.handle();
         // SAFETY: the handle is open.
         let number = unsafe { sys::ebpf_sanitize(handle, 0) };
+        self.outcome(number, "")
+    }
+
+    /// Leaves programs out: they are not linked, and what they alone need is not asked for. So a program that calls an
+    /// extern that the kernel lacks doesn't stop the others.
+    ///
+    /// # Errors
+    ///
+    /// [`Error::NoProgram`]: no program has the name, of several such names the first.
+    pub fn leave_out(&mut self, names: &[&str]) -> Result<(), Error> {
+        let with_zero = |name: &&str| CString::new(*name).map_err(|_| Error::NoProgram((*name).into()));
+        let terminated: Vec<CString> = names.iter().map(with_zero).collect::<Result<_, _>>()?;
+        let pointers: Vec<*const c_char> = terminated.iter().map(|name| name.as_ptr()).collect();
+        let handle = self.contents.handle();
+        // SAFETY: the handle is open, and a zero byte is behind each name.
+        let number = unsafe { sys::ebpf_leave_out(handle, pointers.as_ptr(), pointers.len()) };
         self.outcome(number, "")
     }
 }

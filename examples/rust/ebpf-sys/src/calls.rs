@@ -375,6 +375,17 @@ extern "C" {
     /// (probe_read_user, probe_read_kernel). 45 (probe_read_str) replaces 114 and 115. Numbers: 3, 12.
     pub fn ebpf_sanitize(handle: *mut ebpf_handle, has_newer: u32) -> u32;
 
+    /// Leaves programs out: they are not linked, and what they alone need is not asked for. `names` has `count` names,
+    /// each with a zero byte behind it.
+    ///
+    /// - So a program that calls an extern that the kernel lacks doesn't stop the others.
+    /// - A remaining program keeps each function that it reaches, with all relocations there and the externs of these.
+    /// - The relocations of other functions are gone, and the externs to which only these referred. Maps stay.
+    /// - A name that no program has is refused (4), about the first such name. A name may occur twice.
+    ///
+    /// Numbers: 2, 3, 4, 6, 12.
+    pub fn ebpf_leave_out(handle: *mut ebpf_handle, names: *const *const c_char, count: usize) -> u32;
+
     /// `ebpf_program_count` of the header.
     pub fn ebpf_program_count(handle: *const ebpf_handle) -> usize;
 

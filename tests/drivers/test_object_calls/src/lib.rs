@@ -3,6 +3,8 @@
 #![tactic(auto)]
 
 #[cfg(test)]
+mod chosen;
+#[cfg(test)]
 mod commands;
 #[cfg(test)]
 mod hex;

@@ -1,0 +1,10 @@
+use Rattle.std.proofs.Common.{◌≡◌}
+use Rattle.std.specs.Prelude.{not, ◌||◌}
+use Rattle.std.specs.FinMap.{contains_key, empty, entries}
+use Rattle.std.specs.List.{filter}
+use Rattle.ebpf_base.specs.Maps.{by_bytes, put_all}
+use Rattle.ebpf_chosen_programs.proofs.externs.kept_externs.Given as goal
+
+-- with those of the externs that are left, all are there
+abbrev pub invariant-loop-name : goal.invariant-loop-name
+invariant-loop-name l = put_all l.kept (filter (λ e. contains_key l.needed e.0 || not (contains_key l.referred e.0)) (by_bytes l.name-iterator)) ≡ put_all empty (filter (λ e. contains_key l.needed e.0 || not (contains_key l.referred e.0)) (entries l.fn.externs))

@@ -1,0 +1,124 @@
+/* Programs that are left out: an extern that the kernel lacks stops only the program that calls it. */
+#include "layer.h"
+
+/*
+ * The object of this text, by `clang-19 -target bpf -g -O2 -mcpu=v3 -c`, without what debuggers read and `.BTF.ext`:
+ *
+ * #define SEC(name) __attribute__((section(name), used))
+ * #define KSYM __attribute__((section(".ksyms")))
+ * extern int present(int) KSYM, lacking(int) KSYM;
+ * static __attribute__((noinline)) int shared(int x) { return present(x) + 1; }
+ * SEC("tc") int first(void *context) { return shared((int)(long)context); }
+ * static __attribute__((noinline)) int own(int x) { return lacking(x) * 2; }
+ * SEC("xdp") int second(void *context) { return shared(3) + own(2); }
+ */
+static const char object[] =
+	"7f454c460201010000000000000000000100f7000100000000000000000000000000000000000000c0030000000000000000"
+	"000040000000000040000a00010085100000ffffffff04000000010000009500000000000000b40100000200000085100000"
+	"ffffffff6400000001000000950000000000000085100000ffffffff9500000000000000b40100000300000085100000ffff"
+	"ffffbc0600000000000085100000020000000c6000000000000095000000000000009feb0100180000000000000000010000"
+	"0001000056000000000000000000000200000000000000000100000d03000000010000000100000009000000000000010400"
+	"0000200000010d0000000100000c02000000000000000100000d030000002100000003000000230000000000000c05000000"
+	"000000000100000d030000000000000003000000300000000200000c07000000000000000100000d03000000010000000100"
+	"0000380000000100000c09000000000000000100000d030000002100000003000000430000000000000c0b00000000000000"
+	"0100000d030000000000000003000000470000000200000c0d0000004f0000000200000f0000000008000000000000000000"
+	"00000e000000000000000000000000636f6e7465787400696e74006669727374007463002f2f63686f73656e2e6300780073"
+	"6861726564002e746578740070726573656e74007365636f6e6400786470006f776e006c61636b696e67002e6b73796d7300"
+	"0000000000000000000000000000000000000000000000000000000000000300020000000000000000000000000000000000"
+	"0000000003000400000000000000000000000000000000003400000002000200000000000000000018000000000000000000"
+	"000003000600000000000000000000000000000000002100000002000200180000000000000020000000000000000b000000"
+	"12000400000000000000000010000000000000001100000010000000000000000000000000000000000000002d0000001200"
+	"0600000000000000000030000000000000002500000010000000000000000000000000000000000000000000000000000000"
+	"0a0000000700000020000000000000000a0000000900000000000000000000000a0000000100000008000000000000000a00"
+	"00000100000018000000000000000a00000001000000002e72656c2e746578740066697273740070726573656e74002e7265"
+	"6c786470006f776e006c61636b696e67007365636f6e6400736861726564002e72656c7463002e737472746162002e73796d"
+	"746162002e425446000000000000000000000000000000000000000000000000000000000000000000000000000000000000"
+	"0000000000000000000000000000000000000000000000004200000003000000000000000000000000000000000000006803"
+	"0000000000005700000000000000000000000000000001000000000000000000000000000000050000000100000006000000"
+	"0000000000000000000000004000000000000000380000000000000000000000000000000800000000000000000000000000"
+	"0000010000000900000040000000000000000000000000000000180300000000000020000000000000000900000002000000"
+	"080000000000000010000000000000003f000000010000000600000000000000000000000000000078000000000000001000"
+	"0000000000000000000000000000080000000000000000000000000000003b00000009000000400000000000000000000000"
+	"00000000380300000000000010000000000000000900000004000000080000000000000010000000000000001d0000000100"
+	"0000060000000000000000000000000000008800000000000000300000000000000000000000000000000800000000000000"
+	"0000000000000000190000000900000040000000000000000000000000000000480300000000000020000000000000000900"
+	"00000600000008000000000000001000000000000000520000000100000000000000000000000000000000000000b8000000"
+	"000000006e010000000000000000000000000000040000000000000000000000000000004a00000002000000000000000000"
+	"000000000000000000002802000000000000f000000000000000010000000600000008000000000000001800000000000000";
+
+/* The `.BTF` of `int present(int x) { return x; }`. */
+static const char kernel[] =
+	"9feb0100180000000000000030000000300000002000000001000000000000010400000020000001000000000100000d0100"
+	"00000500000001000000070000000100000c0200000000696e7400780070726573656e74002e74657874002f2f6b65726e65"
+	"6c2e6300";
+
+/* The bytes that digits say. */
+static struct bytes bytes_of(const char *digits)
+{
+	struct bytes bytes = { zeros(strlen(digits) / 2, 1), strlen(digits) / 2 };
+	unsigned byte;
+
+	for (size_t at = 0; at < bytes.len; at++)
+		if (sscanf(digits + 2 * at, "%2x", &byte) == 1)
+			bytes.at[at] = (uint8_t)byte;
+	return bytes;
+}
+
+/* All passes, over the kernel's types. */
+static uint32_t prepare(struct ebpf_handle *of, const struct bytes *types)
+{
+	struct ebpf_prepare_inputs inputs = ebpf_prepare_defaults();
+
+	inputs.types = types->at;
+	inputs.types_len = types->len;
+	return ebpf_prepare_handle(of, &inputs);
+}
+
+/* The names that a caller gives. */
+static void check_names(const struct bytes *file)
+{
+	static const char *const unknown[] = { "second", "third", "fourth" }, *const bad[] = { "third", "\xff" };
+	static const char *const null[] = { "first", NULL }, *const twice[] = { "second", "first", "second" };
+	struct ebpf_handle *of = object_of(file);
+
+	CHECK("names", ebpf_leave_out(of, unknown, 3) == EBPF_NO_PROGRAM && is_last(of, EBPF_NO_PROGRAM));
+	CHECK("names", !strcmp(ebpf_last_error(of)->name, "third") && ebpf_program_count(of) == 2);
+	CHECK("names", ebpf_leave_out(of, bad, 2) == EBPF_BAD_NAME && is_last(of, EBPF_BAD_NAME));
+	CHECK("names", ebpf_leave_out(of, null, 2) == EBPF_NO_PROGRAM && !ebpf_last_error(of)->name_len);
+	CHECK("names", ebpf_leave_out(of, NULL, 3) == EBPF_DONE && ebpf_leave_out(of, unknown, 0) == EBPF_DONE);
+	CHECK("names", ebpf_leave_out(NULL, unknown, 3) == EBPF_CLOSED && ebpf_program_count(of) == 2);
+	CHECK("names", ebpf_leave_out(of, twice, 3) == EBPF_DONE && is_last(of, EBPF_DONE) && !ebpf_program_count(of));
+	CHECK("names", ebpf_extern_count(of) == 0);
+	ebpf_close(of);
+}
+
+/* The programs beside one that is left out. */
+static void check_others(const struct bytes *file, const struct bytes *types)
+{
+	static const char *const second[] = { "second" };
+	struct ebpf_handle *of = object_of(file);
+	const char *name;
+	size_t count = 0;
+
+	CHECK("others", prepare(of, types) != EBPF_DONE && !strcmp(ebpf_last_error(of)->name, "lacking"));
+	CHECK("others", ebpf_program_count(of) == 2 && ebpf_extern_count(of) == 2);
+	CHECK("others", ebpf_leave_out(of, second, 1) == EBPF_DONE && is_last(of, EBPF_DONE));
+	name = ebpf_program_at(of, 0, NULL);
+	CHECK("others", name && !strcmp(name, "first") && ebpf_program_count(of) == 1);
+	name = ebpf_extern_at(of, 0, NULL);
+	CHECK("others", name && !strcmp(name, "present") && ebpf_extern_count(of) == 1);
+	CHECK("others", ebpf_leave_out(of, second, 1) == EBPF_NO_PROGRAM);
+	CHECK("others", prepare(of, types) == EBPF_DONE && ebpf_program_slots(of, 0, &count) && count == 5);
+	CHECK("others", ebpf_leave_out(of, second, 1) == EBPF_PASS_ORDER && is_last(of, EBPF_PASS_ORDER));
+	ebpf_close(of);
+}
+
+void check_leaving(void)
+{
+	struct bytes file = bytes_of(object), types = bytes_of(kernel);
+
+	check_names(&file);
+	check_others(&file, &types);
+	free(file.at);
+	free(types.at);
+}

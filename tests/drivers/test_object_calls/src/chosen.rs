@@ -1,0 +1,228 @@
+//! Programs left out of objects that clang 19 made: an extern that the kernel lacks stops only the program that calls
+//! it.
+
+use super::hex::bytes_of;
+use ebpf_btf::{Btf, Endianness};
+use ebpf_chosen_programs::{LeaveOutError, leave_out};
+use ebpf_object::Object;
+use ebpf_object::obj::ParseMode;
+use ebpf_object::prepare::{NO_SYMBOLS, PrepareError, Steps, prepare_copy};
+use std::alloc::{AllocError, Global};
+use std::io::Write;
+use std::test::Fail;
+use test_same::{holds, same};
+
+/// The object of this text, by `clang -target bpf -g -O2 -mcpu=v3 -DSECOND -c`, without what debuggers read and
+/// `.BTF.ext`:
+///
+/// ```c
+/// #define SEC(name) __attribute__((section(name), used))
+/// #define KSYM __attribute__((section(".ksyms")))
+/// extern int present(int) KSYM, lacking(int) KSYM;
+/// static __attribute__((noinline)) int shared(int x) { return present(x) + 1; }
+/// SEC("tc") int first(void *context) { return shared((int)(long)context); }
+/// #ifdef SECOND
+/// static __attribute__((noinline)) int own(int x) { return lacking(x) * 2; }
+/// SEC("xdp") int second(void *context) { return shared(3) + own(2); }
+/// #endif
+/// ```
+const BOTH: [&str; 35] = [
+    "7f454c460201010000000000000000000100f7000100000000000000000000000000000000000000c0030000000000",
+    "000000000040000000000040000a00010085100000ffffffff04000000010000009500000000000000b40100000200",
+    "000085100000ffffffff6400000001000000950000000000000085100000ffffffff9500000000000000b401000003",
+    "00000085100000ffffffffbc0600000000000085100000020000000c6000000000000095000000000000009feb0100",
+    "1800000000000000000100000001000056000000000000000000000200000000000000000100000d03000000010000",
+    "0001000000090000000000000104000000200000010d0000000100000c02000000000000000100000d030000002100",
+    "000003000000230000000000000c05000000000000000100000d030000000000000003000000300000000200000c07",
+    "000000000000000100000d030000000100000001000000380000000100000c09000000000000000100000d03000000",
+    "2100000003000000430000000000000c0b000000000000000100000d03000000000000000300000047000000020000",
+    "0c0d0000004f0000000200000f000000000800000000000000000000000e000000000000000000000000636f6e7465",
+    "787400696e74006669727374007463002f2f63686f73656e2e63007800736861726564002e74657874007072657365",
+    "6e74007365636f6e6400786470006f776e006c61636b696e67002e6b73796d73000000000000000000000000000000",
+    "0000000000000000000000000000000003000200000000000000000000000000000000000000000003000400000000",
+    "0000000000000000000000000034000000020002000000000000000000180000000000000000000000030006000000",
+    "00000000000000000000000000002100000002000200180000000000000020000000000000000b0000001200040000",
+    "0000000000000010000000000000001100000010000000000000000000000000000000000000002d00000012000600",
+    "0000000000000000300000000000000025000000100000000000000000000000000000000000000000000000000000",
+    "000a0000000700000020000000000000000a0000000900000000000000000000000a00000001000000080000000000",
+    "00000a0000000100000018000000000000000a00000001000000002e72656c2e746578740066697273740070726573",
+    "656e74002e72656c786470006f776e006c61636b696e67007365636f6e6400736861726564002e72656c7463002e73",
+    "7472746162002e73796d746162002e4254460000000000000000000000000000000000000000000000000000000000",
+    "0000000000000000000000000000000000000000000000000000000000000000000000000042000000030000000000",
+    "0000000000000000000000000000680300000000000057000000000000000000000000000000010000000000000000",
+    "0000000000000005000000010000000600000000000000000000000000000040000000000000003800000000000000",
+    "0000000000000000080000000000000000000000000000000100000009000000400000000000000000000000000000",
+    "00180300000000000020000000000000000900000002000000080000000000000010000000000000003f0000000100",
+    "0000060000000000000000000000000000007800000000000000100000000000000000000000000000000800000000",
+    "00000000000000000000003b0000000900000040000000000000000000000000000000380300000000000010000000",
+    "000000000900000004000000080000000000000010000000000000001d000000010000000600000000000000000000",
+    "0000000000880000000000000030000000000000000000000000000000080000000000000000000000000000001900",
+    "0000090000004000000000000000000000000000000048030000000000002000000000000000090000000600000008",
+    "000000000000001000000000000000520000000100000000000000000000000000000000000000b800000000000000",
+    "6e010000000000000000000000000000040000000000000000000000000000004a0000000200000000000000000000",
+    "0000000000000000002802000000000000f00000000000000001000000060000000800000000000000180000000000",
+    "0000",
+];
+
+/// The same without `-DSECOND`.
+const ALONE: [&str; 24] = [
+    "7f454c460201010000000000000000000100f700010000000000000000000000000000000000000048020000000000",
+    "000000000040000000000040000800010085100000ffffffff0400000001000000950000000000000085100000ffff",
+    "ffff95000000000000009feb0100180000000000000094000000940000003f00000000000000000000020000000000",
+    "0000000100000d030000000100000001000000090000000000000104000000200000010d0000000100000c02000000",
+    "000000000100000d030000002100000003000000230000000000000c05000000000000000100000d03000000000000",
+    "0003000000300000000200000c07000000380000000100000f0000000008000000000000000000000000636f6e7465",
+    "787400696e74006669727374007463002f2f63686f73656e2e63007800736861726564002e74657874007072657365",
+    "6e74002e6b73796d730000000000000000000000000000000000000000000000000000000000000000000003000200",
+    "0000000000000000000000000000000000000000030004000000000000000000000000000000000019000000020002",
+    "00000000000000000018000000000000000b0000001200040000000000000000001000000000000000110000001000",
+    "00000000000000000000000000000000000000000000000000000a0000000500000000000000000000000a00000001",
+    "000000002e72656c2e746578740066697273740070726573656e7400736861726564002e72656c7463002e73747274",
+    "6162002e73796d746162002e4254460000000000000000000000000000000000000000000000000000000000000000",
+    "0000000000000000000000000000000000000000000000000000000000000000000000000027000000030000000000",
+    "000000000000000000000000000008020000000000003c000000000000000000000000000000010000000000000000",
+    "0000000000000005000000010000000600000000000000000000000000000040000000000000001800000000000000",
+    "0000000000000000080000000000000000000000000000000100000009000000400000000000000000000000000000",
+    "00e8010000000000001000000000000000070000000200000008000000000000001000000000000000240000000100",
+    "0000060000000000000000000000000000005800000000000000100000000000000000000000000000000800000000",
+    "0000000000000000000000200000000900000040000000000000000000000000000000f80100000000000010000000",
+    "0000000007000000040000000800000000000000100000000000000037000000010000000000000000000000000000",
+    "00000000006800000000000000eb000000000000000000000000000000040000000000000000000000000000002f00",
+    "0000020000000000000000000000000000000000000058010000000000009000000000000000010000000400000008",
+    "000000000000001800000000000000",
+];
+
+/// The `.BTF` of `int present(int x) { return x; }`.
+const KERNEL: [&str; 3] = [
+    "9feb010018000000000000003000000030000000200000000100000000000001040000002000000100000000010000",
+    "0d010000000500000001000000070000000100000c0200000000696e7400780070726573656e74002e74657874002f",
+    "2f6b65726e656c2e6300",
+];
+
+/// The object of a file.
+fn parsed(alloc: Global, file: &[&str]) -> Result<Object, Fail> {
+    let bytes = bytes_of(alloc, file)?;
+    match Object::parse_as(alloc, &bytes, ParseMode::Lenient) {
+        Ok(object) => Ok(object),
+        Err(_) => Err(Fail::new("the object can't be parsed")),
+    }
+}
+
+/// A copy of the object after all passes.
+fn prepared(alloc: Global, object: &Object) -> Result<Result<Object, PrepareError>, Fail> {
+    let bytes = bytes_of(alloc, &KERNEL)?;
+    let Ok(kernel) = Btf::parse(alloc, &bytes, Endianness::Little) else {
+        return Err(Fail::new("the kernel's types can't be parsed"));
+    };
+    Ok(prepare_copy(
+        alloc,
+        object,
+        &Steps::all(&kernel, &[]),
+        NO_SYMBOLS,
+    ))
+}
+
+/// The object of both programs without those with some names.
+fn without(alloc: Global, names: &[&str]) -> Result<Object, Fail> {
+    let mut object = parsed(alloc, &BOTH)?;
+    match leave_out(alloc, &mut object, names) {
+        Ok(()) => Ok(object),
+        Err(_) => Err(Fail::new("a program has not the name")),
+    }
+}
+
+/// Fails where all passes refuse an object, or don't and should.
+fn is_refused(alloc: Global, object: &Object, want: bool) -> Result<(), Fail> {
+    let refused = prepared(alloc, object)?.is_err();
+    holds(refused == want, "whether the passes refuse")
+}
+
+/// The names of an object's externs, and the number of its relocations.
+fn contents(alloc: Global, object: &Object) -> Result<String, AllocError> {
+    let mut text = String::new(alloc);
+    for name in object.externs.names(alloc)? {
+        write!(text, "{name} ")?;
+    }
+    let mut count = 0;
+    for (_, table) in object.relocations.iter() {
+        count += table.len();
+    }
+    write!(text, "{count}")?;
+    Ok(text)
+}
+
+/// Fails where an object has not these externs and this number of relocations.
+fn has(alloc: Global, object: &Object, want: &str) -> Result<(), Fail> {
+    let text = contents(alloc, object)?;
+    same(text.as_str(), want)
+}
+
+/// The slots of a finished program.
+fn slots(alloc: Global, object: &Object, name: &str) -> Result<String, AllocError> {
+    match object.program_function(name) {
+        Some(function) => format!(in alloc; "{:?}", function.instructions.as_slice()),
+        None => format!(in alloc; "no program"),
+    }
+}
+
+#[test]
+fn lacking_extern_stops_all(rt: HostRuntime) -> Result<(), Fail> {
+    let alloc = rt.alloc();
+    let object = parsed(alloc, &BOTH)?;
+    has(alloc, &object, "lacking present 5")?;
+    is_refused(alloc, &object, true)
+}
+
+#[test]
+fn others_are_as_alone(rt: HostRuntime) -> Result<(), Fail> {
+    let alloc = rt.alloc();
+    let object = without(alloc, &["second"])?;
+    has(alloc, &object, "present 2")?;
+    let alone = parsed(alloc, &ALONE)?;
+    let (Ok(left), Ok(alone)) = (prepared(alloc, &object)?, prepared(alloc, &alone)?) else {
+        return Err(Fail::new("the passes refuse"));
+    };
+    let want = slots(alloc, &alone, "first")?;
+    let got = slots(alloc, &left, "first")?;
+    same(got.as_str(), want.as_str())?;
+    let none = slots(alloc, &left, "second")?;
+    same(none.as_str(), "no program")
+}
+
+#[test]
+fn needed_extern_still_stops(rt: HostRuntime) -> Result<(), Fail> {
+    let alloc = rt.alloc();
+    let object = without(alloc, &["first"])?;
+    has(alloc, &object, "lacking present 4")?;
+    is_refused(alloc, &object, true)
+}
+
+#[test]
+fn of_all_programs_nothing_is_asked(rt: HostRuntime) -> Result<(), Fail> {
+    let alloc = rt.alloc();
+    let object = without(alloc, &["second", "first", "second"])?;
+    has(alloc, &object, "0")?;
+    holds(object.programs.is_empty(), "no program")?;
+    holds(object.functions.len() == 4, "four functions")?;
+    is_refused(alloc, &object, false)
+}
+
+#[test]
+fn of_no_program_all_stays(rt: HostRuntime) -> Result<(), Fail> {
+    let alloc = rt.alloc();
+    let object = without(alloc, &[])?;
+    has(alloc, &object, "lacking present 5")?;
+    is_refused(alloc, &object, true)
+}
+
+#[test]
+fn first_unknown_name_is_reported(rt: HostRuntime) -> Result<(), Fail> {
+    let alloc = rt.alloc();
+    let mut object = parsed(alloc, &BOTH)?;
+    match leave_out(alloc, &mut object, &["second", "third", "fourth"]) {
+        Err(LeaveOutError::UnknownProgram { name }) => same(name.as_str(), "third")?,
+        _ => return Err(Fail::new("the name is known")),
+    }
+    has(alloc, &object, "lacking present 5")?;
+    holds(object.programs.len() == 2, "two programs")
+}
