@@ -8,11 +8,11 @@
  *  - A count is no greater than what lies behind its pointer, and each pointer is aligned for its type.
  *  - What a call may write (each pointer without const) overlaps nothing else that the call is given. No other thread
  *    touches it during the call. What is const does not change during the call: that goes for a mapped file too.
- *  - A handle is what `ebpf_open`, `ebpf_prepare` or `ebpf_clone` gave. It stays on the thread that made it, and one
- *    call at a time uses it, also where it is const: a call takes the object out of the handle while it runs, and keeps
- *    its error and its lists there. Two threads that read one object have a handle each (`ebpf_clone`). `ebpf_close`
- *    frees it, once.
- *  - The same holds for the types that `ebpf_btf_open` gave: they stay on their thread, and `ebpf_btf_close` frees them.
+ *  - A handle is what `ebpf_open`, `ebpf_prepare` or `ebpf_clone` gave. It may move from thread to thread, and one call
+ *    at a time uses it, also where it is const: a call takes the object out of the handle while it runs, and keeps its
+ *    error and its lists there. Two threads that read one object at a time have a handle each (`ebpf_clone`).
+ *    `ebpf_close` frees it, once.
+ *  - The same holds for the types that `ebpf_btf_open` gave, which `ebpf_btf_close` frees.
  *  - malloc, realloc and free are of one allocator and align as the C standard says. No call is made from a signal
  *    handler, nor in the child that a process with threads forked.
  * Beyond these anything may be passed: any bytes as a file, types, symbols, names or values, any numbers.

@@ -1,5 +1,5 @@
 #!/usr/bin/env python3
-"""Runs `ebpf check`, `ebpf list`, `ebpf inspect` and `ebpf link` over examples/check and over files made here, beside what
+"""Runs `ebpf check`, `ebpf list`, `ebpf inspect`, `ebpf link` and `ebpf btf` over examples/check and over files made here, beside what
 each has to print and its status, and the last two beside `ebpf-inspect` and `ebpf-link`. Ends with 'N passed, M failed', and
 with status 1 where one failed.
 usage: check_rows.py PROGRAM INSPECT LINK      PROGRAM: the built program `ebpf`; INSPECT: the built program `ebpf-inspect`;
@@ -15,7 +15,7 @@ import tempfile
 from dataclasses import dataclass
 from pathlib import Path
 
-from checked import absences, embedded, functions, grouping, inspecting, kconfig, lacking, linking, listing, refusing, sizes, telling, walks
+from checked import absences, cutting, embedded, functions, grouping, inspecting, kconfig, lacking, linking, listing, refusing, sizes, telling, walks
 from checked.page import shown_output
 
 TOP = Path(__file__).parents[1]
@@ -414,7 +414,7 @@ def main():
         shutil.copy(EXAMPLE / "memdrop.o", folder)
         shutil.copytree(EXAMPLE / "btf", Path(folder) / "btf")
         own = [example, as_json, kernels, unread, unlisted, files, lacks, names, words, closed_output]
-        below = [absences, walks, functions, lacking, telling, grouping, sizes, listing, inspecting, linking, refusing, kconfig, embedded]
+        below = [absences, walks, functions, lacking, telling, grouping, sizes, listing, inspecting, linking, refusing, kconfig, embedded, cutting]
         for run in [*own, *(run for module in below for run in module.ROWS)]:
             try:
                 run(rows)

@@ -50,14 +50,18 @@ CHECKED = ["examples/check/memdrop.o", "targets.o"]
 COUNTER = "tests/drivers/test_rows/data/counter.o"
 LISTED = [COUNTER, "tests/objects/kernel_parts_19.o", "unreached.o"]
 
+# An object that needs an id of a kernel's type, and the kernels of an example.
+CUT = "btf examples/check/memdrop.o --btf examples/check/btf --output least --allow-ids"
+
 # Blocks that show a form: the page, the beginning of the first line, and the test.
 FORMS = [
     ("README.md", "(cd crates/ebpf && rt try", forms.trial),
     ("docs/LIBRARY.md", "tools/vendor.sh DEST", forms.usage_in("tools/vendor.sh")),
     ("docs/C.md", "loader [--config FILE]", forms.usage_in("examples/loader/main.c")),
-    ("docs/CLI.md", "ebpf check | list", forms.synopsis),
+    ("docs/CLI.md", "ebpf btf | check", forms.synopsis),
     ("docs/CLI.md", '{"version"', forms.refusal),
     ("docs/CLI.md", "byte_off byte_sz", forms.kinds),
+    ("docs/CLI.md", "kernels [name output", forms.json_of(CUT, first="files")),
     ("docs/CLI.md", "status", forms.json_of(*(f"check {file} examples/check/btf" for file in CHECKED))),
     ("docs/CLI.md", "byte_order license", forms.json_of(*(f"list {file}" for file in LISTED))),
     ("docs/CLI.md", "check:", forms.job),

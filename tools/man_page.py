@@ -94,7 +94,7 @@ def page(version, text):
     at = next((number for number, (kind, _) in enumerate(found) if kind == "code"), None)
     synopsis = found.pop(at)[1] if at is not None else []
     made = [f'.TH EBPF 1 "" "ebpf {version}" "User Commands"', ".SH NAME"]
-    made += ["ebpf \\- check, list, link and inspect eBPF object files", ".SH SYNOPSIS", ".nf"]
+    made += ["ebpf \\- check, list, link and inspect eBPF object files, and cut BTF to their needs", ".SH SYNOPSIS", ".nf"]
     made += [*(escaped(it.strip()) for it in synopsis), ".fi", ".SH DESCRIPTION"]
     for kind, lines in found[1:]:
         if kind == "heading":

@@ -11,6 +11,16 @@ void *zeros(size_t count, size_t size)
 	return made;
 }
 
+/* A list of descriptors, none of which is open. */
+int *no_descriptors(size_t count)
+{
+	int *list = zeros(count, sizeof(*list));
+
+	for (size_t at = 0; at < count; at++)
+		list[at] = -1;
+	return list;
+}
+
 /* All bytes up to the end of a stream. */
 struct bytes read_stream(FILE *stream, const char *name)
 {

@@ -17,7 +17,7 @@ static int loaded_program(const struct loading *of, const char *target)
 {
 	int loaded = of->programs[find_program(of, target)];
 
-	if (!loaded)
+	if (loaded < 0)
 		errx(1, "the program %s stands in a map and is not loaded: its section begins with ?", target);
 	return loaded;
 }

@@ -17,7 +17,7 @@ static uint32_t version(uint32_t major, uint32_t minor, uint32_t patch)
 	return major << 16 | minor << 8 | (patch < 255 ? patch : 255);
 }
 
-static uint32_t running_version(void)
+uint32_t running_version(void)
 {
 	struct utsname kernel = running_kernel();
 	unsigned major, minor, patch = 0;
@@ -27,8 +27,24 @@ static uint32_t running_version(void)
 	return version(major, minor, patch);
 }
 
-/* Whether a loader knows the value of an extern by the kernel's version alone. */
-static int is_known(const char *name, uint64_t *value)
+/* The name of the kernel's function for bpf(2) where system calls are wrapped, by the processor. */
+static const char *wrapped_call(void)
+{
+#if defined(__x86_64__)
+	return "__x64_sys_bpf";
+#elif defined(__aarch64__)
+	return "__arm64_sys_bpf";
+#elif defined(__s390x__)
+	return "__s390x_sys_bpf";
+#elif defined(__riscv)
+	return "__riscv_sys_bpf";
+#else
+	return NULL;
+#endif
+}
+
+/* Whether a loader knows the value of an extern by the kernel's version and types alone. */
+static int is_known(const struct loading *of, const char *name, uint64_t *value)
 {
 	uint32_t running = running_version();
 
@@ -37,7 +53,7 @@ static int is_known(const char *name, uint64_t *value)
 	else if (!strcmp(name, "LINUX_HAS_BPF_COOKIE"))
 		*value = running >= version(5, 15, 0);
 	else if (!strcmp(name, "LINUX_HAS_SYSCALL_WRAPPER"))
-		*value = running >= version(4, 17, 0);
+		*value = wrapped_call() && has_function(of, wrapped_call());
 	else
 		return 0;
 	return 1;
@@ -79,7 +95,7 @@ static const uint8_t *value_of(const struct loading *of, const char *name, struc
 	const uint8_t *value;
 	uint64_t known;
 
-	if (is_known(name, &known))
+	if (is_known(of, name, &known))
 		value = ebpf_kconfig_number(of->object, name, strlen(name), known, len);
 	else
 		value = ebpf_kconfig_value(of->object, name, strlen(name), (const char *)config.at, config.len, len);

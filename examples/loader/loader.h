@@ -21,13 +21,15 @@ struct loading {
 	struct bytes file;
 	struct ebpf_btf *kernel_types;
 	struct bytes kernel_symbols;
-	int own_types; /* the descriptor of the object's types; 0 where it has none */
+	struct bytes types; /* the object's types as the library writes them for the kernel; kept until it changes */
+	int own_types; /* the descriptor of the object's types; -1 where it has none, or the kernel doesn't take them */
 	int *maps;     /* the descriptor of each map, in the order of the library's list */
-	int *programs; /* the descriptor of each program in that order, 0 where it is not loaded */
+	int *programs; /* the descriptor of each program in that order, -1 where it is not loaded */
 };
 
 /* files.c: memory, and the bytes of files */
 void *zeros(size_t count, size_t size);
+int *no_descriptors(size_t count);
 struct bytes read_stream(FILE *stream, const char *name);
 struct bytes read_file(const char *path);
 
@@ -41,13 +43,18 @@ char *log_buffer(size_t *size);
 _Noreturn void refused(const char *log, const char *what, const char *name);
 
 /* kconfig.c */
+uint32_t running_version(void);
 void define_kconfig(struct loading *of, const char *config_path);
 
 /* types.c */
 void read_kernel_types(struct loading *of);
 void load_types(struct loading *of);
 uint32_t target_of(struct loading *of, size_t program);
+int has_function(const struct loading *of, const char *name);
 void print_targets(struct loading *of);
+
+/* shared.c */
+int has_shared_variable(const struct loading *of, uint32_t section_type);
 
 /* maps.c */
 void make_maps(struct loading *of);

@@ -39,6 +39,7 @@ static uint32_t entries_of(const struct ebpf_map_shape *shape)
 	return room;
 }
 
+/* Asks the kernel for a map; `inner` is the descriptor of one of the maps that it holds, or -1. */
 static int make_map(const struct loading *of, const struct ebpf_map_shape *shape, int inner, const char *name)
 {
 	union bpf_attr attr;
@@ -49,15 +50,18 @@ static int make_map(const struct loading *of, const struct ebpf_map_shape *shape
 	attr.key_size = shape->key_size;
 	attr.value_size = shape->value_size;
 	attr.max_entries = entries_of(shape);
-	attr.map_flags = shape->flags;
+	attr.map_flags = shape->flags | (has_shared_variable(of, shape->value_type_id) ? BPF_F_MMAPABLE : 0);
 	attr.map_extra = shape->extra;
-	attr.inner_map_fd = inner;
-	attr.btf_fd = of->own_types;
-	attr.btf_key_type_id = shape->key_type_id;
-	attr.btf_value_type_id = shape->value_type_id;
+	if (inner >= 0)
+		attr.inner_map_fd = inner;
+	if (of->own_types >= 0) {
+		attr.btf_fd = of->own_types;
+		attr.btf_key_type_id = shape->key_type_id;
+		attr.btf_value_type_id = shape->value_type_id;
+	}
 	put_name(attr.map_name, name);
 	made = bpf(BPF_MAP_CREATE, &attr);
-	if (made < 0 && shape->value_type_id) { /* once more without types, which the kernel doesn't take for each map */
+	if (made < 0 && attr.btf_value_type_id) { /* once more without types, which the kernel doesn't take for each map */
 		attr.btf_fd = attr.btf_key_type_id = attr.btf_value_type_id = 0;
 		made = bpf(BPF_MAP_CREATE, &attr);
 	}
@@ -90,13 +94,13 @@ void make_maps(struct loading *of)
 	struct ebpf_map map;
 	const char *name;
 
-	of->maps = zeros(ebpf_map_count(of->object), sizeof(*of->maps));
+	of->maps = no_descriptors(ebpf_map_count(of->object));
 	check(of, "maps", ebpf_last_error(of->object)->number);
 	for (size_t at = 0; (name = ebpf_map_at(of->object, at, &map)); at++) {
-		int inner = map.has_inner ? make_map(of, &map.inner, 0, "inner") : 0;
+		int inner = map.has_inner ? make_map(of, &map.inner, -1, "inner") : -1;
 
 		of->maps[at] = make_map(of, &map.shape, inner, name);
-		if (inner)
+		if (inner >= 0)
 			close(inner);
 		if (map.data_len)
 			fill_map(of, at, name, &map);

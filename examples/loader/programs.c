@@ -34,7 +34,7 @@ static size_t describe_code(union bpf_attr *attr, const struct loading *of, size
 
 	attr->insns = (uintptr_t)need(of, "slots", ebpf_program_slots(object, at, &slots));
 	attr->insn_cnt = slots;
-	if (!of->own_types)
+	if (of->own_types < 0)
 		return slots;
 	attr->prog_btf_fd = of->own_types;
 	attr->func_info = (uintptr_t)need(of, "func info", ebpf_program_func_infos(object, at, &functions));
@@ -59,7 +59,7 @@ static void describe(union bpf_attr *attr, struct loading *of, size_t at, const 
 	attr->prog_flags = program->flags & EBPF_SLEEPABLE ? BPF_F_SLEEPABLE : 0;
 	attr->prog_flags |= program->flags & EBPF_FRAGS ? BPF_F_XDP_HAS_FRAGS : 0;
 	attr->attach_btf_id = program->flags & EBPF_TARGET ? target_of(of, at) : 0;
-	attr->kern_version = info.kernel_version;
+	attr->kern_version = info.kernel_version ? info.kernel_version : running_version();
 	put_name(attr->prog_name, name);
 }
 
@@ -102,7 +102,7 @@ void load_programs(struct loading *of, const char *asked)
 	struct ebpf_program program;
 	const char *name;
 
-	of->programs = zeros(ebpf_program_count(of->object), sizeof(*of->programs));
+	of->programs = no_descriptors(ebpf_program_count(of->object));
 	check(of, "programs", ebpf_last_error(of->object)->number);
 	for (size_t at = 0; (name = ebpf_program_at(of->object, at, &program)); at++)
 		if (!(program.flags & EBPF_OPTIONAL) || !strcmp(asked, name))

@@ -12,26 +12,30 @@ void read_kernel_types(struct loading *of)
 		errx(1, "the kernel's types: the library refuses: %s (%u)", ebpf_strerror(number), number);
 }
 
-/* Loads the types of the file, where it has some: the kernel reads those of maps' values and of functions there. */
+/*
+ * Loads the types of the file, where it has some: the kernel reads those of maps' values and of functions there. Where it
+ * refuses them the object is loaded without.
+ */
 void load_types(struct loading *of)
 {
 	union bpf_attr attr;
-	size_t log_size, len = 0;
+	size_t log_size;
 	char *log = log_buffer(&log_size);
 
 	clear(&attr);
-	attr.btf = (uintptr_t)need(of, "types", ebpf_kernel_types(of->object, of->file.at, of->file.len, &len));
-	attr.btf_size = len;
-	if (len)
-		of->own_types = bpf(BPF_BTF_LOAD, &attr);
-	if (of->own_types < 0) { /* once more, to hear why */
+	of->types.at = (uint8_t *)need(of, "types", ebpf_kernel_types(of->object, of->file.at, of->file.len,
+								     &of->types.len));
+	attr.btf = (uintptr_t)of->types.at;
+	attr.btf_size = of->types.len;
+	of->own_types = of->types.len ? bpf(BPF_BTF_LOAD, &attr) : -1;
+	if (of->types.len && of->own_types < 0) { /* once more, to hear why */
 		attr.btf_log_buf = (uintptr_t)log;
 		attr.btf_log_size = log_size;
 		attr.btf_log_level = 1;
 		of->own_types = bpf(BPF_BTF_LOAD, &attr);
 	}
-	if (of->own_types < 0)
-		refused(log, "the types of", "the object");
+	if (of->types.len && of->own_types < 0)
+		warn("%s\nthe kernel refuses the object's types, and the object is loaded without them", log);
 }
 
 /* What programs of a section are attached to, as the id of a type of the kernel. */
@@ -57,6 +61,17 @@ uint32_t target_of(struct loading *of, size_t program)
 	if (answer == EBPF_TARGET_NOT_FOUND)
 		errx(1, "the kernel's types lack the target of the program %s of %s", name, section);
 	return type_id;
+}
+
+/* Whether the kernel's types have a function. */
+int has_function(const struct loading *of, const char *name)
+{
+	char section[64] = "fentry/";
+	uint32_t answer = 0;
+
+	strncat(section, name, sizeof(section) - strlen(section) - 1);
+	look_up_target(of, section, &answer);
+	return answer == EBPF_TARGET_FOUND;
 }
 
 /* Prints each program that is attached to a type, its section, and the type's id: 0 where the kernel lacks it. */

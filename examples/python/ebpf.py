@@ -11,8 +11,8 @@ An `Object` is opened, and its values may be set. `Object.prepare` makes all pas
 are as BPF_PROG_LOAD takes them. `Object.steps` makes the passes one by one. The object that a pass was made of is closed,
 so no pass is made twice. A call that refuses raises `Refused`, and changes nothing. Both close themselves.
 
-The library is that of the environment's EBPF_LIBRARY (a path), else `libebpf.so.1`. An object stays on the thread that
-opened it. Python 3.10 or later.
+The library is that of the environment's EBPF_LIBRARY (a path), else `libebpf.so.1`. One thread at a time uses an object.
+Python 3.10 or later.
 """
 import builtins
 import ctypes as c
@@ -501,8 +501,8 @@ def _result(row, name):
 
 class Types:
     """A kernel's types, read once for many calls and many objects: `Types(types)` of bytes as /sys/kernel/btf/vmlinux has
-    them. Each call that takes a kernel's types takes bytes, which it reads anew, or these. They stay on the thread that read
-    them. Refused 200 to 219."""
+    them. Each call that takes a kernel's types takes bytes, which it reads anew, or these. One thread at a time uses them.
+    Refused 200 to 219."""
 
     def __init__(self, types):
         at = c.c_void_p()

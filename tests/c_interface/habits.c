@@ -1,6 +1,6 @@
 /*
  * What C programmers do by habit: a pass made twice, results that were not initialised, null arrays, a handle that is moved,
- * and threads with a handle each. habits.py runs it under sanitizers and under valgrind.
+ * in memory and to another thread, and threads with a handle each. habits.py runs it under sanitizers and under valgrind.
  *
  * usage: habits OBJECT TYPES      an object with the maps of counter.o, and a kernel's types
  *
@@ -160,12 +160,60 @@ static void move(struct counted *of)
 	free(second);
 }
 
+/* What is made on one thread, used on a second and freed on a third. */
+struct handed {
+	struct counted *of;
+	struct ebpf_handle *handle;
+	struct ebpf_btf *btf;
+};
+
+static void *use_handed(void *given)
+{
+	struct handed *at = given;
+
+	CHECK(at->of, ebpf_program_count(at->handle) == 2);
+	CHECK(at->of, ebpf_relocate_types_with(at->handle, at->btf) == EBPF_DONE);
+	CHECK(at->of, ebpf_relocate_types_with(at->handle, at->btf) == EBPF_PASS_MADE);
+	return NULL;
+}
+
+static void *free_handed(void *given)
+{
+	struct handed *at = given;
+
+	CHECK(at->of, ebpf_last_error(at->handle)->number == EBPF_PASS_MADE);
+	CHECK(at->of, !strcmp(ebpf_program_at(at->handle, 0, NULL), "on_packet"));
+	ebpf_btf_close(at->btf);
+	ebpf_close(at->handle);
+	return NULL;
+}
+
+static void run_on_a_thread(void *(*body)(void *), struct handed *at)
+{
+	pthread_t thread;
+
+	if (pthread_create(&thread, NULL, body, at))
+		errx(3, "no thread");
+	pthread_join(thread, NULL);
+}
+
+static void hand_over(struct counted *of)
+{
+	struct handed at = { .of = of };
+
+	CHECK(of, ebpf_open(of->given->file.at, of->given->file.len, NULL, &at.handle) == EBPF_DONE);
+	CHECK(of, ebpf_btf_open(of->given->types.at, of->given->types.len, &at.btf) == EBPF_DONE);
+	run_on_a_thread(use_handed, &at);
+	run_on_a_thread(free_handed, &at);
+}
+
 static void *of_thread(void *counted)
 {
 	make_twice(counted);
 	give_uninitialised(counted);
 	give_nulls(counted);
 	move(counted);
+	hand_over(counted);
 	return NULL;
 }
 

@@ -120,7 +120,7 @@ def as_json(rows):
     """JSON: its keys in their order, and the facts of the text."""
     ran = rows.row("btf --json", ["btf", "ids.o", "--btf", "kernel", "--output", "given", "--allow-ids", "--json"], 0)
     told = json.loads(ran.stdout)
-    rows.expect("btf --json: keys", list(told), ["version", "files", "status", "kernels", "not_kept"])
+    rows.expect("btf --json: keys", list(told), ["version", "files", "kernels", "not_kept", "status"])
     rows.expect("btf --json: files", (told["files"], told["status"]), (["ids.o"], 0))
     least, kernel = ((rows.folder / name).read_bytes() for name in ("given", "kernel"))
     sizes = {"types": len(Types.read(kernel).types), "bytes": len(kernel)}

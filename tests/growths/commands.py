@@ -47,6 +47,8 @@ def rows():
         CommandRow("a kernel that lacks a field", "check", inputs.COUNTER, inputs.TASKS, inputs.KERNEL, status=1),
         CommandRow("kernels, as JSON", "check", "--json", "--all", inputs.COUNTER, inputs.TASKS, core_types, status=1),
         CommandRow("types that can't be read", "check", inputs.COUNTER, b"foo", status=2),
+        CommandRow("a kernel", "btf", core, "--btf", core_types, "--output", "/dev/null"),
+        CommandRow("records", "btf", inputs.COUNTER, "--btf", inputs.TASKS, "--output", "/dev/null", "--allow-ids", "--json"),
         *rows_of("inspect", references=kernel),
         *rows_of("inspect", "--json", references=kernel),
         *rows_of("link", references=kernel),

@@ -4,7 +4,7 @@ The cases are those of `tests/rows/core_*.py`: arrays, bit fields, members witho
 other sizes, candidates that are missing, of another kind or ambiguous, and the limits of a search."""
 from dataclasses import dataclass
 
-from least.runs import needs_ids, outcome, write_least
+from least.runs import needs_ids, outcome, reasons, write_least
 from least.types import Types
 from rows import (
     core_bit_fields,
@@ -77,15 +77,20 @@ def compared(ebpf, pair, folder):
         return Compared(wanted, faults=() if is_right else (f"{pair.name}: {made}",))
     found = outcome(ebpf, held, least)
     faults = () if found == wanted else (f"{pair.name}: {found} in place of {wanted}",)
+    told, others = reasons(ebpf, held, kernel), reasons(ebpf, held, least)
+    if told != others:
+        faults += (f"{pair.name}: {others} in place of {told}",)
     return Compared(wanted, least.read_bytes(), faults=faults)
 
 
 def spare(ebpf, pair, folder, seen):
-    """Yields each part of the least types of a pair that can be left out, so that the outcome is the same."""
+    """Yields each part of the least types of a pair that can be left out, so that each relocation has the same value, or
+    none for the same reason."""
     held, smaller = folder / "object.o", folder / "smaller.btf"
     if not seen.least or len(seen.least) > SEARCHED:
         return
+    wanted = reasons(ebpf, held, folder / "least.btf")
     for what, types in Types.read(seen.least).smaller():
         smaller.write_bytes(types.bytes())
-        if outcome(ebpf, held, smaller) == seen.wanted:
+        if reasons(ebpf, held, smaller) == wanted:
             yield f"{pair.name}: {what}"

@@ -4,6 +4,9 @@ from dataclasses import dataclass
 
 SECONDS = 600
 
+# The status of a run that doesn't end.
+ENDLESS = -100
+
 
 @dataclass(frozen=True)
 class Ran:
@@ -14,14 +17,25 @@ class Ran:
     said: bytes
 
 
-def run(*words):
-    ran = subprocess.run([str(word) for word in words], stdin=subprocess.DEVNULL, capture_output=True, timeout=SECONDS)
+def run(*words, seconds=SECONDS):
+    """Runs a program. One that doesn't end has a status of its own: libbpf and bpftool follow a typedef of itself forever."""
+    words = [str(word) for word in words]
+    try:
+        ran = subprocess.run(words, stdin=subprocess.DEVNULL, capture_output=True, timeout=seconds)
+    except subprocess.TimeoutExpired:
+        return Ran(ENDLESS, b"", b"no end")
     return Ran(ran.returncode, ran.stdout, ran.stderr)
 
 
 def outcome(ebpf, object_file, types, *options):
     """Returns what linking an object to types gives: its slots as bytes, or its refusal. Paths of the types don't count."""
     ran = run(ebpf, "link", object_file, "--btf", types, "--bytes", *options)
+    return Ran(ran.status, ran.out, ran.said.replace(str(types).encode(), b"TYPES"))
+
+
+def reasons(ebpf, object_file, types):
+    """Returns what linking an object to types gives, with the value of each relocation, or the reason why it has none."""
+    ran = run(ebpf, "link", object_file, "--btf", types)
     return Ran(ran.status, ran.out, ran.said.replace(str(types).encode(), b"TYPES"))
 
 

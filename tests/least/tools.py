@@ -12,6 +12,7 @@ from pathlib import Path
 from least.embedded import objects_in
 from least import loading
 from least.runs import needs_ids, outcome, run, write_least
+from rows.btf import btf, integer
 
 # The kernel version for objects that read it as a kconfig extern.
 OPTIONS = ("--kernel", "6.12", "--kconfig", "/dev/null")
@@ -114,9 +115,10 @@ class Comparison:
         theirs.unlink()
 
 
-def needed(given, held, kernel, folder):
-    """Returns what an object needs of the kernel's ids, and the failures: without `--allow-ids` such an object is refused."""
-    output = folder / f"{held.name}.ids"
+def needed(given, held, folder):
+    """Returns what an object needs of the kernel's ids, and the failures: without `--allow-ids` such an object is refused.
+    The kernel doesn't count."""
+    output, kernel = folder / f"{held.name}.ids", folder / "small"
     plain = write_least(given.ebpf, [held], kernel, output)
     is_written = output.exists()
     made = write_least(given.ebpf, [held], kernel, output, "--allow-ids", "--json")
@@ -149,6 +151,7 @@ def put_table(path, objects, kernels, found):
 
 
 def put_skipped(given):
+    """Prints which readers are not asked, and leaves out those that can't be."""
     if given.bpftool and not shutil.which("bpftool"):
         given.bpftool = False
         print("skipped: bpftool: it is not installed")
@@ -163,20 +166,20 @@ def put_skipped(given):
         print("skipped: BPF_BTF_LOAD (--load)")
 
 
-def over_kernels(given, jobs):
+def compare(given):
     """Compares the objects over the kernels. Returns how many checks passed, and the failures."""
-    put_skipped(given)
     files = sorted(path for path in given.files.iterdir() if path.is_file()) if given.files else debian_files()
     kernels = sorted(path for path in given.kernels.iterdir() if path.is_file())
     with tempfile.TemporaryDirectory() as made:
         (folder := Path(made) / "objects").mkdir()
         objects = write_objects(files, folder)
         print(f"{len(objects)} objects of {len(files)} files, {len(kernels)} kernels")
+        (Path(made) / "small").write_bytes(btf(integer("int", 4)))
         comparison = Comparison(given, Path(made))
         pairs = [(held, kernel) for held in objects for kernel in kernels]
-        with ThreadPoolExecutor(jobs) as pool:
+        with ThreadPoolExecutor(given.jobs) as pool:
             found = dict(zip(pairs, pool.map(lambda pair: comparison.over(*pair), pairs)))
-            ids = list(pool.map(lambda held: needed(given, held, kernels[0], Path(made)), objects))
+            ids = list(pool.map(lambda held: needed(given, held, Path(made)), objects))
     for kernel in kernels:
         put_totals(kernel, [found[held, kernel] for held in objects])
     for held, (uses, _) in zip(objects, ids):

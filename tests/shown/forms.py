@@ -89,13 +89,13 @@ class Shape:
     partial: set
 
 
-def shape_of(lines):
-    """Returns the shape that lines show.
+def shape_of(lines, first="file"):
+    """Returns the shape that lines show. A document begins with its version and a key for what it is about.
 
     A line has keys of the document (`KEY ..`), the keys of the objects in lists (`KEY, .. [KEY ..]`) or those of one
     object (`KEY {KEY ..}`). It is indented where these are in objects of the line above. Parentheses hold remarks:
     `only if known` and `, if some` of keys of the line's objects that may lack, `KEY: if some` of one of the document."""
-    shape = Shape({"": ["version", "file"]}, set())
+    shape = Shape({"": ["version", first]}, set())
     for line in lines:
         text = re.sub(r" *\([^)]*\)", "", line)
         held = re.fullmatch(r" *(\w+(?:, \w+)*) [\[{]([\w ]+)[\]}]", text)
@@ -136,13 +136,13 @@ def differences(shape, documents):
             yield f"no object of the key {name!r} was seen with {' '.join(sorted(keys))}"
 
 
-def json_of(*given):
+def json_of(*given, first="file"):
     """Returns the test that compares what `ebpf WORDS --json` prints with the keys of a block, and with the version
     that the page states."""
 
     def test(block, room):
         documents = [json.loads(room.run(f"ebpf {words} --json")) for words in given]
-        yield from dict.fromkeys(differences(shape_of(block.lines), documents))
+        yield from dict.fromkeys(differences(shape_of(block.lines, first), documents))
         stated = re.findall(r"`version` \((\d+)\)", (TOP / block.page).read_text())
         for document in documents:
             if [str(document.get("version"))] != stated:

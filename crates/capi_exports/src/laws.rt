@@ -4,6 +4,9 @@ ghost use Rattle.capi_exports.specs.KernelPasses.{TypesAreTheirBytes};
 ghost use Rattle.capi_exports.specs.PassSequences.{AnyCallsCompose};
 ghost use Rattle.capi_exports.specs.WantedSymbols.{SymbolsAreReadWhereWanted};
 
+use crate::held::Held;
+use crate::kernel_types::Kernel;
+
 /// Whatever calls are made with one handle, and whatever they answer: what it holds comes of the object as it was when
 /// the first pass was made, by passes of which each was made at most once and in the order types, maps, resolution,
 /// externs, calls. So all that is promised of a finished object holds of it (`ebpf_object::laws::passes_finish`).
@@ -24,3 +27,12 @@ pub fn types_are_their_bytes()
 pub fn symbols_are_read_where_wanted()
     ensures { SymbolsAreReadWhereWanted }
 {}
+
+/// Compiles where the values of a type may move to another thread.
+fn may_move<T: Send>() {}
+
+/// What a handle holds, and the types of a kernel, may move to another thread.
+pub fn handles_may_move() {
+    may_move::<Held>();
+    may_move::<Kernel>()
+}

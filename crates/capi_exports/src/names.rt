@@ -1,8 +1,9 @@
 //! The names of numbers.
 
-ghost use Rattle.std.specs.Prelude.{◌++◌, ℕ, List, Ok, ◌≡◌};
+ghost use Rattle.std.specs.Prelude.{◌++◌, Ok, ◌≡◌};
 ghost use Rattle.std_alloc.specs.Box.Ownership.{box_owns};
 ghost use Rattle.capi_rows.specs.Answers.{FillsList};
+ghost use Rattle.capi_rows.specs.NumberNames.{number_name};
 
 use capi_rows::codes::{DONE, ROOM, name_of};
 use std::alloc::Allocator;
@@ -23,14 +24,14 @@ fn write_both(first: &[u8], second: &[u8], out: &mut [u8], count: &mut usize) ->
 }
 
 /// Writes the name of a number, as `parse: BadMagic`: the stage and the fault. Each number of a stage and a fault that
-/// can be its has one, whether a call answers it or not; of every other number it is empty.
+/// can be its has one, whether a call answers it or not; of every other number it is empty. No name has more than 64 bytes.
 ///
 /// # Answers
 ///
 /// 0; 1 where it doesn't fit.
 #[unsafe(no_mangle)]
 pub extern "C" fn exact_ebpf_number_name(number: u32, text: &mut [u8], len: &mut usize) -> u32
-    ensures { (name : List ℕ) × FillsList (Ok name) result text.old text.new len.old len.new }
+    ensures { FillsList (Ok (number_name number)) result text.old text.new len.old len.new }
 {
     let (stage, fault) = name_of(number);
     write_both(stage.as_bytes(), fault.as_bytes(), text, len)

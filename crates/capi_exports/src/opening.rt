@@ -188,7 +188,7 @@ fn open_object_within(
 }
 
 /// Opens the object of a file, lenient where `lenient` is not 0, where what is made of the file owns at most
-/// `most_bytes` bytes; that is counted before it is made. What the handle held before is closed.
+/// `most_bytes` bytes. What the handle held before is closed.
 ///
 /// # Answers
 ///

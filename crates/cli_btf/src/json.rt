@@ -52,12 +52,12 @@ pub fn write_json<W: Write>(
 ) -> io::Result<()> {
     write_document(out, |json| {
         json.values("files", files.iter().map(|file| file.as_str()))?;
-        json.member("status", u32::from(status))?;
         json.objects("kernels", kernels.iter(), |json, kernel| {
             write_kernel(json, kernel)
         })?;
         json.objects("not_kept", needed.iter(), |json, needed| {
             write_needed(json, all, needed)
-        })
+        })?;
+        json.member("status", u32::from(status))
     })
 }

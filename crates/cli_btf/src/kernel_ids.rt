@@ -76,14 +76,6 @@ fn needed_by_record(
     })
 }
 
-/// Returns the last part of a section's name, the attach target.
-fn target_name(section: &str) -> &str {
-    match section.split_once('/') {
-        Some((_, target)) => target,
-        None => section,
-    }
-}
-
 /// Returns a use of a kernel's id with the names that it has in the object.
 fn named_use(
     alloc: Global,
@@ -105,7 +97,7 @@ fn named_use(
         }),
         KernelIdUse::Target { program, target } => Ok(NeededId {
             object: at,
-            name: String::from_str(alloc, target_name(target.as_str()))?,
+            name: String::from_str(alloc, target.as_str())?,
             kind: Kind::Attach,
             location: Some(String::from_str(alloc, program.as_str())?),
             number: None,

@@ -170,7 +170,7 @@ fn cut_types(
 ) -> Result<Cut, AllocError> {
     let alloc = rt.alloc();
     match cut_file(alloc, words.allow_ids, objects, kernel) {
-        Ok(least) => write_least(rt, pair, kernel.len(), &least),
+        Ok(least) => write_least(rt, pair, kernel.len().saturating_sub(1), &least),
         Err(failure) => {
             let refusal = failure_refusal(alloc, &failure)?;
             Ok(Cut::Refused(refusal))

@@ -8,10 +8,11 @@ use std::io::{self, ErrorKind, Write};
 const NAMES: usize = 100;
 
 /// Whether a path leads to something other than a file or a folder, such as a pipe or a device.
-fn is_special(rt: &HostRuntime, path: &str) -> bool {
+fn is_special(rt: &HostRuntime, path: &str) -> io::Result<bool> {
     match fs::metadata(rt, path) {
-        Ok(metadata) => !metadata.is_file() && !metadata.is_dir(),
-        Err(_) => false,
+        Ok(metadata) => Ok(!metadata.is_file() && !metadata.is_dir()),
+        Err(error) if matches!(error.kind(), ErrorKind::NotFound) => Ok(false),
+        Err(error) => Err(error),
     }
 }
 
@@ -45,7 +46,7 @@ fn write_beside(rt: &HostRuntime, path: &str, bytes: &[u8]) -> io::Result<Text> 
 /// The bytes go to a temporary file in the same folder, which then takes the file's name. A pipe or a device gets the
 /// bytes directly.
 pub fn write_whole(rt: &HostRuntime, path: &str, bytes: &[u8]) -> io::Result<()> {
-    if is_special(rt, path) {
+    if is_special(rt, path)? {
         let mut file = fs::create(rt, path)?;
         return file.write_all(bytes);
     }

@@ -7,9 +7,8 @@ ghost use Rattle.cli_common.specs.DefaultPasses.{default_passes};
 ghost use Rattle.cli_common.specs.SlotText.{head_line, program_text};
 ghost use Rattle.ebpf_ksyms.specs.Sources.{Text};
 ghost use Rattle.cli_link.specs.Written.{shown_lines, program_name, WritesFinished, HasWritten};
-ghost use Rattle.ebpf_object.specs.Prepared.{IsParsed};
-ghost use Rattle.ebpf_parts.specs.declared.parse_mode.ParseMode.TheVariants.{Lenient};
 ghost use Rattle.cli_common.specs.Shown.{shown};
+ghost use Rattle.cli_prepare.specs.Opened.{IsDefined};
 
 use cli_common::names::EscapedName;
 use cli_common::programs::ObjectProgram;
@@ -97,10 +96,10 @@ pub fn write_finished<W: Write>(
         (Text kernel.now.symbols.items) parsed.now (map program_name programs.now)
         (W.contents out.old) (W.contents out.new)) }
     ensures done { (file : List ℕ)
-        → IsParsed Lenient file parsed.now
+        → IsDefined file kernel.now parsed.now
         → OnOk result
-        (HasWritten file kernel.now.types (Text kernel.now.symbols.items)
-        (map program_name programs.now) (W.contents out.old) (W.contents out.new)) }
+        (HasWritten file kernel.now (map program_name programs.now) (W.contents out.old)
+        (W.contents out.new)) }
 {
     let object = match finished_object(alloc, parsed, kernel) {
         Ok(object) => object,

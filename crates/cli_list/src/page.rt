@@ -66,7 +66,7 @@ fn facts_of<'a>(
     listing: &ObjectListing<'_>,
     texts: &'a FactTexts,
 ) -> Result<Vec<PageFact<'a>>, AllocError> {
-    let mut facts = Vec::new(alloc);
+    let mut facts: Vec<PageFact<'a>> = Vec::new(alloc);
     facts.push(PageFact {
         name: "byte order",
         value: PageCell::Text(order_word(listing.object.endianness)),

@@ -1,1 +1,2 @@
+pub mod KernelValues
 pub mod Opened

@@ -1,16 +1,20 @@
 -- What is known of an object whose file was opened.
-use Rattle.std.specs.Prelude.{◌≡◌, []}
-use Rattle.ebpf_kconfig.specs.KconfigExterns.{kconfig_externs}
+use Rattle.std.specs.Prelude.{◌≡◌, ℕ, List, []}
 use Rattle.ebpf_object.specs.Objects.{object_as}
 use Rattle.ebpf_object.specs.Prepared.{IsParsed}
+use Rattle.ebpf_object.specs.declared.object.Object.{Object}
 use Rattle.ebpf_parts.specs.declared.parse_mode.ParseMode.TheVariants.{Lenient}
+use Rattle.cli_prepare.specs.KernelValues.{externs_of, with_kconfig}
+use Rattle.cli_prepare.specs.declared.kernel.Kernel.{Kernel}
 use Rattle.cli_prepare.specs.declared.opened.Opened.{Opened}
 
--- Where the object of its file has no externs that the kernel's configuration gives, it is that
--- object as it is parsed broadly.
+-- The object of a file, in lenient parsing, with its kconfig externs defined by the values of a
+-- kernel: it has the map `.kconfig`, and its symbols of these externs are in that map. An object
+-- without such externs is the parsed one.
+pub record IsDefined (file : List ℕ) (kernel : Kernel) (o : Object) : Type 0 where
+  pub parsed : IsParsed Lenient file (object_as Lenient file)
+  pub defined : o ≡ with_kconfig kernel (object_as Lenient file)
+  pub same : externs_of (object_as Lenient file) ≡ [] → IsParsed Lenient file o
+
 abbrev pub IsOpened : Opened → Type 0
-IsOpened opened =
-    kconfig_externs (object_as Lenient opened.file.items).btf
-    (object_as Lenient opened.file.items).symbol_table
-    ≡ []
-    → IsParsed Lenient opened.file.items opened.parsed
+IsOpened opened = IsDefined opened.file.items opened.kernel opened.parsed

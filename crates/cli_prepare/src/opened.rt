@@ -1,7 +1,7 @@
 //! An object's file, read, with the kernel of a command line.
 
-ghost use Rattle.std.specs.Prelude.{◌≡◌, [], IfOk, OnOk};
-ghost use Rattle.ebpf_kconfig.specs.KconfigExterns.{kconfig_externs};
+ghost use Rattle.std.specs.Prelude.{◌≡◌, IfOk, OnOk};
+ghost use Rattle.cli_prepare.specs.KernelValues.{with_kconfig};
 ghost use Rattle.cli_prepare.specs.Opened.{IsOpened};
 
 use crate::kconfig_help::refuse_settings;
@@ -40,9 +40,7 @@ fn define(
     parsed: &mut Object,
     kernel: &Kernel,
 ) -> Result<(), Stop>
-    ensures same { OnOk result
-        (kconfig_externs parsed.old.btf parsed.old.symbol_table ≡ []
-        → parsed.new ≡ parsed.old) }
+    ensures { OnOk result (parsed.new ≡ with_kconfig kernel.now parsed.old) }
 {
     match define_settings(rt.alloc(), parsed, kernel) {
         Ok(()) => Ok(()),
@@ -61,9 +59,7 @@ fn chosen_of(
     file: &[u8],
     parsed: &mut Object,
 ) -> Result<Chosen, Stop>
-    ensures same { OnOk result
-        (kconfig_externs parsed.old.btf parsed.old.symbol_table ≡ []
-        → parsed.new ≡ parsed.old) }
+    ensures { IfOk result (λ chosen. parsed.new ≡ with_kconfig chosen.kernel parsed.old) }
 {
     let (path, names) = (words.file.as_str(), words.programs.as_slice());
     let programs = chosen_programs(rt, words.json, path, file, parsed, names)?;
@@ -76,6 +72,7 @@ fn chosen_of(
 fn with_chosen(file: Vec<u8>, parsed: Object, chosen: Chosen) -> Opened
     ensures file { result.file ≡ file }
     ensures parsed { result.parsed ≡ parsed }
+    ensures kernel { result.kernel ≡ chosen.kernel }
 {
     let Chosen { programs, kernel } = chosen;
     Opened {
@@ -89,7 +86,6 @@ fn with_chosen(file: Vec<u8>, parsed: Object, chosen: Chosen) -> Opened
 /// Reads the object's file, leniently, then the kernel's types, symbols and configuration that are given, and defines the
 /// kconfig externs. Refusals are reported: with status 2 where a file can't be read or a name is no program's, with status 1
 /// where the object is refused.
-#[tactic(auto, using(crate::proofs::OpenedObjects::still_parsed))]
 pub fn open_file(rt: &HostRuntime, words: &PrepareWords) -> Result<Opened, Stop>
     ensures { IfOk result IsOpened }
 {

@@ -1,2 +1,5 @@
 pub mod ConfigLines
 pub mod DefinedSymbols
+pub mod ExternSizes
+pub mod Layouts
+pub mod SortedGroups

@@ -1,3 +1,4 @@
 pub mod KconfigExterns
 pub mod KconfigMaps
 pub mod ConfiguredValues
+pub mod Layouts

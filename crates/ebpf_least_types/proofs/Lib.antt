@@ -1,1 +1,3 @@
+pub mod FirstUses
 pub mod SameSlots
+pub mod SameSoFar

@@ -18,7 +18,7 @@ use Rattle.ebpf_core_relo.specs.Carried.{written}
 use Rattle.ebpf_core_relo.specs.Records.{RelocationInputs, Written, all_applied, answer_in_section, named_applied, put_outcome, record_applied, records_applied, relocation_inputs_between, slots_so_far, unnamed_section}
 use Rattle.ebpf_core_relo.specs.Spans.{span_at, spans_of}
 use Rattle.ebpf_elf.specs.declared.section.SectionIndex.{SectionIndex}
-use Rattle.ebpf_least_types.specs.LeastTypes.{AskForNoId, HasSameOutcome, HaveOutcomesBySection, HaveSameOutcomes, SlotsAreAlike, asks_for_kernel_id, records_with}
+use Rattle.ebpf_least_types.specs.LeastTypes.{AskForNoId, HasSameOutcome, HaveOutcomesBySection, SlotsAreAlike, asks_for_kernel_id, records_with}
 use Rattle.ebpf_model.specs.declared.function.Function.{Function}
 use Rattle.ebpf_object.specs.WrittenSlots.{relocated_slots_by}
 use Rattle.ebpf_object.specs.declared.object.Object.{Object}
@@ -46,7 +46,7 @@ module _ (local kernel types : TypeInfo) (functions : FinMap key_cmp Function) (
       → records_applied (over types) section rs so_far ≡ records_applied (over kernel) section rs so_far
   records_alike section [] so_far same none = refl
   records_alike section (r ∷ rs) so_far same none =
-      λ i. if_ok (record_alike section so_far r (All-head (HasSameOutcome local kernel types) r rs same (All-head (λ r. asks_for_kernel_id r ≡ false) r rs none)) i)
+      λ i. if_ok (record_alike section so_far r ((All-head (HasSameOutcome local kernel types) r rs same).same (All-head (λ r. asks_for_kernel_id r ≡ false) r rs none)) i)
       (λ next. records_alike section rs next (All-tail (HasSameOutcome local kernel types) r rs same) (All-tail (λ r. asks_for_kernel_id r ≡ false) r rs none) i)
 
   named_alike : (part : ℕ × List Relocation) (so_far : Written) → All (HasSameOutcome local kernel types) part.1

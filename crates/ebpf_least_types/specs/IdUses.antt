@@ -3,9 +3,9 @@
 -- compared, and attach targets in the kernel (libbpf 1.5, libbpf.c: bpf_object__resolve_ksyms_btf_id,
 -- libbpf_find_attach_btf_id).
 use Rattle.std.specs.Prelude.{ℕ, suc, Bool, List, [], ◌∷◌, ◌++◌, ◌==◌, Option, Some, None, codes}
-use Rattle.std.specs.Prelude.{is_some, nat_eq, map, if◌then◌else◌}
+use Rattle.std.specs.Prelude.{is_some, nat_eq, if◌then◌else◌}
 use Rattle.std.specs.FinMap.{FinMap, entries}
-use Rattle.std.specs.List.{filter, find, flat_map, starts_with}
+use Rattle.std.specs.List.{find, flat_map, starts_with}
 use Rattle.ebpf_base.specs.Maps.{text_cmp}
 use Rattle.ebpf_btf.specs.TypeInfo.{TypeInfo, no_types}
 use Rattle.ebpf_btf_ext.specs.declared.relocation.Relocation.{Relocation}
@@ -25,10 +25,13 @@ use Rattle.ebpf_parts.specs.ProgramTypes.{without_mark}
 
 -- ---- records
 
--- those of a section, whose name is at an offset
+-- a record of the section whose name is at an offset
+abbrev pub record_use : ℕ → Relocation → List KernelIdUse
+record_use section r = if asks_for_kernel_id r then Record section r.number ∷ [] else []
+
+-- those of a section
 abbrev pub section_uses : ℕ × List Relocation → List KernelIdUse
-section_uses section =
-    map (λ r. Record section.0 r.number) (filter asks_for_kernel_id section.1)
+section_uses section = flat_map (record_use section.0) section.1
 
 abbrev pub record_uses : Object → List KernelIdUse
 record_uses o = flat_map section_uses (records_of o)

@@ -34,9 +34,8 @@ asks_for_kernel_id r = is_target_id r.kind
 -- ---- outcomes over two kernels' types
 
 -- a record that asks for no id of the kernel has the same outcome over both
-abbrev pub HasSameOutcome : TypeInfo → TypeInfo → TypeInfo → Relocation → Type 0
-HasSameOutcome local kernel types r =
-    asks_for_kernel_id r ≡ false → outcome_of local types r ≡ outcome_of local kernel r
+pub record HasSameOutcome (local kernel types : TypeInfo) (r : Relocation) : Type 0 where
+  pub same : asks_for_kernel_id r ≡ false → outcome_of local types r ≡ outcome_of local kernel r
 
 -- all records of some sections do
 abbrev pub HaveOutcomesBySection : TypeInfo → TypeInfo → TypeInfo → List (ℕ × List Relocation)

@@ -6,8 +6,9 @@ ghost use Rattle.std.specs.List.{flat_map};
 ghost use Rattle.std.specs.Option.{option_copied};
 ghost use Rattle.ebpf_base.specs.Faults.{Refuses};
 ghost use Rattle.ebpf_btf.specs.TypeInfo.{no_types};
-ghost use Rattle.ebpf_least_types.specs.IdUses.{extern_use, extern_uses, first_id_use, id_uses, is_replacement, name_of_missing, program_use, program_uses, record_uses, section_name, section_uses, target_of};
+ghost use Rattle.ebpf_least_types.specs.IdUses.{extern_use, extern_uses, first_id_use, id_uses, is_replacement, name_of_missing, program_use, program_uses, record_use, record_uses, section_name, section_uses, target_of};
 ghost use Rattle.ebpf_least_types.specs.Memory.{is_least_memory};
+ghost use Rattle.ebpf_parts.specs.ProgramTypes.{without_mark};
 
 use crate::error::LeastTypesError;
 use crate::same_outcomes::asks_for_kernel_id;
@@ -64,6 +65,24 @@ impl fmt::Display for KernelIdUse {
     }
 }
 
+/// Adds a relocation of the section whose name is at an offset, where it asks for an id.
+fn add_record_use(
+    uses: &mut Items<KernelIdUse>,
+    section_name: u32,
+    relocation: &Relocation,
+) -> Result<(), AllocError>
+    ensures { OnOk result (uses.new ≡ uses.old ++ record_use section_name relocation.now) }
+{
+    if !asks_for_kernel_id(relocation) {
+        return Ok(());
+    }
+    uses.push(KernelIdUse::Record {
+        section_name,
+        number: relocation.number,
+    })?;
+    Ok(())
+}
+
 /// Adds the relocations of a section that ask for ids. The section's name is at an offset.
 fn add_section_uses(
     uses: &mut Items<KernelIdUse>,
@@ -71,16 +90,10 @@ fn add_section_uses(
     records: &[Relocation],
 ) -> Result<(), AllocError>
     ensures { OnOk result
-        (uses.new ≡ uses.old ++ section_uses (section_name, records.now)) }
+        (uses.new ≡ uses.old ++ flat_map (record_use section_name) records.now) }
 {
     for relocation in records {
-        if !asks_for_kernel_id(relocation) {
-            continue;
-        }
-        uses.push(KernelIdUse::Record {
-            section_name,
-            number: relocation.number,
-        })?;
+        add_record_use(uses, section_name, relocation)?;
     }
     Ok(())
 }
@@ -166,14 +179,21 @@ fn section_name(infos: &ByName<SectionIndex>, index: usize) -> Option<&str>
     None
 }
 
+/// Returns the name of a section without the mark before it, `?`.
+fn without_mark(section: &str) -> &str
+    ensures { result.now ≡ without_mark section.now }
+{
+    match section.strip_prefix('?') {
+        Some(rest) => rest,
+        None => section,
+    }
+}
+
 /// Returns whether the programs of a section replace those of another object.
 fn is_replacement(section: &str) -> bool
     ensures { result ≡ is_replacement section.now }
 {
-    section
-        .strip_prefix('?')
-        .unwrap_or(section)
-        .starts_with("freplace")
+    without_mark(section).starts_with("freplace")
 }
 
 /// Returns the name of a target's type, where no type was found.
@@ -278,11 +298,12 @@ fn first_use(alloc: Global, object: &Object) -> Result<Option<KernelIdUse>, Allo
 ///
 /// - `NeedsKernelId`: an object needs an id: the first use, object by object.
 /// - `OutOfMemory`: out of memory.
+#[tactic(auto, using(crate::proofs::FirstUses::used_here, crate::proofs::FirstUses::used_later))]
 pub fn refuse_id_uses(alloc: Global, objects: &[Object]) -> Result<(), LeastTypesError>
     ensures { Refuses is_least_memory result (first_id_use objects.now) }
 {
-    for (number, object) in objects.iter().enumerate() {
-        if let Some(needed) = first_use(alloc, object)? {
+    for number in 0..objects.len() {
+        if let Some(needed) = first_use(alloc, &objects[number])? {
             return Err(LeastTypesError::NeedsKernelId {
                 object: number,
                 needed,

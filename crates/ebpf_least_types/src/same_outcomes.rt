@@ -43,6 +43,7 @@ fn same_outcome(
 }
 
 /// Returns whether all relocations of a list have the same outcomes in two searches.
+#[tactic(auto, using(crate::proofs::SameSoFar::record_more, crate::proofs::SameSoFar::records_all))]
 fn same_in_section(
     alloc: Global,
     kernel: &mut CoreSearch<'_>,
@@ -66,6 +67,7 @@ fn same_in_section(
 }
 
 /// Returns whether all relocations of some sections have the same outcomes in two searches.
+#[tactic(auto, using(crate::proofs::SameSoFar::section_more, crate::proofs::SameSoFar::sections_all))]
 fn same_in_sections(
     alloc: Global,
     kernel: &mut CoreSearch<'_>,
@@ -110,6 +112,7 @@ fn same_for_object(
 /// # Errors
 ///
 /// - `AllocError`: out of memory.
+#[tactic(auto, using(crate::proofs::SameSoFar::object_more, crate::proofs::SameSoFar::objects_all))]
 pub fn same_for_all(
     alloc: Global,
     objects: &[Object],

@@ -429,7 +429,9 @@ impl<'a> TypeWriter<'a> {
     /// Writes the declared types.
     fn write_declared(&mut self) -> Result<(), BtfError> {
         for index in 0..self.declared.len() {
-            let declared = self.declared[index];
+            let Some(declared) = self.declared.get(index).copied() else {
+                return Ok(());
+            };
             let name_offset = self.name(declared.name_offset)?;
             self.written.add_type(&BtfType::Fwd {
                 name_offset,

@@ -203,8 +203,8 @@ ext_bytes (Some ext) =
     + total core_row ext.relocations
 
 -- ---- the bytes that are made of a file: a sum over the headers of its sections, over its symbols
--- and over its info entries, which is counted before the object is made. Each entry that is put
--- into a table of the object counts, also where a later one of its key replaces it
+-- and over its info entries. Each entry that is put into a table of the object counts, also where a
+-- later one of its key replaces it
 
 -- ---- names
 

@@ -1,4 +1,4 @@
-//! Objects that own at most a stated number of bytes: they are counted before the object is made.
+//! Objects that own at most a stated number of bytes; a file of which more would be made is refused.
 #![tactic(auto)]
 
 mod facts;

@@ -204,8 +204,8 @@ fn flags(alloc: Global, states: &[Option<Registers>]) -> Result<Vec<bool>, Alloc
 
 /// Which slots of a finished program, linked and relocated, can be reached from its first one: for each slot whether it
 /// is. A jump whose test is decided by numbers that registers are known to hold goes one way, any other both. An indirect
-/// jump reaches every slot. A slot that a CO-RE relocation poisoned is walked past. Each slot is followed at most twelve
-/// times: once it is reached, and whenever one of its eleven registers is forgotten.
+/// jump reaches every slot. A slot that a CO-RE relocation poisoned is walked past. No clause states the time: a slot is
+/// followed when it is reached, and again only when one of its eleven registers is forgotten.
 ///
 /// # Errors
 ///

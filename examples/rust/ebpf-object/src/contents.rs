@@ -11,17 +11,25 @@ use std::ptr::{self, NonNull};
 /// What an object holds: its programs, its maps and more. [`Object`](crate::Object), [`Steps`](crate::Steps) and
 /// [`Prepared`](crate::Prepared) lead to it by `Deref`.
 ///
-/// It stays on the thread that made it, as `ebpf.h` asks: it is neither `Send` nor `Sync`. All that its calls return is
-/// both.
+/// It may move to another thread (`Send`). One call at a time uses it, as `ebpf.h` asks, so it isn't `Sync`. All that its
+/// calls return is both.
 ///
-/// ```compile_fail,E0277
+/// ```
 /// fn is_send<T: Send>() {}
 /// is_send::<ebpf_object::Object>();
+/// ```
+///
+/// ```compile_fail,E0277
+/// fn is_sync<T: Sync>() {}
+/// is_sync::<ebpf_object::Object>();
 /// ```
 #[derive(Debug)]
 pub struct Contents {
     handle: NonNull<sys::ebpf_handle>,
 }
+
+// SAFETY: `ebpf.h` lets a handle move from thread to thread; no one else has it.
+unsafe impl Send for Contents {}
 
 impl Drop for Contents {
     fn drop(&mut self) {
@@ -35,7 +43,7 @@ impl Contents {
     ///
     /// # Safety
     ///
-    /// The handle is null or open, was given out on this thread, and no one else has it.
+    /// The handle is null or open, and no one else has it.
     pub(crate) unsafe fn own(handle: *mut sys::ebpf_handle) -> Result<Contents, Error> {
         NonNull::new(handle).map(|handle| Contents { handle }).ok_or(Error::OutOfMemory)
     }

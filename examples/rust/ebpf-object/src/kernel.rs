@@ -52,7 +52,7 @@ impl<'a> Kernel<'a> {
 /// A kernel's types, read once for many calls and many objects. Each call that takes them has a twin that takes their bytes
 /// and reads them anew; both give the same.
 ///
-/// They stay on the thread that read them, as `ebpf.h` asks: they are neither `Send` nor `Sync`.
+/// They may move to another thread (`Send`). One call at a time uses them, as `ebpf.h` asks, so they aren't `Sync`.
 ///
 /// # Examples
 ///
@@ -73,6 +73,9 @@ impl<'a> Kernel<'a> {
 pub struct Types {
     at: NonNull<sys::ebpf_btf>,
 }
+
+// SAFETY: `ebpf.h` lets types move from thread to thread; no one else has them.
+unsafe impl Send for Types {}
 
 impl Drop for Types {
     fn drop(&mut self) {

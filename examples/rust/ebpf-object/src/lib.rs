@@ -17,8 +17,8 @@
 //!
 //! # Threads
 //!
-//! An object stays on the thread that opened it, since `ebpf.h` asks that of a handle. All that is read of it, and errors,
-//! may go to other threads.
+//! An object may move to another thread, and is used on one at a time: it is `Send` and not `Sync`. All that is read of it,
+//! and errors, are both.
 //!
 //! # Examples
 //!

@@ -235,6 +235,15 @@ fn what_is_read_goes_to_other_threads() {
 }
 
 #[test]
+fn an_object_goes_to_other_threads() {
+    let object = counter();
+    let other = std::thread::spawn(move || object.prepare::<&str>(&Kernel::none(), &[]).expect_err("no descriptors"));
+    let (object, error) = other.join().expect("no panic").into_parts();
+    assert_eq!(error.number(), 320);
+    assert_eq!(object.programs().expect("programs").len(), 2);
+}
+
+#[test]
 fn errors_are_small() {
     assert!(std::mem::size_of::<Error>() <= 24);
     assert!(std::mem::size_of::<Failed<Object>>() <= 32);

@@ -13,7 +13,7 @@
 //! - A count is no greater than what lies behind its pointer, and each pointer is aligned for its type.
 //! - What a call may write overlaps nothing else that the call is given. No other thread touches it during the call. What
 //!   is const does not change during the call.
-//! - A handle is what [`ebpf_open`], [`ebpf_prepare`] or [`ebpf_clone`] gave. It stays on the thread that made it, and one
+//! - A handle is what [`ebpf_open`], [`ebpf_prepare`] or [`ebpf_clone`] gave. It may move from thread to thread, and one
 //!   call at a time uses it, also where it is const. [`ebpf_close`] frees it, once.
 //! - The same holds for the types that [`ebpf_btf_open`] gave, which [`ebpf_btf_close`] frees.
 //! - What a handle keeps for its caller is gone once a call that takes the handle without const has returned.

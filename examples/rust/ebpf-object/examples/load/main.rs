@@ -24,7 +24,7 @@ use std::process::ExitCode;
 
 const USAGE: &str = "usage: load [--config FILE] [--run PROGRAM] [--data BYTES] [--show MAP|VARIABLE] FILE";
 
-/// Why a step fails; without `Send`, since a failed prepare has the object in it.
+/// Why a step fails.
 type Fault = Box<dyn Error>;
 
 #[derive(Default)]
