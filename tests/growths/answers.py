@@ -53,6 +53,7 @@ ANSWERS = {
     "broad loader_value": [err(NO_MEMORY)],
     "broad loader_define": [err(NO_MEMORY)],
     "broad loader_slots": [err(NO_MEMORY)],
+    "broad loader_leave_out": [err(NO_MEMORY)],
     "code slots": [err(NO_MEMORY)],
     "code program_section": [err(NO_MEMORY)],
     "code section": [err(NO_MEMORY)],

@@ -1,4 +1,4 @@
-"""What a loader asks beside slots: types for the kernel, externs of its configuration, and initial values of maps."""
+"""What a loader asks beside slots: types for the kernel, kconfig externs, initial values of maps, programs left out."""
 import re
 
 from checked.kconfig import BYTE, CONFIG, VERSION, pair, wanting
@@ -16,9 +16,13 @@ SIX_TWELVE = words([0x60C00])
 NAMED = b'CONFIG_DEFAULT_HOSTNAME="(none)"\n'
 
 # The object of test_object_calls, as its source has it; where the key's size of its hash of maps stands.
-SOURCE = DRIVERS / "test_object_calls/src/initial_slots.rs"
-SLOTS = bytes.fromhex("".join(re.findall(r'^    "([0-9a-f]+)",$', SOURCE.read_text(), re.MULTILINE)))
+SOURCES = DRIVERS / "test_object_calls/src"
+DIGITS = re.compile(r'^    "([0-9a-f]+)",$', re.MULTILINE)
+SLOTS = bytes.fromhex("".join(DIGITS.findall((SOURCES / "initial_slots.rs").read_text())))
 KEY_SIZE = 364
+
+# The object with the programs `first` and `second`, the first one of its source.
+CHOSEN = bytes.fromhex("".join(DIGITS.findall((SOURCES / "chosen.rs").read_text().partition("\n];")[0])))
 
 
 def kernel_types():
@@ -76,5 +80,13 @@ def slots():
     ]
 
 
+def chosen():
+    """Programs that are left out, and one that the object lacks."""
+    return [
+        on("leave_out", CHOSEN, b"", "loader_leave_out=second", subject="broad"),
+        on("leave_out, another name", CHOSEN, b"", "loader_leave_out=third", subject="broad", starts="Err(UnknownProgram"),
+    ]
+
+
 def rows():
-    return kernel_types() + externs() + refused_externs() + slots()
+    return kernel_types() + externs() + refused_externs() + slots() + chosen()

@@ -1,6 +1,7 @@
 //! Calls that a loader makes beside those for slots.
 
 use ebpf_base::{ByName, Endianness, Items};
+use ebpf_chosen_programs::leave_out;
 use ebpf_initial_slots::initial_slots;
 use ebpf_kconfig::{KconfigExtern, define_kconfig, kconfig, kconfig_number, kconfig_value};
 use ebpf_btf_load::kernel_types;
@@ -79,10 +80,17 @@ fn ask(object: &Object, call: &Call<'_>) -> io::Result<()> {
     }
 }
 
+/// Leaves out the program that the word names.
+fn leave_out_word(object: &mut Object, call: &Call<'_>) -> io::Result<()> {
+    call.begin();
+    call.tell(leave_out(call.rt.alloc(), object, &[call.word]))
+}
+
 /// A call on an object.
 pub fn on_loader(object: &mut Object, call: &Call<'_>) -> io::Result<()> {
     match call.name {
         "loader_define" => define_by_word(object, call),
+        "loader_leave_out" => leave_out_word(object, call),
         "loader_value" | "loader_number" => value_by_word(object, call),
         _ => ask(object, call),
     }
