@@ -158,7 +158,7 @@ def small(rows, browser):
     """The page of the example: its table, keys, filters, and what a reader of the screen needs."""
     said = answer(rows, browser, "page.html", SMALL)
     reason = "struct cfs_rq.nr_running <byte_off> no such member"
-    place = "on_tick slot 11 ./memdrop.bpf.c:83"
+    place = "on_tick slot 11: r1 = 0x0 ./memdrop.bpf.c:83"
     wanted = {
         "failed": [],
         "head": ["kernel", "on_shrink", "on_tick"],

@@ -55,6 +55,10 @@ fn location_of(location: &SourceLocation) -> ReasonLocation<'_> {
     ReasonLocation {
         program: location.program,
         slot: location.slot,
+        instruction: match &location.instruction {
+            Some(text) => Some(text.as_str()),
+            None => None,
+        },
         within: numbered(&location.within),
         line: numbered(&location.line),
         kernels: &location.kernels,

@@ -94,7 +94,7 @@ fn write_numbered<W: Write>(out: &mut W, numbered: Option<(&str, u64)>) -> io::R
     }
 }
 
-/// Writes a location: program, slot, function and its slot, file and line, kernels.
+/// Writes a location: program, slot, instruction, function and its slot, file and line, kernels.
 fn write_location<W: Write>(out: &mut W, location: &ReasonLocation<'_>) -> io::Result<()> {
     let program = location.program;
     write!(out, "[{program},")?;
@@ -102,6 +102,11 @@ fn write_location<W: Write>(out: &mut W, location: &ReasonLocation<'_>) -> io::R
         Some(slot) => write!(out, "{slot},")?,
         None => write!(out, "null,")?,
     }
+    match location.instruction {
+        Some(text) => write_string(out, text)?,
+        None => write!(out, "null")?,
+    }
+    write!(out, ",")?;
     let within = location.within.map(|(name, slot)| (name, slot as u64));
     write_numbered(out, within)?;
     let line = location.line.map(|(file, line)| (file, u64::from(line)));

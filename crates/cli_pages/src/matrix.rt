@@ -29,6 +29,8 @@ pub struct ReasonLocation<'a> {
     pub program: usize,
     /// The slot; none where the reason is about the whole program.
     pub slot: Option<usize>,
+    /// The instruction of the slot as the object has it, before relocations.
+    pub instruction: Option<&'a str>,
     /// The function that the slot was copied from, and the slot in it, where it is not the program's own.
     pub within: Option<(&'a str, usize)>,
     /// The source line.

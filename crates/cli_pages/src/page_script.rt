@@ -24,15 +24,15 @@ const count = runs => {
 const judged = kernels.filter(kernel => kernel[1] !== null).length;
 const letter = (kernel, program) => kernels[kernel][1] === null ? 'u' : kernels[kernel][1][program];
 const title = ([, subject, kinds, outcome]) => [subject, ...kinds.map(kind => `<${kind}>`), outcome].join('  ');
-const locationText = ([program, slot, within, start, file, line]) => [
+const locationText = ([program, slot, instruction, within, start, file, line]) => [
   programs[program],
-  slot === null ? '' : `slot ${slot}`,
+  slot === null ? '' : `slot ${slot}${instruction === null ? '' : `: ${instruction}`}`,
   within === null ? '' : `(${within}+${start})`,
   file === null ? '' : `${file}:${line}`,
 ].filter(Boolean).join('  ');
 const reasonsOf = (kernel, program) => reasons
   .filter(reason => has(reason[4], kernel))
-  .map(reason => [reason, reason[5].filter(location => location[0] === program && has(location[6], kernel))])
+  .map(reason => [reason, reason[5].filter(location => location[0] === program && has(location[7], kernel))])
   .filter(([reason, locations]) => locations.length || !reason[5].length);
 const reasonItem = (reason, locations, more) => {
   const item = make('li');
