@@ -16,5 +16,6 @@ pub mod WantedSymbols
 pub mod Answers
 pub mod Refusals
 pub mod Listings
+pub mod LeastTypes
 pub mod Loading
 pub mod FaultNumbers

@@ -157,6 +157,14 @@ initial_slot_faults =
     ∷ codes "Misaligned"
     ∷ []
 
+-- of what needs an id of the kernel's own types
+abbrev pub least_types_faults : List (List ℕ)
+least_types_faults =
+    codes "RelocationNeedsKernelId"
+    ∷ codes "ExternNeedsKernelId"
+    ∷ codes "TargetNeedsKernelId"
+    ∷ []
+
 -- of kconfig externs
 abbrev pub kconfig_faults : List (List ℕ)
 kconfig_faults =
@@ -219,6 +227,8 @@ number_stages =
     ∷ stage 800 820 (codes "initial slots: ") file_faults
     ∷ stage 820 900 (codes "initial slots: ") initial_slot_faults
     ∷ stage 900 1000 (codes "kconfig: ") kconfig_faults
+    ∷ stage 1000 1020 (codes "least types: ") least_types_faults
+    ∷ stage 1020 1100 (codes "least types: BtfError ") type_faults
     ∷ []
 
 abbrev pub with_title : List ℕ → Option (List ℕ) → List ℕ

@@ -193,6 +193,13 @@ const KCONFIG_FAULTS: [&str; 9] = [
     "ValueOutOfRange",
 ];
 
+/// What needs an id of the kernel's own types.
+const LEAST_TYPES_FAULTS: [&str; 3] = [
+    "RelocationNeedsKernelId",
+    "ExternNeedsKernelId",
+    "TargetNeedsKernelId",
+];
+
 /// Faults of descriptors that aren't complete.
 const DESCRIPTOR_FAULTS: [&str; 2] = ["MissingDescriptor", "UnknownMap"];
 
@@ -211,7 +218,7 @@ struct Stage {
 }
 
 /// The stages, in the order of their numbers.
-const STAGES: [Stage; 21] = [
+const STAGES: [Stage; 23] = [
     Stage {
         first: 0,
         end: 100,
@@ -337,6 +344,18 @@ const STAGES: [Stage; 21] = [
         end: 1000,
         title: "kconfig: ",
         errors: &KCONFIG_FAULTS,
+    },
+    Stage {
+        first: 1000,
+        end: 1020,
+        title: "least types: ",
+        errors: &LEAST_TYPES_FAULTS,
+    },
+    Stage {
+        first: 1020,
+        end: 1100,
+        title: "least types: BtfError ",
+        errors: &TYPE_FAULTS,
     },
 ];
 

@@ -31,7 +31,7 @@ pub fn file_fault(error: ElfReadError) -> u32
 
 /// The number of a fault of types, the first of which has the number `first`, and the numbers that it states.
 pub fn type_fault(first: u32, error: &BtfError) -> (u32, Details)
-    requires small { first ≤ 1000 }
+    requires small { first ≤ 2000 }
     requires positive { 0 < first }
     ensures fault { result ≡ type_fault first error.now }
     ensures refuses { 0 < result.0 }
@@ -59,7 +59,7 @@ pub fn type_fault(first: u32, error: &BtfError) -> (u32, Details)
 
 /// The refusal for a fault of types, the first of which has the number `first`.
 pub fn type_refusal(first: u32, error: BtfError) -> Refusal
-    requires small { first ≤ 1000 }
+    requires small { first ≤ 2000 }
     requires positive { 0 < first }
     ensures refusal { result ≡ type_refusal first error }
     ensures refuses { 0 < result.number }

@@ -7,6 +7,7 @@ pub mod entries;
 pub mod faults;
 pub mod info;
 pub mod laws;
+pub mod least;
 pub mod loading;
 pub mod map_slots;
 pub mod maps;
