@@ -93,6 +93,8 @@ uint32_t ebpf_layer_ask(const struct ebpf_handle *handle, struct ebpf_asked *ask
 		return exact_ebpf_license(exact, VALUES);
 	case EBPF_KEPT_TYPES:
 		return exact->at ? exact_ebpf_kernel_types(FILE_BYTES, VALUES, EBPF_TOLD(*told)) : EBPF_CLOSED;
+	case EBPF_KEPT_LEAST_TYPES:
+		return exact_ebpf_least_types(exact, asked->btf, VALUES, EBPF_TOLD(*told));
 	case EBPF_KEPT_CONFIGURED:
 		return exact_ebpf_kconfig_value(exact, FILE_BYTES, EBPF_ARRAY(asked->config, asked->config_len), VALUES,
 						&asked->is_found, EBPF_TOLD(*told));

@@ -60,6 +60,8 @@ uint32_t exact_ebpf_kconfig_value(struct exact_handle *handle, const void *name,
 		size_t about_len, struct ebpf_refusal *report);
 uint32_t exact_ebpf_kernel_types(const void *file, size_t file_len, void *types, size_t types_len, size_t *len,
 		void *about, size_t about_len, struct ebpf_refusal *report);
+uint32_t exact_ebpf_least_types(struct exact_handle *handle, struct exact_btf *kernel, void *types, size_t types_len,
+		size_t *len, void *about, size_t about_len, struct ebpf_refusal *report);
 uint32_t exact_ebpf_leave_out(struct exact_handle *handle, const struct exact_descriptor *rows, size_t rows_len,
 		const void *text, size_t text_len, void *about, size_t about_len, struct ebpf_refusal *report);
 uint32_t exact_ebpf_license(struct exact_handle *handle, void *text, size_t text_len, size_t *len);

@@ -249,6 +249,14 @@ const uint8_t *ebpf_kernel_types(const struct ebpf_handle *handle, const uint8_t
 	return values_in(ebpf_layer_take(handle, &asked), len);
 }
 
+const uint8_t *ebpf_least_types(const struct ebpf_handle *handle, const struct ebpf_btf *btf, size_t *len)
+{
+	struct exact_btf no_types = { NULL };
+	struct ebpf_asked asked = { .kind = EBPF_KEPT_LEAST_TYPES, .btf = EBPF_TYPES(btf) };
+
+	return values_in(ebpf_layer_take(handle, &asked), len);
+}
+
 const uint8_t *ebpf_kconfig_value(const struct ebpf_handle *handle, const char *name, size_t name_len,
 				  const char *config, size_t config_len, size_t *len)
 {

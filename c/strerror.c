@@ -470,6 +470,42 @@ const char *ebpf_strerror(uint32_t number)
 		return "what the configuration says of a kconfig extern is no value of its type";
 	case EBPF_KCONFIG_VALUE_OUT_OF_RANGE:
 		return "the number of a kconfig extern is out of the range of its type, or of 64 bits";
+	case EBPF_LEAST_TYPES_RELOCATION:
+		return "least types: a CO-RE relocation asks for the kernel's id of a type";
+	case EBPF_LEAST_TYPES_EXTERN:
+		return "least types: an extern needs the kernel's id of its type";
+	case EBPF_LEAST_TYPES_TARGET:
+		return "least types: a program needs the kernel's id of what it is attached to";
+	case EBPF_LEAST_TYPES_WRITE_INVALID_HEADER:
+		return "least types: the header of the types is not valid";
+	case EBPF_LEAST_TYPES_WRITE_INVALID_TYPE_INFO:
+		return "least types: a type can't be read";
+	case EBPF_LEAST_TYPES_WRITE_INVALID_INFO:
+		return "least types: info entries can't be read";
+	case EBPF_LEAST_TYPES_WRITE_INVALID_STRING_OFFSET:
+		return "least types: a name is not inside the strings";
+	case EBPF_LEAST_TYPES_WRITE_INVALID_RELOCATION_KIND:
+		return "least types: a CO-RE relocation has an unknown kind";
+	case EBPF_LEAST_TYPES_WRITE_UNEXPECTED_BTF_TYPE:
+		return "least types: a type is of another kind than wanted";
+	case EBPF_LEAST_TYPES_WRITE_UNKNOWN_BTF_TYPE:
+		return "least types: a type id is unknown";
+	case EBPF_LEAST_TYPES_WRITE_UNKNOWN_BTF_TYPE_NAME:
+		return "least types: a type's name is unknown";
+	case EBPF_LEAST_TYPES_WRITE_MAXIMUM_TYPE_DEPTH:
+		return "least types: types refer to one another too deep";
+	case EBPF_LEAST_TYPES_WRITE_INVALID_DATASEC:
+		return "least types: a DATASEC can't be read";
+	case EBPF_LEAST_TYPES_WRITE_INVALID_SYMBOL_NAME:
+		return "least types: a symbol's name can't be read";
+	case EBPF_LEAST_TYPES_WRITE_INNER_MAP_CANNOT_BE_PINNED:
+		return "least types: an inner map is pinned";
+	case EBPF_LEAST_TYPES_WRITE_MULTI_LEVEL_MAP_IN_MAP_NOT_SUPPORTED:
+		return "least types: maps of maps nest";
+	case EBPF_LEAST_TYPES_WRITE_INVALID_VALUES_SPEC:
+		return "least types: the values of a map are not declared as such";
+	case EBPF_LEAST_TYPES_WRITE_TOO_LARGE:
+		return "least types: the types are too large";
 	default:
 		return "an unknown number";
 	}

@@ -338,6 +338,26 @@ enum ebpf_number {
 	EBPF_KCONFIG_TOO_LARGE = 906, /* the values of the kconfig externs together pass 32 bits */
 	EBPF_KCONFIG_UNSUITED_VALUE = 907, /* what the configuration says of a kconfig extern is no value of its type */
 	EBPF_KCONFIG_VALUE_OUT_OF_RANGE = 908, /* the number of a kconfig extern is out of the range of its type, or of 64 bits */
+
+	/* 1000 to 1099: least types. About the extern or the program, where one needs an id of the kernel's own types */
+	EBPF_LEAST_TYPES_RELOCATION = 1000, /* least types: a CO-RE relocation asks for the kernel's id of a type */
+	EBPF_LEAST_TYPES_EXTERN = 1001, /* least types: an extern needs the kernel's id of its type */
+	EBPF_LEAST_TYPES_TARGET = 1002, /* least types: a program needs the kernel's id of what it is attached to */
+	EBPF_LEAST_TYPES_WRITE_INVALID_HEADER = 1020, /* least types: the header of the types is not valid */
+	EBPF_LEAST_TYPES_WRITE_INVALID_TYPE_INFO = 1021, /* least types: a type can't be read */
+	EBPF_LEAST_TYPES_WRITE_INVALID_INFO = 1022, /* least types: info entries can't be read */
+	EBPF_LEAST_TYPES_WRITE_INVALID_STRING_OFFSET = 1023, /* least types: a name is not inside the strings */
+	EBPF_LEAST_TYPES_WRITE_INVALID_RELOCATION_KIND = 1024, /* least types: a CO-RE relocation has an unknown kind */
+	EBPF_LEAST_TYPES_WRITE_UNEXPECTED_BTF_TYPE = 1025, /* least types: a type is of another kind than wanted */
+	EBPF_LEAST_TYPES_WRITE_UNKNOWN_BTF_TYPE = 1026, /* least types: a type id is unknown */
+	EBPF_LEAST_TYPES_WRITE_UNKNOWN_BTF_TYPE_NAME = 1027, /* least types: a type's name is unknown */
+	EBPF_LEAST_TYPES_WRITE_MAXIMUM_TYPE_DEPTH = 1028, /* least types: types refer to one another too deep */
+	EBPF_LEAST_TYPES_WRITE_INVALID_DATASEC = 1029, /* least types: a DATASEC can't be read */
+	EBPF_LEAST_TYPES_WRITE_INVALID_SYMBOL_NAME = 1030, /* least types: a symbol's name can't be read */
+	EBPF_LEAST_TYPES_WRITE_INNER_MAP_CANNOT_BE_PINNED = 1031, /* least types: an inner map is pinned */
+	EBPF_LEAST_TYPES_WRITE_MULTI_LEVEL_MAP_IN_MAP_NOT_SUPPORTED = 1032, /* least types: maps of maps nest */
+	EBPF_LEAST_TYPES_WRITE_INVALID_VALUES_SPEC = 1033, /* least types: the values of a map are not declared as such */
+	EBPF_LEAST_TYPES_WRITE_TOO_LARGE = 1034, /* least types: the types are too large */
 };
 
 /* ---- what a refusal reports beside the name that it is about */
@@ -975,6 +995,15 @@ const char *ebpf_license_text(const struct ebpf_handle *handle);
  * *len is the length of the types: 0 if the file has no .BTF. Numbers: 2, 3, 700 to 799.
  */
 const uint8_t *ebpf_kernel_types(const struct ebpf_handle *handle, const uint8_t *file, size_t file_len, size_t *len);
+
+/*
+ * The types of a kernel that the object's CO-RE relocations ask for, as raw BTF: some kilobytes in place of megabytes, for
+ * a kernel without /sys/kernel/btf/vmlinux. Each relocation has the same outcome over them as over the kernel's.
+ *  - Their ids are new. An object that needs ids of the kernel's own types is refused.
+ *  - Call it before `ebpf_relocate_types`. The handle is given the types and the error.
+ * *len is the length of the types. Numbers: 2, 3, 1000 to 1099.
+ */
+const uint8_t *ebpf_least_types(const struct ebpf_handle *handle, const struct ebpf_btf *btf, size_t *len);
 
 /* An initial value of a map of maps or of an array of programs. */
 struct ebpf_initial_slot {

@@ -216,6 +216,7 @@ CALLS = {
     "ebpf_map_contents": (_handle, _size, _p(_size)),
     "ebpf_license_text": (_handle,),
     "ebpf_kernel_types": (_handle, *_bytes, _p(_size)),
+    "ebpf_least_types": (_handle, _handle, _p(_size)),
     "ebpf_initial_slots": (_handle, *_bytes, _p(_size)),
     "ebpf_initial_slot_at": (_handle, _size, _p(_InitialSlot)),
     "ebpf_relocate_types": (_handle, *_bytes),
@@ -249,7 +250,7 @@ RESULTS = {
     "ebpf_program_line_infos": _p(LineInfo),
     **{name: _size for name in CALLS if name.endswith("_count")},
     **{name: c.c_void_p for name in CALLS if name.endswith(("_at", "_section_name", "_contents", "_license_text"))},
-    **{name: c.c_void_p for name in ("ebpf_kernel_types", "ebpf_kconfig_value", "ebpf_kconfig_number")},
+    **{name: c.c_void_p for name in ("ebpf_kernel_types", "ebpf_least_types", "ebpf_kconfig_value", "ebpf_kconfig_number")},
 }
 
 DONE, ROOM, MEMORY = 0, 1, 2
@@ -812,6 +813,12 @@ class Object(_Linkable):
         self._made(_over("ebpf_record_outcomes", types, self._handle, c.byref(count)))
         rows = self._rows(_RecordOutcome, library.ebpf_record_outcome_at, count)
         return [_result(row, name) for row, name, _ in rows]
+
+    def least_types(self, types):
+        """The types of a kernel (`Types`) that the CO-RE relocations ask for, as bytes with ids of their own. Each relocation has
+        the same outcome over them as over the kernel's. Refused 1000 to 1099: something needs an id of the kernel's."""
+        length = _size()
+        return self._kept(library.ebpf_least_types(self._handle, types._handle, c.byref(length)), length)
 
     def prepare(self, types=b"", symbols=b"", maps=python_types.MappingProxyType({})):
         """Runs all passes, and gives the object as a `Prepared`; this one is closed then.

@@ -211,6 +211,7 @@ class Passes(unittest.TestCase):
     def test_types_that_are_read_once(self):
         with ebpf.open(COUNTER) as object, ebpf.Types(NO_TYPES) as types:
             self.assertEqual(object.outcomes(types), object.outcomes(NO_TYPES))
+            self.assertEqual(object.outcomes(object.least_types(types)), object.outcomes(NO_TYPES))
             for section in ("xdp", "fentry", "fentry/none"):
                 self.assertEqual(ebpf.attach_target(section, types), ebpf.attach_target(section, NO_TYPES))
             steps, other = object.copy().steps(), object.copy().steps()

@@ -133,6 +133,11 @@ static uint32_t take_outcomes_with(struct ebpf_handle **of)
 	return ebpf_record_outcomes_with(*of, types_read, NULL);
 }
 
+static uint32_t take_least(struct ebpf_handle **of)
+{
+	return kept(*of, ebpf_least_types(*of, types_read, NULL));
+}
+
 static uint32_t relocate_with(struct ebpf_handle **of)
 {
 	return ebpf_relocate_types_with(*of, types_read);
@@ -272,6 +277,7 @@ static const struct {
 	{ "ebpf_link_map", take_copies, 1, EBPF_DONE },
 	{ "ebpf_maps_without_descriptors", take_missing, 1, EBPF_DONE },
 	{ "ebpf_record_outcomes_with", take_outcomes_with, 1, EBPF_DONE },
+	{ "ebpf_least_types", take_least, 1, EBPF_DONE },
 	{ "ebpf_relocate_types_with", relocate_with, 1, EBPF_DONE },
 	{ "ebpf_prepare_handle, with types", prepare_held_with, 1, EBPF_DONE },
 	{ "ebpf_set_values", set_values, 1, EBPF_DONE },

@@ -149,6 +149,43 @@ static void check_targets(const struct bytes *types, const struct ebpf_btf *btf)
 	CHECK("targets", ebpf_attach_target_with(NULL, 9, btf, NULL, NULL) == EBPF_DONE);
 }
 
+/* Whether the outcomes over some types are those over others. */
+static int same_outcomes(const struct bytes *file, const struct ebpf_btf *types, const struct ebpf_btf *others)
+{
+	struct ebpf_handle *one = object_of(file), *other = object_of(file);
+	struct ebpf_record_outcome first, second;
+	size_t count = 77, also = 78;
+	int same = ebpf_record_outcomes_with(one, types, &count) == ebpf_record_outcomes_with(other, others, &also);
+
+	same &= count == also;
+	for (size_t at = 0; same && at < count; at++)
+		same = ebpf_record_outcome_at(one, at, &first) && ebpf_record_outcome_at(other, at, &second) &&
+		       !memcmp(&first, &second, sizeof(first));
+	ebpf_close(one);
+	ebpf_close(other);
+	return same;
+}
+
+static void check_least(const struct bytes *file, const struct bytes *types, const struct ebpf_btf *btf)
+{
+	struct ebpf_handle *of = object_of(file), *closed = NULL;
+	struct ebpf_btf *read = NULL;
+	size_t len = 77;
+	const uint8_t *least = ebpf_least_types(of, btf, &len);
+
+	CHECK("least types", least && len >= 24 && len <= types->len && is_last(of, EBPF_DONE));
+	CHECK("least types", least && ebpf_btf_open(least, len, &read) == EBPF_DONE);
+	CHECK("least types", same_outcomes(file, btf, read));
+	ebpf_btf_close(read);
+	len = 77;
+	CHECK("least types", !ebpf_least_types(of, NULL, &len) && is_last(of, EBPF_CLOSED) && len == 77);
+	CHECK("least types", !ebpf_least_types(NULL, btf, &len) && len == 77);
+	CHECK("ebpf_open", ebpf_open(NULL, 0, NULL, &closed) == EBPF_PARSE_TOO_SHORT);
+	CHECK("least types", !ebpf_least_types(closed, btf, NULL) && is_last(closed, EBPF_CLOSED));
+	ebpf_close(closed);
+	ebpf_close(of);
+}
+
 /* Null types, null handles, and types that can't be read. */
 static void check_closed(const struct bytes *file, const struct bytes *types, const struct ebpf_btf *btf)
 {
@@ -213,6 +250,8 @@ void check_types(const struct layer_files *files)
 	check_outcome_rows(&files->counter, &files->types, btf);
 	check_outcome_rows(&files->small, &files->types, btf);
 	check_targets(&files->types, btf);
+	check_least(&files->counter, &files->types, btf);
+	check_least(&files->small, &files->types, btf);
 	check_closed(&files->counter, &files->types, btf);
 	check_older_inputs(&files->counter, &files->types, btf);
 	ebpf_btf_close(btf);

@@ -6,5 +6,6 @@ pub mod Settings
 pub mod LeavingOut
 pub mod Passes
 pub mod KernelPasses
+pub mod LeastTypes
 pub mod PassSequences
 pub mod WantedSymbols

@@ -10,6 +10,7 @@ mod kernel_lists;
 mod kernel_preparing;
 mod kernel_types;
 mod laws;
+mod least_calls;
 mod leaving_out;
 mod linking;
 mod list_calls;

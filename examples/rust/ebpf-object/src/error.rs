@@ -97,6 +97,8 @@ pub enum Error {
     InitialSlots(Box<Refusal>),
     /// Kconfig externs can't be listed or defined (900 to 999).
     Kconfig(Box<Refusal>),
+    /// The least types of a kernel can't be made (1000 to 1099).
+    LeastTypes(Box<Refusal>),
     /// Another number of the library.
     Other(Box<Refusal>),
 }
@@ -200,6 +202,7 @@ impl Error {
             7 => Error::KernelTypes(refusal),
             8 => Error::InitialSlots(refusal),
             9 => Error::Kconfig(refusal),
+            10 => Error::LeastTypes(refusal),
             _ => Error::Other(refusal),
         }
     }
@@ -223,7 +226,7 @@ impl Error {
         match self {
             Error::Parse(it) | Error::Types(it) | Error::Maps(it) | Error::Ksyms(it) | Error::Externs(it) => Some(it),
             Error::Calls(it) | Error::KernelTypes(it) | Error::InitialSlots(it) | Error::Kconfig(it) => Some(it),
-            Error::Other(it) => Some(it),
+            Error::LeastTypes(it) | Error::Other(it) => Some(it),
             _ => None,
         }
     }

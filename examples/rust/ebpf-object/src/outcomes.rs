@@ -70,6 +70,19 @@ impl Object {
         self.outcome(number, "")?;
         self.rows(count, sys::ebpf_record_outcome_at, |row, section, _| outcome(row, section))
     }
+    /// The types of a kernel that the CO-RE relocations ask for, as raw BTF with ids of its own. Each relocation has the same
+    /// outcome over them as over the kernel's.
+    ///
+    /// # Errors
+    ///
+    /// - [`Error::LeastTypes`]: a relocation, an extern or an attach target needs an id of the kernel's own types.
+    pub fn least_types(&self, types: &Types) -> Result<Vec<u8>, Error> {
+        let mut len = 0;
+        // SAFETY: the handle and the types are open, and the length is ours.
+        let least = unsafe { sys::ebpf_least_types(self.as_raw(), types.as_raw(), &mut len) };
+        Ok(self.kept("", least, len)?.unwrap_or_default())
+    }
+
     /// The same over types that were read.
     ///
     /// # Errors

@@ -77,6 +77,8 @@ fn types_are_read_once() {
         assert_eq!(attach_target_with(section, &read), attach_target(section, &types));
     }
     assert_eq!(object.outcomes_with(&read), object.outcomes(&types));
+    let least = object.least_types(&read).expect("no id is needed");
+    assert_eq!(object.outcomes(&least), object.outcomes(&types));
     let maps = [("counts", 5), (".bss", 6), (".rodata", 7), ("tables", 8)];
     let kernel = Kernel::none().with_types(types.clone());
     let copy = object.try_clone().expect("a copy");

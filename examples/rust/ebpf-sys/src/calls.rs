@@ -464,6 +464,16 @@ extern "C" {
         len: *mut usize,
     ) -> *const u8;
 
+    /// The types of a kernel that the object's CO-RE relocations ask for, as raw BTF: some kilobytes in place of
+    /// megabytes, for a kernel without /sys/kernel/btf/vmlinux. Each relocation has the same outcome over them as over
+    /// the kernel's.
+    ///
+    /// - Their ids are new. An object that needs ids of the kernel's own types is refused.
+    /// - Call it before `ebpf_relocate_types`. The handle is given the types and the error.
+    ///
+    /// `*len` is the length of the types. Numbers: 2, 3, 1000 to 1099.
+    pub fn ebpf_least_types(handle: *const ebpf_handle, btf: *const ebpf_btf, len: *mut usize) -> *const u8;
+
     /// Takes the list of the initial values of the object's maps, by the maps' names in byte order, then by index.
     /// `*count` is how many rows `ebpf_initial_slot_at` has then: it returns the name of the row's map, and that of its
     /// target follows.

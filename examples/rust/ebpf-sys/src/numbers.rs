@@ -707,6 +707,60 @@ pub const EBPF_KCONFIG_UNSUITED_VALUE: u32 = 907;
 /// The number of a kconfig extern is out of the range of its type, or of 64 bits.
 pub const EBPF_KCONFIG_VALUE_OUT_OF_RANGE: u32 = 908;
 
+/// Least types: a CO-RE relocation asks for the kernel's id of a type.
+pub const EBPF_LEAST_TYPES_RELOCATION: u32 = 1000;
+
+/// Least types: an extern needs the kernel's id of its type.
+pub const EBPF_LEAST_TYPES_EXTERN: u32 = 1001;
+
+/// Least types: a program needs the kernel's id of what it is attached to.
+pub const EBPF_LEAST_TYPES_TARGET: u32 = 1002;
+
+/// Least types: the header of the types is not valid.
+pub const EBPF_LEAST_TYPES_WRITE_INVALID_HEADER: u32 = 1020;
+
+/// Least types: a type can't be read.
+pub const EBPF_LEAST_TYPES_WRITE_INVALID_TYPE_INFO: u32 = 1021;
+
+/// Least types: info entries can't be read.
+pub const EBPF_LEAST_TYPES_WRITE_INVALID_INFO: u32 = 1022;
+
+/// Least types: a name is not inside the strings.
+pub const EBPF_LEAST_TYPES_WRITE_INVALID_STRING_OFFSET: u32 = 1023;
+
+/// Least types: a CO-RE relocation has an unknown kind.
+pub const EBPF_LEAST_TYPES_WRITE_INVALID_RELOCATION_KIND: u32 = 1024;
+
+/// Least types: a type is of another kind than wanted.
+pub const EBPF_LEAST_TYPES_WRITE_UNEXPECTED_BTF_TYPE: u32 = 1025;
+
+/// Least types: a type id is unknown.
+pub const EBPF_LEAST_TYPES_WRITE_UNKNOWN_BTF_TYPE: u32 = 1026;
+
+/// Least types: a type's name is unknown.
+pub const EBPF_LEAST_TYPES_WRITE_UNKNOWN_BTF_TYPE_NAME: u32 = 1027;
+
+/// Least types: types refer to one another too deep.
+pub const EBPF_LEAST_TYPES_WRITE_MAXIMUM_TYPE_DEPTH: u32 = 1028;
+
+/// Least types: a DATASEC can't be read.
+pub const EBPF_LEAST_TYPES_WRITE_INVALID_DATASEC: u32 = 1029;
+
+/// Least types: a symbol's name can't be read.
+pub const EBPF_LEAST_TYPES_WRITE_INVALID_SYMBOL_NAME: u32 = 1030;
+
+/// Least types: an inner map is pinned.
+pub const EBPF_LEAST_TYPES_WRITE_INNER_MAP_CANNOT_BE_PINNED: u32 = 1031;
+
+/// Least types: maps of maps nest.
+pub const EBPF_LEAST_TYPES_WRITE_MULTI_LEVEL_MAP_IN_MAP_NOT_SUPPORTED: u32 = 1032;
+
+/// Least types: the values of a map are not declared as such.
+pub const EBPF_LEAST_TYPES_WRITE_INVALID_VALUES_SPEC: u32 = 1033;
+
+/// Least types: the types are too large.
+pub const EBPF_LEAST_TYPES_WRITE_TOO_LARGE: u32 = 1034;
+
 /// The numbers that an error states, added up in ebpf_refusal.has.
 pub type ebpf_detail = u32;
 
