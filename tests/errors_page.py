@@ -68,6 +68,7 @@ TYPES = {
     "ebpf_initial_slots::InitialSlotError": ("ebpf_initial_slots/src/error.rt", "The errors of `initial_slots`. `readelf -r` shows the relocations of `.maps`."),
     "ebpf_chosen_programs::LeaveOutError": ("ebpf_chosen_programs/src/error.rt", "The errors of `leave_out`."),
     "ebpf_btf_load::KernelTypesError": ("ebpf_btf_load/src/error.rt", "The errors of `kernel_types`. `bpftool btf dump file FILE` shows the types."),
+    "ebpf_least_types::LeastTypesError": ("ebpf_least_types/src/error.rt", "The error of `least_types`."),
 }
 
 DAMAGED = "build the file again: it is cut or damaged"
@@ -198,6 +199,7 @@ ADVICE = {
     "ebpf_btf_load::KernelTypesError::NoSymbol": "don't strip symbols",
     "ebpf_btf_load::KernelTypesError::UnsupportedExtern": KCONFIG_TYPES,
     "ebpf_btf_load::KernelTypesError::TooLarge": "split the object",
+    "ebpf_least_types::LeastTypesError::NeedsKernelId": "load the object with the kernel's own types, or call `least_types_despite_ids`",
     "prepare::PrepareError::MissingDescriptor": "make the map, and give its descriptor by name; or use `Steps::allow_missing`",
     "prepare::PrepareError::UnknownMap": "give a name of `object.map_names`",
     "prepare::PrepareError::UnwrittenExtern": "keep `.BTF`, and choose the passes that resolve and write externs",

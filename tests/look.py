@@ -31,7 +31,21 @@ HOSTILE = [
     "&amp;#60;&lt;",
     "];end;--> x[\"y",
     "${1}{{2}}",
+    "::stop-commands::token",
+    "  ::stop-commands::token",
+    "##[stop-commands]token",
+    "  ##[error]more",
+    "%%{wrap}%%",
+    "$$x^2$$",
+    "[text](target) [0](1)",
+    "![image](target)",
+    "- item",
+    "1. item",
+    "fa:fa-bug",
+    "{0}",
 ]
+# Characters of a label of Mermaid, and what is behind a name in it.
+MERMAID = r"(?:[A-Za-z0-9 ]|[^\x00-\x7f]|#\d+;)*(?:<br/>\d+ slots|<br/>map|: \d+ slots)"
 # Characters that are seen by their effect alone.
 UNSEEN = re.compile("[\x00-\x09\x0b-\x1f\x7f-\x9f\u061c\u200e\u200f\u2028-\u202e\u2066-\u2069]")
 
@@ -70,23 +84,32 @@ def example(rows):
     rows.expect("SARIF: schema", sarif.faults(log), [])
     [result] = log["runs"][0]["results"]
     place = result["locations"][0]["physicalLocation"]
-    rows.expect("SARIF: line", (place["artifactLocation"]["uri"], place["region"]), ("./memdrop.bpf.c", {"startLine": 83}))
+    rows.expect("SARIF: line", (place["artifactLocation"]["uri"], place["region"]), ("memdrop.bpf.c", {"startLine": 83}))
+    rows.expect("SARIF: successful", log["runs"][0]["invocations"], [{"executionSuccessful": True, "toolExecutionNotifications": []}])
     text = "struct cfs_rq.nr_running <byte_off> no such member; program on_tick slot 11; on 1 of 2 kernels: btf/6.18"
     rows.expect("SARIF: message", result["message"]["text"], text)
     ran = rows.row("annotations", ["check", "memdrop.o", "btf", "--format", "github"], 1)
-    line = f"::error file=./memdrop.bpf.c,line=83,title=ebpf check::{text}\n"
-    rows.expect("annotations: output", ran.stdout, plain + line)
+    line = f"::error file=memdrop.bpf.c,line=83,title=ebpf check::{text}\n"
+    rows.expect("annotations: output", ran.stdout, line)
     ok = rows.row("nothing breaks", ["check", "memdrop.o", "btf/5.18", "--sarif=none.sarif", "--format=github"], 0)
-    rows.expect("nothing breaks: no annotation", "::error" in ok.stdout, False)
+    rows.expect("nothing breaks: no annotation", ok.stdout, "")
     log = json.loads((rows.folder / "none.sarif").read_text())
     rows.expect("nothing breaks: SARIF", (sarif.faults(log), log["runs"][0]["results"]), ([], []))
     said = "ebpf: nowhere/page.html: cannot write: No such file or directory (os error 2)"
-    rows.row("no folder for the page", ["check", "memdrop.o", "btf", "--html=nowhere/page.html"], 2, plain, said)
+    words = ["check", "memdrop.o", "btf", "--html=nowhere/page.html", "--sarif=beside.sarif"]
+    rows.row("no folder for the page", words, 2, plain, said)
+    rows.expect("no folder for the page: SARIF", sarif.faults(json.loads((rows.folder / "beside.sarif").read_text())), [])
     said = "ebpf: /dev/full: cannot write: No space left on device (os error 28)"
     rows.row("no room for the page", ["check", "memdrop.o", "btf", "--html=/dev/full"], 2, plain, said)
     rows.row("no room for SARIF", ["check", "memdrop.o", "btf", "--sarif=/dev/full"], 2, plain, said)
     usage = "ebpf: --format takes text, json or github, and not xml"
     rows.row("another form", ["check", "memdrop.o", "btf", "--format", "xml"], 2, "", usage)
+    usage = "ebpf: page.html is read and written, or written twice"
+    rows.row("one file for two", ["check", "memdrop.o", "btf", "--html=page.html", "--sarif=page.html"], 2, "", usage)
+    usage = "ebpf: memdrop.o is read and written, or written twice"
+    rows.row("a page over FILE", ["check", "memdrop.o", "btf", "--html=memdrop.o"], 2, "", usage)
+    rows.row("a list's page over FILE", ["list", "memdrop.o", "--html=memdrop.o"], 2, "", usage)
+    rows.expect("no temporary file", list(rows.folder.glob("*.tmp")), [])
     rows.row("two forms", ["check", "memdrop.o", "btf", "--format=text", "-j"], 2, "", "ebpf: one of --format and --json")
 
 
@@ -129,12 +152,14 @@ def hostile_graphs(rows):
         rf"    label={label};|    p\d+[fm]\d+ \[shape=\w+ label={label}\];|    p\d+f\d+ -> p\d+[fm]\d+ \[\w+=\w+\];"
     )
     rows.expect("hostile --dot: lines", [line for line in dot.split("\n")[:-1] if not form.fullmatch(line)], [])
-    if shutil.which("dot"):
+    if not shutil.which("dot"):
+        print("skipped: graphs in Graphviz, which isn't installed")
+    else:
         drawn = subprocess.run(["dot", "-Tsvg"], input=dot, capture_output=True, encoding="utf-8")
         rows.expect("hostile --dot: Graphviz", (drawn.returncode, drawn.stderr), (0, ""))
     flow = rows.row("hostile --mermaid", ["inspect", "hostile.o", "--mermaid"], 0).stdout
     expect_plain(rows, "hostile --mermaid", flow)
-    label = r'"(?:[^"#&<>`]|#\d+;|<br/>)*"'
+    label = f'"{MERMAID}"'
     form = re.compile(
         rf"flowchart LR|  subgraph p\d+\[{label}\]|  end|    p\d+f\d+\[{label}\]|    p\d+m\d+\[\({label}\)\]|"
         r"    p\d+f\d+ (?:-->\|\w+\||-\.->) p\d+[fm]\d+"
@@ -151,9 +176,11 @@ def hostile_reports(rows):
     words = ["check", "hostile.o", "kernels", "--html=hostile.html", "--sarif=hostile.sarif", "--format=github"]
     out = rows.row("hostile names", words, 1).stdout
     expect_plain(rows, "hostile annotations", out)
-    lines = [line for line in out.split("\n") if line.startswith("::")]
+    lines = out.split("\n")[:-1]
     form = re.compile(r"::error (?:file=[^:,]*,line=7,)?title=ebpf check::.*")
     rows.expect("hostile annotations: one for each program", (len(lines), all(map(form.fullmatch, lines))), (len(HOSTILE), True))
+    commands = [line for line in lines if line.lstrip().startswith("::") or "##[" in line]
+    rows.expect("hostile annotations: commands", [line for line in commands if not line.startswith("::error ")], [])
     rows.expect("hostile annotations: percent", re.findall("%(?!25|3A|2C)", "".join(lines)), [])
     text = (rows.folder / "hostile.sarif").read_text()
     expect_plain(rows, "hostile SARIF", text)
@@ -162,9 +189,57 @@ def hostile_reports(rows):
     results = log["runs"][0]["results"]
     said = "".join(result["message"]["text"] for result in results)
     expect_plain(rows, "hostile SARIF: messages", said)
-    rows.expect("hostile SARIF: names", [name for name in HOSTILE if visible(name) not in said], [])
+    rows.expect("hostile SARIF: placeholders", re.findall("[{}]", re.sub(r"\{\{|\}\}", "", said)), [])
+    rows.expect("hostile SARIF: links", re.findall(r"(?<!\\)(?:\\\\)*[\[\]]", said), [])
+    read = re.sub(r"\\([\\\[\]])", r"\1", said).replace("{{", "{").replace("}}", "}")
+    rows.expect("hostile SARIF: names", [name for name in HOSTILE if visible(name) not in read], [])
     uris = [result["locations"][0]["physicalLocation"]["artifactLocation"]["uri"] for result in results]
-    rows.expect("hostile SARIF: paths", [uri for uri in uris if not re.fullmatch(r"(?:[\w./~-]|%[0-9a-f]{2})*", uri, re.ASCII)], [])
+    rows.expect("hostile SARIF: paths", [uri for uri in uris if not re.fullmatch(r"(?:[\w./~-]|%[0-9A-F]{2})*", uri, re.ASCII)], [])
+
+
+def source_paths(rows):
+    """Paths of source lines in SARIF and in annotations."""
+    for path, uri, file in [
+        ("/build//src/./a b.c", "file:///build/src/a%20b.c", "/build/src/a b.c"),
+        ("././src/x.c", "src/x.c", "src/x.c"),
+        ("../x:y.c", "../x%3Ay.c", "../x%3Ay.c"),
+    ]:
+        rows.write("path.o", object_of([Code("kprobe/p", "program", [GONE, EXIT])], lines=[(0, path, 7)]))
+        rows.write("lacks", LACKS_B)
+        out = rows.row(f"path {path}", ["check", "path.o", "lacks", "--sarif=path.sarif", "--format=github"], 1).stdout
+        rows.expect(f"path {path}: annotation", out.split(",")[0], f"::error file={file}")
+        log = json.loads((rows.folder / "path.sarif").read_text())
+        rows.expect(f"path {path}: schema", sarif.faults(log), [])
+        location = log["runs"][0]["results"][0]["locations"][0]["physicalLocation"]
+        rows.expect(f"path {path}: URI", location["artifactLocation"]["uri"], uri)
+
+
+def unread(rows):
+    """A kernel that can't be read is in each form, and doesn't look like success."""
+    rows.write("no::types", b"none")
+    words = ["check", "memdrop.o", "no::types", "btf/5.18", "--sarif=unread.sarif", "--format=github"]
+    ran = rows.row("unread", words, 2, None, "")
+    said = "kernel no::types can't be read: "
+    rows.expect("unread: one annotation", [line.split(said)[0] for line in ran.stdout.split("\n")], ["::error title=ebpf check::", ""])
+    rows.expect("unread: standard error", ran.stderr, "")
+    log = json.loads((rows.folder / "unread.sarif").read_text())
+    rows.expect("unread: schema", sarif.faults(log), [])
+    [invocation] = log["runs"][0]["invocations"]
+    told = [it["message"]["text"].startswith(said) for it in invocation["toolExecutionNotifications"]]
+    rows.expect("unread: SARIF", (invocation["executionSuccessful"], told), (False, [True]))
+
+
+def failing_output(rows):
+    """Files are written also where the output can't be."""
+    for form in ["text", "json", "github"]:
+        words = [rows.program, "check", "memdrop.o", "btf", f"--format={form}", f"--html=full-{form}.html", f"--sarif=full-{form}.sarif"]
+        with open("/dev/full", "w", encoding="utf-8") as full:
+            ran = subprocess.run(words, cwd=rows.folder, stdout=full, stderr=subprocess.PIPE, encoding="utf-8")
+        said = "ebpf: cannot write: No space left on device (os error 28)\n"
+        rows.expect(f"no room for {form}", (ran.returncode, ran.stderr), (2, said))
+        for name, whole in [(f"full-{form}.html", "page.html"), (f"full-{form}.sarif", "log.sarif")]:
+            kept = [(rows.folder / it).read_text() if (rows.folder / it).exists() else None for it in (name, whole)]
+            rows.expect(f"no room for {form}: {name}", kept[0] == kept[1], True)
 
 
 def lists(rows):
@@ -189,6 +264,8 @@ def large(rows, count):
     sections = [*(f"kprobe/p{number}" for number in range(5)), "fentry/no_such_function"]
     functions = [Code(section, f"event_{number}", codes[number]) for number, section in enumerate(sections)]
     rows.write("large.o", object_of(functions))
+    rows.write("none.o", object_of([Code("?kprobe/p", "program", [GONE, EXIT])]))
+    rows.row("no programs", ["check", "none.o", "btf", "--html", "none.html"], 0)
     kinds = [HAS_B, HAS_B, LACKS_B] * 3 + [b"none"]
     for number in range(count):
         rows.write(f"large/{4 + number // 400}.{number // 20 % 20}.0-{number % 20}-generic", kinds[number % 10])
@@ -204,6 +281,7 @@ def pages(rows, count, screenshots):
         return
     large(rows, count)
     page.small(rows, browser)
+    page.without_programs(rows, browser)
     page.hostile(rows, browser, [visible(name) for name in HOSTILE])
     page.many(rows, browser, count)
     page.listed(rows, browser, rows.run("list", "memdrop.o").stdout)
@@ -222,7 +300,7 @@ def main():
         rows = Rows(str(Path(chosen.program).absolute()), None, None, Path(folder))
         shutil.copytree(EXAMPLE / "btf", rows.folder / "btf")
         shutil.copy(EXAMPLE / "memdrop.o", rows.folder)
-        for part in [example, graphs, hostile_graphs, hostile_reports, lists, terminal.colours, terminal.progress]:
+        for part in [example, graphs, hostile_graphs, hostile_reports, source_paths, unread, failing_output, lists, terminal.colours, terminal.progress]:
             part(rows)
         pages(rows, chosen.kernels, chosen.screenshots)
     print(*rows.failures, sep="\n", end="\n" * bool(rows.failures))

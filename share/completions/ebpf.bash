@@ -3,7 +3,7 @@
 # Prints the options of a command.
 _ebpf_options() {
     case $1 in
-    btf) echo '--object --btf --output --allow-ids --json --color --help --version' ;;
+    btf) echo '--object --btf --output --allow-ids --json --help --version' ;;
     check) echo '--object --program --all --strict --format --html --sarif --json --color --progress --help --version' ;;
     list) echo '--object --html --json --color --help --version' ;;
     link) echo '--object --btf --kallsyms --kconfig --kernel --program --bytes --lines --color --help --version' ;;

@@ -15,7 +15,7 @@ complete -c ebpf -n '__fish_seen_subcommand_from check link inspect' -l program 
 complete -c ebpf -n '__fish_seen_subcommand_from btf check list inspect' -s j -l json -d 'print JSON'
 complete -c ebpf -n '__fish_seen_subcommand_from check' -l all -d 'name all kernels and changed values'
 complete -c ebpf -n '__fish_seen_subcommand_from check' -l strict -d 'fail also without an attach target'
-complete -c ebpf -n $all -l color -x -a 'auto always never' -d 'select when colours are used'
+complete -c ebpf -n '__fish_seen_subcommand_from check list link inspect' -l color -x -a 'auto always never' -d 'select when colours are used'
 complete -c ebpf -n '__fish_seen_subcommand_from check' -l progress -d 'show the progress'
 complete -c ebpf -n '__fish_seen_subcommand_from check list' -l html -r -F -d 'write a page'
 complete -c ebpf -n '__fish_seen_subcommand_from check' -l sarif -r -F -d 'write SARIF 2.1.0'

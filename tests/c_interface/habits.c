@@ -128,7 +128,7 @@ static void give_nulls(struct counted *of)
 	CHECK(of, ebpf_set_values(handle, NULL, 0) == EBPF_DONE && ebpf_define_kconfig(handle, NULL, 0) == EBPF_DONE);
 	CHECK(of, ebpf_maps_without_descriptors(handle, NULL, 0, NULL) == EBPF_DONE);
 	CHECK(of, ebpf_find_map(handle, NULL, 0, NULL) == EBPF_NO_MAP);
-	CHECK(of, ebpf_set_value(handle, NULL, 0, NULL, 0, 0) == EBPF_DONE);
+	CHECK(of, ebpf_set_value(handle, "none", 4, NULL, 0, 0) == EBPF_DONE);
 	CHECK(of, ebpf_relocate_types_with(handle, NULL) == EBPF_CLOSED);
 	CHECK(of, ebpf_resolve_externs(handle, NULL, 0, NULL, 0) == EBPF_DONE);
 	ebpf_close(handle);

@@ -16,7 +16,8 @@ VALGRIND = ["valgrind", "--quiet", "--error-exitcode=9", "--leak-check=full", "-
 CHECKERS = {
     "the address sanitizer": (["-g", "-O1", "-fsanitize=address,undefined", "-fno-sanitize-recover=all"], []),
     "the thread sanitizer": (["-g", "-O1", "-fsanitize=thread"], ASLR_OFF),
-    "valgrind": (["-g", "-O1"], VALGRIND),
+    # older ones do not read what clang writes of itself by default
+    "valgrind": (["-gdwarf-4", "-O1"], VALGRIND),
 }
 # A program of no library, by which a checker shows that it is there.
 NOTHING = "int main(void) { return 0; }\n"

@@ -146,11 +146,6 @@ static uint32_t prepare_with(struct ebpf_handle **of)
 	return ebpf_prepare(given->small.at, given->small.len, &inputs, of);
 }
 
-static uint32_t resolve_with(struct ebpf_handle **of)
-{
-	return ebpf_resolve_externs_with(*of, types_read, NULL, 0);
-}
-
 static uint32_t prepare_held_with(struct ebpf_handle **of)
 {
 	struct ebpf_descriptor rows[] = { { "counts", 6, 1 }, { ".bss", 4, 2 }, { ".rodata", 7, 3 }, { "tables", 6, 4 } };
@@ -277,7 +272,6 @@ static const struct {
 	{ "ebpf_maps_without_descriptors", take_missing, 1, EBPF_DONE },
 	{ "ebpf_record_outcomes_with", take_outcomes_with, 1, EBPF_DONE },
 	{ "ebpf_relocate_types_with", relocate_with, 1, EBPF_DONE },
-	{ "ebpf_resolve_externs_with", resolve_with, 1, EBPF_DONE },
 	{ "ebpf_prepare_handle, with types", prepare_held_with, 1, EBPF_DONE },
 	{ "ebpf_set_values", set_values, 1, EBPF_DONE },
 	{ "ebpf_leave_out", leave_out, 1, EBPF_DONE },

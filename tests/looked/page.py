@@ -25,7 +25,11 @@ TOOLS = """
 const all = query => [...document.querySelectorAll(query)];
 const cells = row => [...row.children].map(cell => cell.textContent);
 const shown = () => all('#body tr').filter(row => !row.hidden).map(row => row.children[0].textContent);
-const press = key => document.activeElement.dispatchEvent(new KeyboardEvent('keydown', { key, bubbles: true, cancelable: true }));
+const press = (key, more) => {
+  const event = new KeyboardEvent('keydown', { key, bubbles: true, cancelable: true, ...more });
+  document.activeElement.dispatchEvent(event);
+  return event.defaultPrevented;
+};
 const choose = (id, value) => {
   const field = document.getElementById(id);
   if (field.type === 'checkbox') field.checked = value; else field.value = value;
@@ -49,8 +53,12 @@ rows[0].children[1].focus();
 press('End');
 press('ArrowRight');
 answer.stop = document.activeElement === rows[1].children[2];
-press('Home');
+answer.modified = ['altKey', 'ctrlKey', 'metaKey'].map(name => press('ArrowLeft', { [name]: true }));
+answer.unmoved = document.activeElement === rows[1].children[2];
+press('PageUp');
 press('ArrowLeft');
+press('PageDown');
+press('PageUp');
 press('Enter');
 answer.entered = document.getElementById('cell').innerText.split('\\n').filter(Boolean);
 choose('kernel', '6.1');
@@ -58,6 +66,11 @@ answer.kernel = shown();
 choose('kernel', '');
 choose('reason', '0');
 answer.reason = shown();
+choose('program', '0');
+answer.other = shown();
+choose('program', '1');
+answer.own = shown();
+choose('program', '');
 choose('reason', '');
 choose('failing', true);
 answer.failing = shown();
@@ -77,6 +90,14 @@ const before = performance.now();
 choose('kernel', '6.5.0-1');
 answer.filter = performance.now() - before;
 answer.shown = shown().length;
+"""
+
+NONE = """
+answer.rows = all('#body tr').map(cells);
+answer.focusable = all('#matrix [tabindex]').length;
+document.getElementById('matrix').dispatchEvent(new KeyboardEvent('keydown', { key: 'Enter', bubbles: true }));
+choose('kernel', '6.1');
+answer.cell = document.getElementById('cell').innerText;
 """
 
 HOSTILE = """
@@ -137,7 +158,7 @@ def small(rows, browser):
     """The page of the example: its table, keys, filters, and what a reader of the screen needs."""
     said = answer(rows, browser, "page.html", SMALL)
     reason = "struct cfs_rq.nr_running <byte_off> no such member"
-    place = "on_tick slot 11 memdrop.bpf.c:83"
+    place = "on_tick slot 11: r1 = 0x0 ./memdrop.bpf.c:83"
     wanted = {
         "failed": [],
         "head": ["kernel", "on_shrink", "on_tick"],
@@ -153,6 +174,10 @@ def small(rows, browser):
         "entered": ["on_shrink on btf/5.18: ok", "No reason to break."],
         "kernel": ["btf/6.18"],
         "reason": ["btf/6.18"],
+        "other": [],
+        "own": ["btf/6.18"],
+        "modified": [False, False, False],
+        "unmoved": True,
         "failing": ["btf/6.18"],
         "count": "1 of 2 kernels",
         "columns": ["kernel", "on_tick"],
@@ -160,6 +185,14 @@ def small(rows, browser):
     }
     for key, value in wanted.items():
         rows.expect(f"page: {key}", said.get(key), value)
+
+
+def without_programs(rows, browser):
+    """The page of an object without programs that count: nothing in its table has the focus."""
+    said = answer(rows, browser, "none.html", NONE)
+    wanted = {"failed": [], "rows": [["btf/5.18"], ["btf/6.18"]], "focusable": 0, "cell": "No programs."}
+    for key, value in wanted.items():
+        rows.expect(f"page without programs: {key}", said.get(key), value)
 
 
 def hostile(rows, browser, names):
@@ -198,7 +231,7 @@ def hostile_list(rows, browser, names):
     """The page of `ebpf list` with hostile names: they are text, and none of them is run."""
     said = answer(rows, browser, "list-hostile.o.html", LISTED)
     rows.expect("hostile list page: failed", said.get("failed"), [])
-    rows.expect("hostile list page: names", [name for name in names if name not in said.get("text", "")], [])
+    rows.expect("hostile list page: names", [name for name in names if name.strip() not in said.get("text", "")], [])
     tags = ["dd", "dl", "dt", "h1", "h2", "section", "table", "tbody", "td", "th", "thead", "tr"]
     rows.expect("hostile list page: elements", [tag for tag in said.get("tags", []) if tag not in tags], [])
 

@@ -1,5 +1,5 @@
 """What SARIF 2.1.0 (OASIS, 'Static Analysis Results Interchange Format') demands of the parts that `ebpf check` writes, as
-JSON Schema; and a reader of as much of JSON Schema as this takes."""
+JSON Schema, written by hand; and a reader of as much of JSON Schema as this takes. It isn't the schema of OASIS."""
 import re
 
 
@@ -18,8 +18,8 @@ def many(items, least=0):
 
 
 MESSAGE = holds({"text": texts_of(".")})
-# A path of RFC 3986 without a scheme or an authority.
-ARTIFACT = holds({"uri": texts_of(r"^(?!//)(?:[A-Za-z0-9._~/-]|%[0-9A-Fa-f]{2})+$")})
+# A relative path of RFC 3986 without an authority, or an absolute one of the scheme `file`; neither has empty segments.
+ARTIFACT = holds({"uri": texts_of(r"^(?:file://(?=/)|(?!/))(?:/?(?:[A-Za-z0-9._~-]|%[0-9A-F]{2})+)+$")})
 REGION = holds({"startLine": {"type": "integer", "minimum": 1}})
 PLACE = holds({"artifactLocation": ARTIFACT, "region": REGION}, ["artifactLocation"])
 RESULT = holds(
@@ -31,18 +31,28 @@ RESULT = holds(
         "locations": many(holds({"physicalLocation": PLACE}), 1),
     }
 )
-DRIVER = holds({"name": texts_of("."), "rules": many(holds({"id": texts_of("."), "shortDescription": MESSAGE}))})
-RUN = holds({"tool": holds({"driver": DRIVER}), "results": many(RESULT)})
+RULE = holds({"id": texts_of("."), "shortDescription": MESSAGE, "fullDescription": MESSAGE, "help": MESSAGE})
+DRIVER = holds({"name": texts_of("."), "version": texts_of(r"^\d+\.\d+\.\d+$"), "rules": many(RULE)})
+NOTIFICATION = holds({"level": {"enum": ["none", "note", "warning", "error"]}, "message": MESSAGE})
+INVOCATION = holds({"executionSuccessful": {"type": "boolean"}, "toolExecutionNotifications": many(NOTIFICATION)})
+RUN = holds(
+    {
+        "tool": holds({"driver": DRIVER}),
+        "automationDetails": holds({"id": texts_of(".")}),
+        "invocations": many(INVOCATION, 1),
+        "results": many(RESULT),
+    }
+)
 SCHEMA = holds({"$schema": texts_of(r"^https://.*/sarif-2\.1\.0\.json$"), "version": {"enum": ["2.1.0"]}, "runs": many(RUN, 1)})
 
-TYPES = {"object": dict, "array": list, "string": str, "integer": int}
+TYPES = {"object": dict, "array": list, "string": str, "integer": int, "boolean": bool}
 
 
 def value_faults(value, schema, path):
     """What is wrong with a value by itself."""
     if "enum" in schema and value not in schema["enum"]:
         yield f"{path}: {value!r}"
-    if "type" in schema and (not isinstance(value, TYPES[schema["type"]]) or isinstance(value, bool)):
+    if "type" in schema and (not isinstance(value, TYPES[schema["type"]]) or isinstance(value, bool) != (schema["type"] == "boolean")):
         yield f"{path}: no {schema['type']}"
     elif "pattern" in schema and not re.search(schema["pattern"], value):
         yield f"{path}: {value!r}"

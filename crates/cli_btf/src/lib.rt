@@ -8,6 +8,5 @@ mod least_file;
 mod objects;
 mod printing;
 mod run;
-mod whole_file;
 
 pub use run::{BtfWords, btf};

@@ -3,7 +3,7 @@
 use crate::session::{Judgement, KernelAnswer, Session};
 use crate::verdict::Fate;
 use crate::verdict::findings::{Finding, FindingKey, Severity, SourceLocation};
-use cli_pages::matrix::{CellVerdict, Matrix, MatrixKernel, Reason, ReasonPlace};
+use cli_pages::matrix::{CellVerdict, Matrix, MatrixKernel, Reason, ReasonLocation};
 use ebpf_base::Text;
 use std::alloc::{AllocError, Global};
 
@@ -50,24 +50,28 @@ fn numbered<N: Copy>(numbered: &Option<(Text, N)>) -> Option<(&str, N)> {
     }
 }
 
-/// The place of a location.
-fn place_of(place: &SourceLocation) -> ReasonPlace<'_> {
-    ReasonPlace {
-        program: place.program,
-        slot: place.slot,
-        within: numbered(&place.within),
-        line: numbered(&place.line),
-        kernels: &place.kernels,
+/// A location, as pages and reports show it.
+fn location_of(location: &SourceLocation) -> ReasonLocation<'_> {
+    ReasonLocation {
+        program: location.program,
+        slot: location.slot,
+        instruction: match &location.instruction {
+            Some(text) => Some(text.as_str()),
+            None => None,
+        },
+        within: numbered(&location.within),
+        line: numbered(&location.line),
+        kernels: &location.kernels,
     }
 }
 
-/// The places of a finding.
-fn places_of(alloc: Global, found: &Finding) -> Result<Vec<ReasonPlace<'_>>, AllocError> {
-    let mut places = Vec::with_capacity(alloc, found.places.len())?;
-    for place in found.places.values() {
-        places.push(place_of(place))?;
+/// The locations of a finding.
+fn locations_of(alloc: Global, found: &Finding) -> Result<Vec<ReasonLocation<'_>>, AllocError> {
+    let mut locations = Vec::with_capacity(alloc, found.places.len())?;
+    for location in found.places.values() {
+        locations.push(location_of(location))?;
     }
-    Ok(places)
+    Ok(locations)
 }
 
 /// The words for the kinds of a finding.
@@ -86,14 +90,14 @@ fn reason_of<'a>(
     found: &'a Finding,
 ) -> Result<Reason<'a>, AllocError> {
     let kinds = kinds_of(alloc, found)?;
-    let places = places_of(alloc, found)?;
+    let locations = locations_of(alloc, found)?;
     Ok(Reason {
         breaks: key.severity == Severity::Breaks,
         subject: key.name.as_str(),
         kinds,
         outcome: key.reason.as_str(),
         kernels: &found.kernels,
-        places,
+        locations,
     })
 }
 
@@ -129,11 +133,16 @@ fn kernels_of(alloc: Global, session: &Session) -> Result<Vec<MatrixKernel<'_>>,
 }
 
 /// The verdicts of all kernels, with the reasons.
-pub fn matrix_of(alloc: Global, session: &Session) -> Result<Matrix<'_>, AllocError> {
+pub fn matrix_of<'a>(
+    alloc: Global,
+    version: &'static str,
+    session: &'a Session,
+) -> Result<Matrix<'a>, AllocError> {
     let programs = names_of(alloc, session)?;
     let kernels = kernels_of(alloc, session)?;
     let reasons = reasons_of(alloc, session)?;
     Ok(Matrix {
+        version,
         file: session.file.as_str(),
         programs,
         kernels,

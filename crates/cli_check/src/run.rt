@@ -2,7 +2,7 @@
 
 use crate::json::write_json;
 use crate::kernel_files::{KernelFile, kernel_files};
-use crate::matrix_files::write_matrix;
+use crate::matrix_files::{write_files, write_lines};
 use crate::printing::{write_findings, write_kernel};
 use crate::session::{Judgement, Session};
 use crate::verdict::loaded::{Loaded, Needs, externs_with_values};
@@ -11,6 +11,7 @@ use cli_common::programs::ObjectProgram;
 use cli_common::refusal::{FileRefusal, READING};
 use cli_common::refuse::{Stop, chosen_programs, tell};
 use cli_common::vmlinux_btf::read_kernel;
+use cli_output::files::first_failure;
 use cli_output::palette::{ColorChoice, Palette};
 use cli_output::progress::{KernelProgress, ProgressLine};
 use ebpf_base::{ByName, Items, Text};
@@ -22,6 +23,8 @@ use std::io::{self, BufWriter, Stdout, Write};
 /// The arguments of `ebpf check`.
 #[derive(Drop)]
 pub struct CheckWords {
+    /// The version of the program.
+    pub version: &'static str,
     /// The object's file.
     pub file: Text,
     /// The number of the object in the file, where it holds several.
@@ -40,12 +43,24 @@ pub struct CheckWords {
     pub color: ColorChoice,
     /// Whether the progress is shown without a terminal too.
     pub progress: bool,
-    /// Whether the reasons are printed as annotations of GitHub's workflows too.
+    /// Whether the output is annotations of GitHub's workflows alone.
     pub annotations: bool,
     /// The file of the page, where one is written.
     pub html: Option<Text>,
     /// The file of the log for code scanning, where one is written.
     pub sarif: Option<Text>,
+}
+
+impl CheckWords {
+    /// Whether the output is text.
+    fn prints_text(&self) -> bool {
+        !self.json && !self.annotations
+    }
+
+    /// Whether files are written.
+    pub fn has_files(&self) -> bool {
+        self.html.is_some() || self.sarif.is_some()
+    }
 }
 
 /// Programs without the optional ones.
@@ -159,8 +174,12 @@ fn judge_kernel_file(
     }
 }
 
-/// Reports the last kernel where its types can't be read.
-fn report_unread(rt: &HostRuntime, session: &Session) {
+/// Reports the last kernel where its types can't be read. Annotations have their own lines for it, since a name within a
+/// line of standard error can be a command for a workflow.
+fn report_unread(rt: &HostRuntime, words: &CheckWords, session: &Session) {
+    if words.annotations {
+        return;
+    }
     let Some(kernel) = session.kernels.last() else {
         return;
     };
@@ -195,7 +214,26 @@ fn progress_of<'a>(
     }
 }
 
-/// Judges the programs over each kernel, and writes its line when it is done.
+/// Judges the programs over a kernel. Shows the progress before, where it is due.
+fn judge_next(
+    rt: &HostRuntime,
+    words: &CheckWords,
+    session: &mut Session,
+    kernels: &[KernelFile],
+    kernel: &KernelFile,
+    line: &mut ProgressLine,
+) -> Result<(), Stop> {
+    if line.is_due(rt) {
+        line.show(rt, progress_of(session, kernels, kernel));
+    }
+    let judged = judge_kernel_file(rt, session, kernel);
+    line.clear(rt);
+    judged?;
+    report_unread(rt, words, session);
+    Ok(())
+}
+
+/// Judges the programs over each kernel and, of text, writes its line when it is done.
 fn judge_kernels(
     rt: &HostRuntime,
     words: &CheckWords,
@@ -203,34 +241,72 @@ fn judge_kernels(
     kernels: &[KernelFile],
     out: &mut BufWriter<Stdout>,
 ) -> Result<(), Stop> {
-    let mut line = ProgressLine::new(rt, words.progress);
+    let mut line = ProgressLine::new(rt, words.progress && !words.annotations);
     for kernel in kernels {
-        if line.is_due(rt) {
-            line.show(rt, progress_of(session, kernels, kernel));
-        }
-        let judged = judge_kernel_file(rt, session, kernel);
-        line.clear(rt);
-        judged?;
-        report_unread(rt, session);
-        if !words.json {
+        judge_next(rt, words, session, kernels, kernel, &mut line)?;
+        if words.prints_text() {
             write_last_kernel(out, session)?;
         }
     }
     Ok(())
 }
 
-/// Writes the findings over all kernels.
+/// Writes the findings over all kernels: text, JSON or annotations.
 fn write_output(
+    rt: &HostRuntime,
     words: &CheckWords,
     session: &Session,
     out: &mut BufWriter<Stdout>,
-) -> io::Result<()> {
+) -> Result<(), Stop> {
     if words.json {
         write_json(out, session)?;
+    } else if words.annotations {
+        write_lines(rt, words, session, out)?;
     } else {
         write_findings(out, session)?;
     }
-    out.flush()
+    out.flush()?;
+    Ok(())
+}
+
+/// Writes the files that are named and the output; each is tried. Returns the first failure.
+fn write_all(
+    rt: &HostRuntime,
+    words: &CheckWords,
+    session: &Session,
+    out: &mut BufWriter<Stdout>,
+) -> Result<(), Stop> {
+    let files = write_files(rt, words, session);
+    let output = write_output(rt, words, session, out);
+    first_failure(files, output)
+}
+
+/// Judges the programs over kernels without a line for each, and writes the files that are named.
+fn write_files_alone(
+    rt: &HostRuntime,
+    words: &CheckWords,
+    session: &mut Session,
+    kernels: &[KernelFile],
+) -> Result<(), Stop> {
+    for kernel in kernels {
+        judge_kernel_file(rt, session, kernel)?;
+        report_unread(rt, words, session);
+    }
+    write_files(rt, words, session)
+}
+
+/// Writes the files that are named where the output can't be written: the remaining kernels are judged first.
+fn write_without_output(
+    rt: &HostRuntime,
+    words: &CheckWords,
+    session: &mut Session,
+    kernels: &[KernelFile],
+) -> Result<(), Stop> {
+    if !words.has_files() {
+        return Ok(());
+    }
+    let rest = kernels.get(session.kernels.len()..).unwrap_or(&[]);
+    write_files_alone(rt, words, session, rest)
 }
 
 /// Judges the programs over these kernels, writes the findings, and gives the status.
@@ -241,9 +317,14 @@ fn check_files(
     kernels: &[KernelFile],
 ) -> Result<u8, Stop> {
     let mut out = BufWriter::new(rt.alloc(), rt.stdout())?;
-    judge_kernels(rt, words, session, kernels, &mut out)?;
-    write_output(words, session, &mut out)?;
-    write_matrix(rt, words, session, &mut out)?;
+    match judge_kernels(rt, words, session, kernels, &mut out) {
+        Ok(()) => write_all(rt, words, session, &mut out)?,
+        Err(Stop::Output(error)) => {
+            write_without_output(rt, words, session, kernels)?;
+            return Err(Stop::Output(error));
+        }
+        Err(stop) => return Err(stop),
+    }
     Ok(session.status())
 }
 

@@ -1,6 +1,17 @@
--- Texts from files in the syntax of each format: none ends the string that it is in, and none holds
--- a character that a terminal obeys.
-use Rattle.std.specs.Prelude.{ℕ, ◌/◌, ◌%◌, Bool, ◌||◌, ◌==◌, if◌then◌else◌}
+-- Texts from files in the syntax of each format, character by character.
+--
+-- By these definitions no character ends the string that it is in, and none that a terminal obeys
+-- is left. Both are seen by reading each case, and tested with hostile names (tests/look.py).
+--
+-- Worked examples, of the character U+202E, which turns the direction of a line, of `[` and of `]`
+-- (those that are escaped are computed in proofs/Examples.antt, but for `]` and `#91;`):
+--
+--     HTML       \xe2\x80\xae             [        ]
+--     JSON       \\xe2\\x80\\xae          [        ]
+--     SARIF      \\\\xe2\\\\x80\\\\xae    \\[      \\]
+--     Mermaid    #92;xe2#92;x80#92;xae    #91;     #93;
+--     a path     %E2%80%AE                %5B      %5D
+use Rattle.std.specs.Prelude.{ℕ, ◌+◌, ◌/◌, ◌%◌, nat_lt, Bool, ◌||◌, ◌==◌, if◌then◌else◌}
 use Rattle.std.specs.Prelude.{List, [], ◌∷◌, ◌++◌, codes}
 use Rattle.std.specs.Char.{digit_char, encode_utf8}
 use Rattle.std.specs.Fmt.{decimal}
@@ -8,7 +19,7 @@ use Rattle.std.specs.List.{flat_map}
 use Rattle.std.specs.Str.{chars}
 use Rattle.cli_common.specs.Shown.{is_within, speaks}
 use Rattle.cli_formats.specs.declared.escape.Syntax.{Syntax}
-use Rattle.cli_formats.specs.declared.escape.Syntax.TheVariants.{Html, Json, Dot, Mermaid}
+use Rattle.cli_formats.specs.declared.escape.Syntax.TheVariants.{Html, Json, Sarif, Dot, Mermaid}
 use Rattle.cli_formats.specs.declared.escape.Syntax.TheVariants.{Message, Property, Path}
 
 -- a sign, and the two digits of a byte, of base 16
@@ -52,6 +63,22 @@ json_char c =
     else if c == 38 then codes "\\u0026"
     else visible_char two_backslashes c
 
+-- `\\\\x`, which a string of JSON reads as `\\x`, and a message of SARIF reads that as `\x`
+abbrev pub four_backslashes : List ℕ
+four_backslashes = 92 ∷ 92 ∷ 92 ∷ 92 ∷ 120 ∷ []
+
+-- In a message of SARIF (2.1.0, 3.11.5 and 3.11.6), in a string of JSON: `{0}` is a placeholder and
+-- `[text](target)` a link, so braces are doubled, and brackets and backslashes are behind a
+-- backslash.
+abbrev pub sarif_char : ℕ → List ℕ
+sarif_char c =
+    if c == 123 then codes "{{"
+    else if c == 125 then codes "}}"
+    else if c == 91 then codes "\\\\["
+    else if c == 93 then codes "\\\\]"
+    else if (c == 92) || speaks c then bytes_behind four_backslashes c
+    else json_char c
+
 -- in a label in quotes of Graphviz, which reads escapes and HTML's character references
 abbrev pub dot_char : ℕ → List ℕ
 dot_char c =
@@ -61,17 +88,15 @@ dot_char c =
     else if c == 34 then codes "&quot;"
     else visible_char two_backslashes c
 
--- Whether Mermaid, or the Markdown in its labels, reads a character as more than itself:
--- `"`, `#`, `&`, `'`, `*`, `:`, `;`, `<`, `>`, `_`, the backquote and `~`.
+-- Whether Mermaid, the Markdown or the mathematics in its labels may read a character as more than
+-- itself: each of ASCII that is seen, but letters, digits and the backslash, which is a byte below.
 abbrev pub is_read_by_mermaid : ℕ → Bool
 is_read_by_mermaid c =
-    is_within 34 35 c
-    || is_within 38 39 c
-    || (c == 42)
-    || is_within 58 60 c
-    || (c == 62)
-    || is_within 95 96 c
-    || (c == 126)
+    is_within 33 47 c
+    || is_within 58 64 c
+    || (c == 91)
+    || is_within 93 96 c
+    || is_within 123 126 c
 
 -- in a label in quotes of Mermaid: `#N;` is the character of the number N
 abbrev pub mermaid_char : ℕ → List ℕ
@@ -90,6 +115,18 @@ property_char c =
     else if c == 44 then codes "%2C"
     else message_char c
 
+-- the character that writes a digit below 16, with upper-case letters
+abbrev pub upper_digit : ℕ → ℕ
+upper_digit d = if nat_lt d 10 then 48 + d else 55 + d
+
+-- `%`, and the two digits of a byte (RFC 3986, 'Percent-Encoding': upper case)
+abbrev pub percent_byte : ℕ → List ℕ
+percent_byte b = 37 ∷ upper_digit (b / 16) ∷ upper_digit (b % 16) ∷ []
+
+-- the bytes of a character's UTF-8, `%NN` each
+abbrev pub percent_bytes : ℕ → List ℕ
+percent_bytes c = flat_map percent_byte (encode_utf8 c)
+
 -- Whether a path has a character as it is: letters, digits and `-./_~` (RFC 3986, 'Unreserved
 -- Characters', and the slash).
 abbrev pub is_plain_in_paths : ℕ → Bool
@@ -102,12 +139,13 @@ is_plain_in_paths c =
 
 -- in a path of a URI, where other characters are the bytes of their UTF-8, `%NN` each
 abbrev pub path_char : ℕ → List ℕ
-path_char c = if is_plain_in_paths c then encode_utf8 c else bytes_behind (codes "%") c
+path_char c = if is_plain_in_paths c then encode_utf8 c else percent_bytes c
 
 -- a character in a syntax
 abbrev pub char_in : Syntax → ℕ → List ℕ
 char_in Html c = html_char c
 char_in Json c = json_char c
+char_in Sarif c = sarif_char c
 char_in Dot c = dot_char c
 char_in Mermaid c = mermaid_char c
 char_in Message c = message_char c

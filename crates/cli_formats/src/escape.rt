@@ -6,8 +6,9 @@ ghost use Rattle.std.specs.Fmt.{WritesOnOk};
 ghost use Rattle.std.specs.List.{flat_map};
 ghost use Rattle.cli_formats.specs.Escapes.{byte_behind, bytes_behind, char_in, dot_char};
 ghost use Rattle.cli_formats.specs.Escapes.{html_char, is_plain_in_paths, is_read_by_mermaid};
-ghost use Rattle.cli_formats.specs.Escapes.{json_char, mermaid_char, message_char};
-ghost use Rattle.cli_formats.specs.Escapes.{path_char, property_char, text_in, visible_char};
+ghost use Rattle.cli_formats.specs.Escapes.{json_char, mermaid_char, message_char, path_char};
+ghost use Rattle.cli_formats.specs.Escapes.{percent_byte, percent_bytes, property_char};
+ghost use Rattle.cli_formats.specs.Escapes.{sarif_char, text_in, upper_digit, visible_char};
 
 use cli_common::names::speaks;
 use std::fmt;
@@ -19,6 +20,8 @@ pub enum Syntax {
     Html,
     /// A string of JSON, also within `<script>`.
     Json,
+    /// A message of SARIF, in a string of JSON.
+    Sarif,
     /// A label in quotes of Graphviz.
     Dot,
     /// A label in quotes of Mermaid.
@@ -41,13 +44,13 @@ pub struct Escaped<'a> {
     pub text: &'a str,
 }
 
-/// Whether Mermaid reads a character as more than itself.
+/// Whether Mermaid, Markdown or mathematics in a label may read a character as more than itself.
 fn is_read_by_mermaid(c: char) -> bool
     ensures { result ≡ is_read_by_mermaid c }
 {
     matches!(
         c,
-        '"'..='#' | '&'..='\'' | '*' | ':'..='<' | '>' | '_'..='`' | '~'
+        '!'..='/' | ':'..='@' | '[' | ']'..='`' | '{'..='~'
     )
 }
 
@@ -67,6 +70,18 @@ fn hex_digit(value: u8) -> char
         char::from(b'0' + value)
     } else {
         char::from(b'a' + (value - 10))
+    }
+}
+
+/// The character of a digit below 16, with upper-case letters.
+fn upper_digit(value: u8) -> char
+    requires { value < 16 }
+    ensures { result ≡ upper_digit value }
+{
+    if value < 10 {
+        char::from(b'0' + value)
+    } else {
+        char::from(b'A' + (value - 10))
     }
 }
 
@@ -96,6 +111,33 @@ fn write_coded<W: fmt::Write>(f: &mut fmt::Formatter<W>, sign: &str, c: char) ->
 {
     let mut bytes = [0; 4];
     write_bytes(f, sign, c.encode_utf8(&mut bytes).as_bytes())
+}
+
+/// Writes a byte as `%NN`.
+fn write_percent_byte<W: fmt::Write>(f: &mut fmt::Formatter<W>, byte: u8) -> fmt::Result
+    ensures { WritesOnOk W.write_str_gives f.old result (percent_byte byte) f.new }
+{
+    f.write_str("%")?;
+    f.write_char(upper_digit(byte / 16))?;
+    f.write_char(upper_digit(byte % 16))
+}
+
+/// Writes bytes as `%NN` each.
+fn write_percent_bytes<W: fmt::Write>(f: &mut fmt::Formatter<W>, bytes: &[u8]) -> fmt::Result
+    ensures { WritesOnOk W.write_str_gives f.old result (flat_map percent_byte bytes.now) f.new }
+{
+    for byte in bytes {
+        write_percent_byte(f, *byte)?;
+    }
+    Ok(())
+}
+
+/// Writes the bytes of a character's UTF-8, `%NN` each.
+fn write_percent_coded<W: fmt::Write>(f: &mut fmt::Formatter<W>, c: char) -> fmt::Result
+    ensures { WritesOnOk W.write_str_gives f.old result (percent_bytes c) f.new }
+{
+    let mut bytes = [0; 4];
+    write_percent_bytes(f, c.encode_utf8(&mut bytes).as_bytes())
 }
 
 /// Writes a character, or its bytes behind a sign where a terminal obeys it or it is a backslash.
@@ -132,6 +174,20 @@ fn write_json<W: fmt::Write>(f: &mut fmt::Formatter<W>, c: char) -> fmt::Result
         '>' => f.write_str("\\u003e"),
         '&' => f.write_str("\\u0026"),
         _ => write_visible(f, "\\\\x", c),
+    }
+}
+
+/// Writes a character in a message of SARIF.
+fn write_sarif<W: fmt::Write>(f: &mut fmt::Formatter<W>, c: char) -> fmt::Result
+    ensures { WritesOnOk W.write_str_gives f.old result (sarif_char c) f.new }
+{
+    match c {
+        '{' => f.write_str("{{"),
+        '}' => f.write_str("}}"),
+        '[' => f.write_str("\\\\["),
+        ']' => f.write_str("\\\\]"),
+        _ if c == '\\' || speaks(c) => write_coded(f, "\\\\\\\\x", c),
+        _ => write_json(f, c),
     }
 }
 
@@ -187,7 +243,7 @@ fn write_path<W: fmt::Write>(f: &mut fmt::Formatter<W>, c: char) -> fmt::Result
     if is_plain_in_paths(c) {
         return f.write_char(c);
     }
-    write_coded(f, "%", c)
+    write_percent_coded(f, c)
 }
 
 /// Writes a character in a syntax.
@@ -197,6 +253,7 @@ fn write_char_in<W: fmt::Write>(f: &mut fmt::Formatter<W>, syntax: Syntax, c: ch
     match syntax {
         Syntax::Html => write_html(f, c),
         Syntax::Json => write_json(f, c),
+        Syntax::Sarif => write_sarif(f, c),
         Syntax::Dot => write_dot(f, c),
         Syntax::Mermaid => write_mermaid(f, c),
         Syntax::Message => write_message(f, c),

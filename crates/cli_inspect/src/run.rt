@@ -28,7 +28,7 @@ pub struct InspectWords {
 
 /// The parts of a prepared object that are printed.
 #[derive(Drop)]
-struct Told {
+struct InspectedObject {
     /// The object as it was parsed.
     parsed: Object,
     /// Its programs.
@@ -37,10 +37,10 @@ struct Told {
     link_maps: Items<LinkMap>,
 }
 
-impl Told {
-    /// What is told of an object. The rest is let go first, since telling takes as much memory as the object after all
-    /// passes.
-    fn of(prepared: Prepared) -> Told {
+impl InspectedObject {
+    /// The parts of an object that are printed. The rest is dropped first: to print takes as much memory as the object
+    /// after all passes.
+    fn of(prepared: Prepared) -> InspectedObject {
         let Prepared {
             parsed,
             object,
@@ -50,7 +50,7 @@ impl Told {
         } = prepared;
         drop(object);
         drop(records);
-        Told {
+        InspectedObject {
             parsed,
             programs,
             link_maps,
@@ -92,32 +92,36 @@ fn write_graph(
     Ok(())
 }
 
-/// Tells what the programs of an object are made of; `uses` has what its functions use.
-fn tell_parts(
+/// Writes the parts of an object's programs, or their graph; `uses` has what its functions use.
+fn write_programs(
     rt: &HostRuntime,
     words: &InspectWords,
-    told: &Told,
+    object: &InspectedObject,
     uses: &FunctionUses,
 ) -> Result<(), Stop> {
-    let maps = told.link_maps.as_slice();
-    let programs = all_parts(rt.alloc(), uses, &told.programs, maps)?;
+    let maps = object.link_maps.as_slice();
+    let programs = all_parts(rt.alloc(), uses, &object.programs, maps)?;
     match words.graph {
         Some(language) => write_graph(rt, language, uses, &programs),
-        None => write_parts(rt, words, &told.parsed, &programs),
+        None => write_parts(rt, words, &object.parsed, &programs),
     }
 }
 
-/// Tells what the programs of an object are made of, as text, as JSON or as a graph.
-fn tell(rt: &HostRuntime, words: &InspectWords, told: &Told) -> Result<(), Stop> {
-    let uses = FunctionUses::of(rt.alloc(), &told.parsed)?;
-    tell_parts(rt, words, told, &uses)
+/// Writes the parts of an object's programs, as text, as JSON or as a graph.
+fn write_object(
+    rt: &HostRuntime,
+    words: &InspectWords,
+    object: &InspectedObject,
+) -> Result<(), Stop> {
+    let uses = FunctionUses::of(rt.alloc(), &object.parsed)?;
+    write_programs(rt, words, object, &uses)
 }
 
 /// Runs `ebpf inspect`, and returns the status.
 pub fn inspect(rt: &HostRuntime, words: &InspectWords) -> Result<u8, Stop> {
-    let told = Told::of(prepare_file(rt, &words.prepare)?);
-    let done = tell(rt, words, &told);
-    drop(told);
+    let object = InspectedObject::of(prepare_file(rt, &words.prepare)?);
+    let done = write_object(rt, words, &object);
+    drop(object);
     done?;
     Ok(0)
 }

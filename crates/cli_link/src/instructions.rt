@@ -1,6 +1,5 @@
 //! Slots as instructions.
 
-use crate::disassembly::{Operation, decode};
 use crate::linked::{ShownProgram, ShownSlot};
 use crate::notes::Note;
 use crate::origins::Origins;
@@ -8,6 +7,7 @@ use crate::record_words::RecordTeller;
 use cli_common::names::{EscapedName, last_part};
 use cli_common::refuse::Stop;
 use cli_common::source_lines::LineNumber;
+use cli_instructions::{Operation, decode};
 use ebpf_btf::Btf;
 use ebpf_reloc::CodeCopy;
 use std::io::{self, Write};

@@ -2,7 +2,6 @@
 #![tactic(auto)]
 
 mod bytes;
-mod disassembly;
 mod instructions;
 mod linked;
 mod names;

@@ -2,11 +2,12 @@
 
 use crate::json::write_json;
 use crate::layout::ListedLayout;
-use crate::listing::{ObjectContents, layouts_of, listing_of, wanted_by};
+use crate::listing::{ObjectContents, ObjectListing, layouts_of, listing_of, wanted_by};
 use crate::page::write_page;
 use crate::text::write_listing;
 use cli_common::object_file::{parsed_object, read_object};
 use cli_common::refuse::Stop;
+use cli_output::files::first_failure;
 use cli_output::palette::{ColorChoice, Palette};
 use ebpf_base::{Items, Text};
 use ebpf_object::Object;
@@ -27,28 +28,48 @@ pub struct ListWords {
     pub html: Option<Text>,
 }
 
-/// Prints the contents of an object, as text or as JSON, and writes its page.
-fn tell(
+/// Prints the contents of an object, as text or as JSON.
+fn write_output(
+    rt: &HostRuntime,
+    words: &ListWords,
+    listing: &ObjectListing<'_>,
+) -> Result<(), Stop> {
+    let alloc = rt.alloc();
+    let mut out = BufWriter::new(alloc, rt.stdout())?;
+    if words.json {
+        write_json(&mut out, words.file.as_str(), listing)?;
+    } else {
+        let palette = Palette::of(rt, words.color);
+        write_listing(alloc, &mut out, palette, words.file.as_str(), listing)?;
+    }
+    out.flush()?;
+    Ok(())
+}
+
+/// Writes the page of an object, where a file for it is named.
+fn write_page_file(
+    rt: &HostRuntime,
+    words: &ListWords,
+    listing: &ObjectListing<'_>,
+) -> Result<(), Stop> {
+    match &words.html {
+        Some(path) => write_page(rt, path.as_str(), words.file.as_str(), listing),
+        None => Ok(()),
+    }
+}
+
+/// Writes the page of an object and prints its contents; each is tried. Returns the first failure.
+fn write_contents(
     rt: &HostRuntime,
     words: &ListWords,
     object: &Object,
     wanted: &ObjectContents,
     layouts: &Items<ListedLayout>,
 ) -> Result<(), Stop> {
-    let alloc = rt.alloc();
-    let listing = listing_of(alloc, object, wanted, layouts)?;
-    let mut out = BufWriter::new(alloc, rt.stdout())?;
-    if words.json {
-        write_json(&mut out, words.file.as_str(), &listing)?;
-    } else {
-        let palette = Palette::of(rt, words.color);
-        write_listing(alloc, &mut out, palette, words.file.as_str(), &listing)?;
-    }
-    out.flush()?;
-    match &words.html {
-        Some(path) => write_page(rt, path.as_str(), words.file.as_str(), &listing),
-        None => Ok(()),
-    }
+    let listing = listing_of(rt.alloc(), object, wanted, layouts)?;
+    let page = write_page_file(rt, words, &listing);
+    let output = write_output(rt, words, &listing);
+    first_failure(page, output)
 }
 
 /// Prints the contents of an object, and writes its externs meanwhile.
@@ -61,7 +82,7 @@ fn list_object(
     let alloc = rt.alloc();
     let wanted = wanted_by(alloc, file, object)?;
     let layouts = layouts_of(alloc, object, &wanted)?;
-    tell(rt, words, object, &wanted, &layouts)
+    write_contents(rt, words, object, &wanted, &layouts)
 }
 
 /// Prints the contents of the object in a file's bytes.

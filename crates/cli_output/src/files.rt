@@ -1,21 +1,10 @@
 //! Files that a command writes.
 
+use crate::whole_file::write_whole_by;
 use cli_common::names::EscapedName;
 use cli_common::refuse::Stop;
-use std::fs::{self, File};
-use std::io::{self, BufWriter, ErrorKind, Write};
-
-/// Writes a file, in place of what it had; the closure writes its bytes.
-fn write_bytes<F>(rt: &HostRuntime, path: &str, write: F) -> io::Result<()>
-where
-    F: FnOnce(&mut BufWriter<File>) -> io::Result<()> + Drop,
-    requires { F.IsAlwaysCallable write }
-{
-    let file = fs::create(rt, path)?;
-    let mut out = BufWriter::new(rt.alloc(), file)?;
-    write(&mut out)?;
-    out.flush()
-}
+use std::fs::File;
+use std::io::{self, BufWriter, ErrorKind};
 
 /// Reports a file that can't be written. Returns the reason to stop, with the status.
 fn unwritten(rt: &HostRuntime, path: &str, error: io::Error) -> Stop {
@@ -27,14 +16,22 @@ fn unwritten(rt: &HostRuntime, path: &str, error: io::Error) -> Stop {
     Stop::Told(2)
 }
 
-/// Writes a file, in place of what it had; the closure writes its bytes. A file that can't be written is reported.
+/// Writes a file whole or not at all; the closure writes its bytes. A file that can't be written is reported.
 pub fn write_file<F>(rt: &HostRuntime, path: &str, write: F) -> Result<(), Stop>
 where
     F: FnOnce(&mut BufWriter<File>) -> io::Result<()> + Drop,
     requires { F.IsAlwaysCallable write }
 {
-    match write_bytes(rt, path, write) {
+    match write_whole_by(rt, path, write) {
         Ok(()) => Ok(()),
         Err(error) => Err(unwritten(rt, path, error)),
+    }
+}
+
+/// Returns the first failure of two.
+pub fn first_failure(first: Result<(), Stop>, second: Result<(), Stop>) -> Result<(), Stop> {
+    match first {
+        Ok(()) => second,
+        Err(stop) => Err(stop),
     }
 }

@@ -4,3 +4,4 @@
 pub mod files;
 pub mod palette;
 pub mod progress;
+pub mod whole_file;

@@ -1,6 +1,6 @@
 //! The data of a page, as JSON: each reason is written once, and kernels are numbers.
 
-use crate::matrix::{CellVerdict, Matrix, MatrixKernel, Reason, ReasonPlace};
+use crate::matrix::{CellVerdict, Matrix, MatrixKernel, Reason, ReasonLocation};
 use cli_formats::escape::{Escaped, Syntax};
 use std::io::{self, Write};
 
@@ -94,23 +94,28 @@ fn write_numbered<W: Write>(out: &mut W, numbered: Option<(&str, u64)>) -> io::R
     }
 }
 
-/// Writes a place: program, slot, function and its slot, file and line, kernels.
-fn write_place<W: Write>(out: &mut W, place: &ReasonPlace<'_>) -> io::Result<()> {
-    let program = place.program;
+/// Writes a location: program, slot, instruction, function and its slot, file and line, kernels.
+fn write_location<W: Write>(out: &mut W, location: &ReasonLocation<'_>) -> io::Result<()> {
+    let program = location.program;
     write!(out, "[{program},")?;
-    match place.slot {
+    match location.slot {
         Some(slot) => write!(out, "{slot},")?,
         None => write!(out, "null,")?,
     }
-    let within = place.within.map(|(name, slot)| (name, slot as u64));
+    match location.instruction {
+        Some(text) => write_string(out, text)?,
+        None => write!(out, "null")?,
+    }
+    write!(out, ",")?;
+    let within = location.within.map(|(name, slot)| (name, slot as u64));
     write_numbered(out, within)?;
-    let line = place.line.map(|(file, line)| (file, u64::from(line)));
+    let line = location.line.map(|(file, line)| (file, u64::from(line)));
     write_numbered(out, line)?;
-    write_runs(out, place.kernels)?;
+    write_runs(out, location.kernels)?;
     write!(out, "]")
 }
 
-/// Writes a reason: whether programs break, subject, kinds, outcome, kernels, places.
+/// Writes a reason: whether programs break, subject, kinds, outcome, kernels, locations.
 fn write_reason<W: Write>(out: &mut W, reason: &Reason<'_>) -> io::Result<()> {
     let breaks = reason.breaks;
     write!(out, "\n[{breaks},")?;
@@ -122,9 +127,9 @@ fn write_reason<W: Write>(out: &mut W, reason: &Reason<'_>) -> io::Result<()> {
     write!(out, ",")?;
     write_runs(out, reason.kernels)?;
     write!(out, ",[")?;
-    for (number, place) in reason.places.iter().enumerate() {
+    for (number, location) in reason.locations.iter().enumerate() {
         write_comma(out, number)?;
-        write_place(out, place)?;
+        write_location(out, location)?;
     }
     write!(out, "]]")
 }

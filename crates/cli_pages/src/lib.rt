@@ -12,4 +12,5 @@ pub mod page;
 mod page_script;
 mod page_style;
 pub mod sarif;
+mod source_path;
 pub mod tables;

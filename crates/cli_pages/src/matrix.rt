@@ -22,13 +22,15 @@ pub struct MatrixKernel<'a> {
     pub verdicts: Vec<CellVerdict>,
 }
 
-/// A place of a reason in a linked program.
+/// The location of a reason in a linked program.
 #[derive(Clone, Copy)]
-pub struct ReasonPlace<'a> {
+pub struct ReasonLocation<'a> {
     /// The number of the program.
     pub program: usize,
     /// The slot; none where the reason is about the whole program.
     pub slot: Option<usize>,
+    /// The instruction of the slot as the object has it, before relocations.
+    pub instruction: Option<&'a str>,
     /// The function that the slot was copied from, and the slot in it, where it is not the program's own.
     pub within: Option<(&'a str, usize)>,
     /// The source line.
@@ -50,13 +52,15 @@ pub struct Reason<'a> {
     pub outcome: &'a str,
     /// The numbers of the kernels, in ascending order.
     pub kernels: &'a [usize],
-    /// The places; none where the reason is about all programs.
-    pub places: Vec<ReasonPlace<'a>>,
+    /// The locations; none where the reason is about all programs.
+    pub locations: Vec<ReasonLocation<'a>>,
 }
 
 /// The verdicts of kernels on programs.
 #[derive(Drop)]
 pub struct Matrix<'a> {
+    /// The version of the program.
+    pub version: &'static str,
     /// The name of the object's file.
     pub file: &'a str,
     /// The names of the programs.

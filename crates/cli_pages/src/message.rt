@@ -1,6 +1,6 @@
 //! The message of a reason, for reports that have a line for each.
 
-use crate::matrix::{Matrix, Reason, ReasonPlace};
+use crate::matrix::{Matrix, Reason, ReasonLocation};
 use cli_formats::escape::{Escaped, Syntax};
 use std::io::{self, Write};
 
@@ -24,21 +24,21 @@ fn write_subject<W: Write>(out: &mut W, syntax: Syntax, reason: &Reason<'_>) -> 
     write!(out, "{outcome}")
 }
 
-/// Writes the program of a place, its slot and the function that the slot was copied from.
-fn write_place<W: Write>(
+/// Writes the program of a location, its slot and the function that the slot was copied from.
+fn write_location<W: Write>(
     out: &mut W,
     syntax: Syntax,
     matrix: &Matrix<'_>,
-    place: &ReasonPlace<'_>,
+    location: &ReasonLocation<'_>,
 ) -> io::Result<()> {
-    if let Some(text) = matrix.programs.get(place.program).copied() {
+    if let Some(text) = matrix.programs.get(location.program).copied() {
         let name = Escaped { syntax, text };
         write!(out, "; program {name}")?;
     }
-    if let Some(slot) = place.slot {
+    if let Some(slot) = location.slot {
         write!(out, " slot {slot}")?;
     }
-    if let Some((text, slot)) = place.within {
+    if let Some((text, slot)) = location.within {
         let name = Escaped { syntax, text };
         write!(out, " ({name}+{slot})")?;
     }
@@ -62,9 +62,9 @@ fn kernel_name<'a>(matrix: &Matrix<'a>, number: usize) -> &'a str {
     }
 }
 
-/// The sign before the name of a kernel, by its place among those that are named.
-fn sign_before(place: usize) -> &'static str {
-    if place == 0 { ": " } else { ", " }
+/// The sign before the name of a kernel, by its number among those that are named.
+fn sign_before(number: usize) -> &'static str {
+    if number == 0 { ": " } else { ", " }
 }
 
 /// Writes the number of kernels, and the names of the first three.
@@ -77,12 +77,12 @@ fn write_kernels<W: Write>(
     let count = kernels.len();
     let judged = judged(matrix);
     write!(out, "; on {count} of {judged} kernels")?;
-    for (place, number) in kernels.iter().take(NAMED).enumerate() {
+    for (named, number) in kernels.iter().take(NAMED).enumerate() {
         let name = Escaped {
             syntax,
             text: kernel_name(matrix, *number),
         };
-        let sign = sign_before(place);
+        let sign = sign_before(named);
         write!(out, "{sign}{name}")?;
     }
     if count > NAMED {
@@ -92,24 +92,39 @@ fn write_kernels<W: Write>(
     Ok(())
 }
 
-/// Writes the message of a reason at one of its places, or about all programs: the subject and the outcome, the place,
-/// and the kernels.
+/// Writes the message of a reason at one of its locations, or about all programs: the subject and the outcome, the
+/// location, and the kernels.
 pub fn write_message<W: Write>(
     out: &mut W,
     syntax: Syntax,
     matrix: &Matrix<'_>,
     reason: &Reason<'_>,
-    place: Option<&ReasonPlace<'_>>,
+    location: Option<&ReasonLocation<'_>>,
 ) -> io::Result<()> {
     write_subject(out, syntax, reason)?;
-    match place {
-        Some(place) => {
-            write_place(out, syntax, matrix, place)?;
-            write_kernels(out, syntax, matrix, place.kernels)
+    match location {
+        Some(location) => {
+            write_location(out, syntax, matrix, location)?;
+            write_kernels(out, syntax, matrix, location.kernels)
         }
         None => {
             write!(out, "; all programs")?;
             write_kernels(out, syntax, matrix, reason.kernels)
         }
     }
+}
+
+/// Writes the message on a kernel whose types can't be read: its name and the reason.
+pub fn write_unread<W: Write>(
+    out: &mut W,
+    syntax: Syntax,
+    name: &str,
+    fault: &str,
+) -> io::Result<()> {
+    let name = Escaped { syntax, text: name };
+    let fault = Escaped {
+        syntax,
+        text: fault,
+    };
+    write!(out, "kernel {name} can't be read: {fault}")
 }

@@ -13,10 +13,10 @@ const BODY: &str = "
 <label>Program <select id='program'><option value=''>all</option></select></label>
 <label>Reason <select id='reason'><option value=''>any</option></select></label>
 <label>Kernel <input id='kernel' type='search' placeholder='part of a name'></label>
-<label>Not ok alone <input id='failing' type='checkbox'></label>
+<label>Only not ok <input id='failing' type='checkbox'></label>
 <output id='shown' aria-live='polite'></output>
 </form>
-<p id='keys'>Arrow keys, Home and End move in the table. Enter shows the reasons of a cell.</p>
+<p id='keys'>Arrow keys, Page Up, Page Down, Home and End move in the table. Enter shows the reasons of a cell.</p>
 <div id='frame'>
 <table id='matrix' role='grid' aria-label='Programs by kernels'>
 <thead id='head'></thead>
@@ -57,11 +57,11 @@ fn write_heading<W: Write>(out: &mut W, matrix: &Matrix<'_>) -> io::Result<()> {
     write_text(out, matrix.file)?;
     write!(
         out,
-        "</h1>\n<p id='summary'>{programs} programs, {kernels} kernels. "
+        "</h1>\n<p id='summary'>Programs: {programs}. Kernels: {kernels}. "
     )?;
     writeln!(
         out,
-        "Some program breaks on {broken} kernels. {unread} kernels are unread.</p>"
+        "Kernels on which a program breaks: {broken}. Unread kernels: {unread}.</p>"
     )
 }
 

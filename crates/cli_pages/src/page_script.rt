@@ -24,31 +24,32 @@ const count = runs => {
 const judged = kernels.filter(kernel => kernel[1] !== null).length;
 const letter = (kernel, program) => kernels[kernel][1] === null ? 'u' : kernels[kernel][1][program];
 const title = ([, subject, kinds, outcome]) => [subject, ...kinds.map(kind => `<${kind}>`), outcome].join('  ');
-const placeText = ([program, slot, within, start, file, line]) => [
+const locationText = ([program, slot, instruction, within, start, file, line]) => [
   programs[program],
-  slot === null ? '' : `slot ${slot}`,
+  slot === null ? '' : `slot ${slot}${instruction === null ? '' : `: ${instruction}`}`,
   within === null ? '' : `(${within}+${start})`,
-  file === null ? '' : `${file.split('/').pop()}:${line}`,
+  file === null ? '' : `${file}:${line}`,
 ].filter(Boolean).join('  ');
 const reasonsOf = (kernel, program) => reasons
   .filter(reason => has(reason[4], kernel))
-  .map(reason => [reason, reason[5].filter(place => place[0] === program && has(place[6], kernel))])
-  .filter(([reason, places]) => places.length || !reason[5].length);
-const reasonItem = (reason, places, more) => {
+  .map(reason => [reason, reason[5].filter(location => location[0] === program && has(location[7], kernel))])
+  .filter(([reason, locations]) => locations.length || !reason[5].length);
+const reasonItem = (reason, locations, more) => {
   const item = make('li');
   item.append(make('code', title(reason)), more);
   const list = make('ul');
-  for (const place of places) list.append(make('li', placeText(place)));
-  if (places.length) item.append(list);
+  for (const location of locations) list.append(make('li', locationText(location)));
+  if (locations.length) item.append(list);
   return item;
 };
 const show = (kernel, program) => {
   const cell = byId('cell');
+  if (!programs.length) return cell.replaceChildren(make('p', 'No programs.'));
   const word = WORDS[letter(kernel, program)];
   cell.replaceChildren(make('h2', `${programs[program]} on ${kernels[kernel][0]}: ${word}`));
   if (word === 'unread') return cell.append(make('p', kernels[kernel][2]));
   const list = make('ul');
-  for (const [reason, places] of reasonsOf(kernel, program)) list.append(reasonItem(reason, places, ''));
+  for (const [reason, locations] of reasonsOf(kernel, program)) list.append(reasonItem(reason, locations, ''));
   cell.append(list.children.length ? list : make('p', 'No reason to break.'));
 };
 ";
@@ -85,19 +86,21 @@ programs.forEach((name, program) => option('program', name, program));
 reasons.forEach((reason, number) => option('reason', title(reason), number));
 reasons.forEach(reason => byId('list').append(
   reasonItem(reason, reason[5], `  on ${count(reason[4])} of ${judged} kernels${reason[5].length ? '' : ', all programs'}`)));
+const PAGE = 20;
 let current = [0, 0];
-const cellAt = ([kernel, program]) => rows[kernel]?.children[program + 1];
-const enter = place => {
-  const cell = cellAt(place);
+const cellAt = ([kernel, program]) => program < 0 ? undefined : rows[kernel]?.children[program + 1];
+const enter = to => {
+  const cell = cellAt(to);
   if (!cell) return;
   cellAt(current).tabIndex = -1;
-  current = place;
+  current = to;
   cell.tabIndex = 0;
   cell.focus();
 };
-const step = (from, by, size, isShown) => {
-  for (let at = from + by; at >= 0 && at < size; at += by) if (isShown(at)) return at;
-  return from;
+const step = (from, by, size, isShown, times = 1) => {
+  let found = from;
+  for (let at = from + by; at >= 0 && at < size && times > 0; at += by) if (isShown(at)) { found = at; times -= 1; }
+  return found;
 };
 const isRow = kernel => !rows[kernel].hidden;
 const isColumn = program => !head.children[program + 1].hidden;
@@ -105,10 +108,12 @@ const filter = () => {
   const program = byId('program').value, reason = byId('reason').value;
   const text = byId('kernel').value.toLowerCase(), failing = byId('failing').checked;
   const wanted = programs.map((_, number) => program === '' || Number(program) === number);
+  const isOf = kernel => reason === '' || (has(reasons[reason][4], kernel) && (program === ''
+    || reasonsOf(kernel, Number(program)).some(([found]) => found === reasons[reason])));
   let shown = 0;
   rows.forEach((row, kernel) => {
     row.hidden = !kernels[kernel][0].toLowerCase().includes(text)
-      || (reason !== '' && !has(reasons[reason][4], kernel))
+      || !isOf(kernel)
       || (failing && !wanted.some((is, number) => is && letter(kernel, number) !== 'o'));
     if (!row.hidden) shown += 1;
   });
@@ -118,20 +123,24 @@ const filter = () => {
   if (cellAt(current)) cellAt(current).tabIndex = -1;
   if (cellAt(first)) { current = first; cellAt(first).tabIndex = 0; }
 };
-const placeOf = cell => [rows.indexOf(cell.parentNode), [...cell.parentNode.children].indexOf(cell) - 1];
+if (!programs.length) byId('cell').replaceChildren(make('p', 'No programs.'));
+const positionOf = cell => [rows.indexOf(cell.parentNode), [...cell.parentNode.children].indexOf(cell) - 1];
 byId('matrix').addEventListener('click', event => {
   const cell = event.target.closest('td');
   if (!cell) return;
-  enter(placeOf(cell));
+  enter(positionOf(cell));
   show(...current);
 });
 byId('matrix').addEventListener('keydown', event => {
+  if (event.altKey || event.ctrlKey || event.metaKey || !cellAt(current)) return;
   const [kernel, program] = current, [height, width] = [rows.length, programs.length];
   const to = {
     ArrowUp: () => [step(kernel, -1, height, isRow), program],
     ArrowDown: () => [step(kernel, 1, height, isRow), program],
     ArrowLeft: () => [kernel, step(program, -1, width, isColumn)],
     ArrowRight: () => [kernel, step(program, 1, width, isColumn)],
+    PageUp: () => [step(kernel, -1, height, isRow, PAGE), program],
+    PageDown: () => [step(kernel, 1, height, isRow, PAGE), program],
     Home: () => [step(-1, 1, height, isRow), program],
     End: () => [step(height, -1, height, isRow), program],
   }[event.key];

@@ -1,59 +1,101 @@
 //! The reasons for which programs break, in the format of code scanning (SARIF 2.1.0).
 
 use crate::data::write_comma;
-use crate::matrix::{Matrix, Reason, ReasonPlace};
-use crate::message::write_message;
+use crate::matrix::{Matrix, Reason, ReasonLocation};
+use crate::message::{write_message, write_unread};
+use crate::source_path::write_source_path;
 use cli_formats::escape::{Escaped, Syntax};
 use std::io::{self, Write};
 
-/// Writes the start of a log: its version, the tool, and the rule that results name.
-fn write_start<W: Write>(out: &mut W) -> io::Result<()> {
+/// The start of a log, up to the version of the tool.
+const START: &str =
+    "{\"$schema\":\"https://json.schemastore.org/sarif-2.1.0.json\",\"version\":\"2.1.0\",
+\"runs\":[{\"tool\":{\"driver\":{\"name\":\"ebpf check\",\"version\":\"";
+
+/// The rule that results name, behind the version of the tool.
+const RULE: &str = "\",\"rules\":[{\"id\":\"breaks\",
+\"shortDescription\":{\"text\":\"A program breaks on a kernel\"},
+\"fullDescription\":{\"text\":\"A kernel can't load or run a program of an eBPF object file: the program needs something that the kernel lacks.\"},
+\"help\":{\"text\":\"Test with bpf_core_field_exists, bpf_core_type_exists or bpf_core_enum_value_exists whether the kernel has it, or leave the program out on such kernels.\"}}]}},
+";
+
+/// Writes the tool with its rule, and the name of the run.
+fn write_start<W: Write>(out: &mut W, matrix: &Matrix<'_>) -> io::Result<()> {
+    out.write_all(START.as_bytes())?;
+    out.write_all(matrix.version.as_bytes())?;
+    out.write_all(RULE.as_bytes())?;
+    let file = Escaped {
+        syntax: Syntax::Json,
+        text: matrix.file,
+    };
     writeln!(
         out,
-        "{{\"$schema\":\"https://json.schemastore.org/sarif-2.1.0.json\",\"version\":\"2.1.0\","
-    )?;
-    writeln!(
-        out,
-        "\"runs\":[{{\"tool\":{{\"driver\":{{\"name\":\"ebpf check\",\"rules\":[{{\"id\":\"breaks\","
-    )?;
-    writeln!(
-        out,
-        "\"shortDescription\":{{\"text\":\"A program breaks on a kernel\"}}}}]}}}},\"results\":["
+        "\"automationDetails\":{{\"id\":\"ebpf check/{file}/\"}},"
     )
+}
+
+/// Writes a notification on a kernel whose types can't be read.
+fn write_notification<W: Write>(out: &mut W, name: &str, fault: &str) -> io::Result<()> {
+    write!(out, "{{\"level\":\"error\",\"message\":{{\"text\":\"")?;
+    write_unread(out, Syntax::Sarif, name, fault)?;
+    write!(out, "\"}}}}")
+}
+
+/// Writes the notifications on the kernels whose types can't be read.
+fn write_notifications<W: Write>(out: &mut W, matrix: &Matrix<'_>) -> io::Result<()> {
+    let mut written = 0usize;
+    for kernel in matrix.kernels.iter() {
+        let Some(fault) = kernel.fault else {
+            continue;
+        };
+        write_comma(out, written)?;
+        write_notification(out, kernel.name, fault)?;
+        written = written.saturating_add(1);
+    }
+    Ok(())
+}
+
+/// Writes the run of the tool, which is successful if the types of each kernel were read.
+fn write_invocation<W: Write>(out: &mut W, matrix: &Matrix<'_>) -> io::Result<()> {
+    let is_successful = matrix.kernels.iter().all(|kernel| kernel.fault.is_none());
+    write!(
+        out,
+        "\"invocations\":[{{\"executionSuccessful\":{is_successful},\"toolExecutionNotifications\":["
+    )?;
+    write_notifications(out, matrix)?;
+    writeln!(out, "]}}],\n\"results\":[")
 }
 
 /// Writes the location of a source line; line 0 is none.
 fn write_location<W: Write>(out: &mut W, file: &str, line: u32) -> io::Result<()> {
-    let path = Escaped {
-        syntax: Syntax::Path,
-        text: file,
-    };
     write!(
         out,
-        "\"locations\":[{{\"physicalLocation\":{{\"artifactLocation\":{{\"uri\":\"{path}\"}}"
+        "\"locations\":[{{\"physicalLocation\":{{\"artifactLocation\":{{\"uri\":\""
     )?;
+    write_source_path(out, Syntax::Path, "file:///", file)?;
+    write!(out, "\"}}")?;
     if line > 0 {
         write!(out, ",\"region\":{{\"startLine\":{line}}}")?;
     }
     write!(out, "}}}}]")
 }
 
-/// Writes a result: a reason at one of its places, or about all programs. Without a source line it is in the object's
+/// Writes a result: a reason at one of its locations, or about all programs. Without a source line it is in the object's
 /// file.
 fn write_result<W: Write>(
     out: &mut W,
     matrix: &Matrix<'_>,
     reason: &Reason<'_>,
-    place: Option<&ReasonPlace<'_>>,
+    location: Option<&ReasonLocation<'_>>,
 ) -> io::Result<()> {
     write!(
         out,
         "{{\"ruleId\":\"breaks\",\"ruleIndex\":0,\"level\":\"error\",\"message\":{{\"text\":\""
     )?;
-    write_message(out, Syntax::Json, matrix, reason, place)?;
+    write_message(out, Syntax::Sarif, matrix, reason, location)?;
     write!(out, "\"}},")?;
-    let line = match place {
-        Some(place) => place.line,
+    let line = match location {
+        Some(location) => location.line,
         None => None,
     };
     let (file, line) = line.unwrap_or((matrix.file, 0));
@@ -68,23 +110,25 @@ fn write_results<W: Write>(
     reason: &Reason<'_>,
     before: usize,
 ) -> io::Result<usize> {
-    if reason.places.is_empty() {
+    if reason.locations.is_empty() {
         write_comma(out, before)?;
         write_result(out, matrix, reason, None)?;
         return Ok(before.saturating_add(1));
     }
     let mut written = before;
-    for place in reason.places.iter() {
+    for location in reason.locations.iter() {
         write_comma(out, written)?;
-        write_result(out, matrix, reason, Some(place))?;
+        write_result(out, matrix, reason, Some(location))?;
         written = written.saturating_add(1);
     }
     Ok(written)
 }
 
-/// Writes each reason for which programs break, at its source lines, as a log of SARIF 2.1.0.
+/// Writes a log of SARIF 2.1.0: each reason for which programs break, at its source lines, and the kernels whose types
+/// can't be read.
 pub fn write_sarif<W: Write>(out: &mut W, matrix: &Matrix<'_>) -> io::Result<()> {
-    write_start(out)?;
+    write_start(out, matrix)?;
+    write_invocation(out, matrix)?;
     let mut written = 0;
     for reason in matrix.reasons.iter() {
         if !reason.breaks {

@@ -43,7 +43,7 @@ pub fn choice_of(verb: Verb, name: &str) -> Option<Choice> {
         "--html" if matches!(verb, Verb::Check | Verb::List) => Some(Choice::Html),
         "--sarif" if verb == Verb::Check => Some(Choice::Sarif),
         "--format" if verb == Verb::Check => Some(Choice::Format),
-        "--color" => Some(Choice::Color),
+        "--color" if verb != Verb::Btf => Some(Choice::Color),
         "--progress" if verb == Verb::Check => Some(Choice::Progress),
         "--all" if verb == Verb::Check => Some(Choice::All),
         "--strict" if verb == Verb::Check => Some(Choice::Strict),

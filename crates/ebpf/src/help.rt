@@ -34,7 +34,7 @@ fields, types and enumerators that they need and the kernel lacks.
   --strict        exit with 1 also if the kernel has no type of a program's attach target
   --html FILE     write a page with programs by kernels and the reasons to FILE
   --sarif FILE    write what breaks, by source line, to FILE as SARIF 2.1.0
-  --format FORM   print text, json, or github: text, then annotations for GitHub's workflows
+  --format FORM   print text, json, or github: annotations for GitHub's workflows
   -j, --json      print JSON, as --format json
   --color WHEN    use colours: auto (on a terminal, unless NO_COLOR is set), always, never
   --progress      show the progress on standard error, also if that is no terminal

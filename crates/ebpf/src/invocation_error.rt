@@ -45,6 +45,9 @@ pub enum InvocationError<'a> {
     /// A second file is named, of a command that takes one.
     #[error("one FILE, and not {0}")]
     SecondFile(&'a str),
+    /// A file to be written is named a second time.
+    #[error("{0} is read and written, or written twice")]
+    SecondUse(&'a str),
     /// Two options ask for forms of output that exclude each other.
     #[error("one of {0}")]
     SecondForm(&'static str),

@@ -1,6 +1,7 @@
 //! The words of a command line of `ebpf`.
 
 use crate::choices::{Choice, choice_of, has_value};
+use crate::help::VERSION;
 use crate::invocation_error::InvocationError;
 use cli_btf::BtfWords;
 use cli_check::CheckWords;
@@ -246,6 +247,21 @@ impl<'a> Options<'a> {
         }
     }
 
+    /// Refuses a file to be written that is to be read or written otherwise, by its path.
+    fn expect_written_apart(&self) -> Result<(), InvocationError<'a>> {
+        let html = self.value(Choice::Html);
+        let sarif = self.value(Choice::Sarif);
+        for path in self.files.iter().copied().chain(sarif) {
+            if html == Some(path) {
+                return Err(InvocationError::SecondUse(path));
+            }
+        }
+        match sarif {
+            Some(path) if self.files.contains(&path) => Err(InvocationError::SecondUse(path)),
+            _ => Ok(()),
+        }
+    }
+
     /// What `ebpf btf` is asked for.
     fn btf(&self, alloc: Global) -> Result<Invocation, InvocationError<'a>> {
         if self.files.is_empty() {
@@ -267,7 +283,9 @@ impl<'a> Options<'a> {
             return Err(InvocationError::NoFile);
         };
         let form = self.form()?;
+        self.expect_written_apart()?;
         Ok(Invocation::Check(CheckWords {
+            version: VERSION.strip_prefix("ebpf ").unwrap_or(VERSION),
             file: Text::from_str(alloc, file)?,
             object: self.object,
             kernels: texts_of(alloc, kernels)?,
@@ -286,6 +304,7 @@ impl<'a> Options<'a> {
     /// What `ebpf list` is asked for.
     fn list(&self, alloc: Global) -> Result<Invocation, InvocationError<'a>> {
         let file = self.one_file()?;
+        self.expect_written_apart()?;
         Ok(Invocation::List(ListWords {
             file: Text::from_str(alloc, file)?,
             object: self.object,
@@ -418,7 +437,7 @@ fn read_options<'a>(
 /// # Errors
 ///
 /// `NoCommand`, `UnknownCommand`, and of a command the first word that can't be read, in their order, also a second value; `NoValue`
-/// where the last option lacks its value; `NoFile`, `SecondFile`, `SecondForm`, `MissingOption`. `OutOfMemory` where memory is refused.
+/// where the last option lacks its value; `NoFile`, `SecondFile`, `SecondForm`, `SecondUse`, `MissingOption`. `OutOfMemory` where memory is refused.
 pub fn read_words<'a>(
     alloc: Global,
     words: &'a [String],

@@ -1,3 +1,4 @@
 pub mod FirstUses
+pub mod NoUses
 pub mod SameSlots
 pub mod SameSoFar

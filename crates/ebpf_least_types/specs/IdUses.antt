@@ -1,16 +1,16 @@
 -- What in an object needs the ids of the kernel's own types: CO-RE records of kind
 -- BPF_CORE_TYPE_ID_TARGET (the kernel's Documentation/bpf/llvm_reloc.rst), externs whose types are
--- compared, and attach targets in the kernel (libbpf 1.5, libbpf.c: bpf_object__resolve_ksyms_btf_id,
--- libbpf_find_attach_btf_id).
+-- compared, and attach targets in the kernel (libbpf 1.5, libbpf.c:
+-- bpf_object__resolve_ksyms_btf_id, libbpf_find_attach_btf_id).
 use Rattle.std.specs.Prelude.{ℕ, suc, Bool, List, [], ◌∷◌, ◌++◌, ◌==◌, Option, Some, None, codes}
-use Rattle.std.specs.Prelude.{is_some, nat_eq, if◌then◌else◌}
+use Rattle.std.specs.Prelude.{is_some, nat_eq, All, ◌≡◌, if◌then◌else◌}
 use Rattle.std.specs.FinMap.{FinMap, entries}
 use Rattle.std.specs.List.{find, flat_map, starts_with}
 use Rattle.ebpf_base.specs.Maps.{text_cmp}
 use Rattle.ebpf_btf.specs.TypeInfo.{TypeInfo, no_types}
 use Rattle.ebpf_btf_ext.specs.declared.relocation.Relocation.{Relocation}
 use Rattle.ebpf_elf.specs.declared.section.SectionIndex.{SectionIndex}
-use Rattle.ebpf_least_types.specs.LeastTypes.{asks_for_kernel_id, records_of}
+use Rattle.ebpf_least_types.specs.LeastTypes.{AskForNoId, asks_for_kernel_id, records_of}
 use Rattle.ebpf_least_types.specs.declared.error.LeastTypesError.{LeastTypesError}
 use Rattle.ebpf_least_types.specs.declared.error.LeastTypesError.TheVariants.{NeedsKernelId}
 use Rattle.ebpf_least_types.specs.declared.id_uses.KernelIdUse.{KernelIdUse}
@@ -99,3 +99,9 @@ first_id_use_from n (o ∷ os) = first_of_uses n (id_uses o) (first_id_use_from 
 
 abbrev pub first_id_use : List Object → Option LeastTypesError
 first_id_use objects = first_id_use_from 0 objects
+
+-- Where no object needs an id, no record of an object asks for one.
+abbrev pub UsesAreAll : Type 0
+UsesAreAll =
+    (objects : List Object)
+    → first_id_use objects ≡ None → All (λ o. AskForNoId (records_of o)) objects

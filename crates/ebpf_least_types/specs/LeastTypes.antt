@@ -55,10 +55,13 @@ abbrev pub AskForNoId : List (ℕ × List Relocation) → Type 0
 AskForNoId sections =
     All (λ section. All (λ r. asks_for_kernel_id r ≡ false) section.1) sections
 
--- Where no record asks for an id, the records write the same slots over both, or are refused with
--- the same fault.
+-- the records of an object write the same slots over both, or are refused with the same fault
+abbrev pub HasSameSlots : TypeInfo → TypeInfo → Object → Type 0
+HasSameSlots kernel types o = relocated_slots o types ≡ relocated_slots o kernel
+
+-- They do where no record asks for an id.
 abbrev pub SlotsAreAlike : Type 0
 SlotsAreAlike =
     (o : Object) (kernel types : TypeInfo)
     → HaveSameOutcomes o kernel types → AskForNoId (records_of o)
-    → relocated_slots o types ≡ relocated_slots o kernel
+    → HasSameSlots kernel types o

@@ -3,7 +3,7 @@
 ghost use Rattle.std.specs.Prelude.{◌≡◌, All, IfOk, IfSome};
 ghost use Rattle.ebpf_base.specs.Faults.{Refuses};
 ghost use Rattle.ebpf_least_types.specs.IdUses.{first_id_use};
-ghost use Rattle.ebpf_least_types.specs.LeastTypes.{HaveSameOutcomes};
+ghost use Rattle.ebpf_least_types.specs.LeastTypes.{HasSameSlots, HaveSameOutcomes};
 ghost use Rattle.ebpf_least_types.specs.Memory.{is_least_memory};
 
 use crate::error::LeastTypesError;
@@ -97,9 +97,11 @@ fn cut_types(alloc: Global, objects: &[Object], kernel: &Btf) -> Result<Btf, All
 /// - `NeedsKernelId`: an object needs an id of the kernel's own types: the first such use, object by object
 ///   (`kernel_id_uses`).
 /// - `OutOfMemory`: out of memory.
+#[tactic(auto, using(crate::proofs::NoUses::all_slots_are_alike))]
 pub fn least_types(alloc: Global, objects: &[Object], kernel: &Btf) -> Result<Btf, LeastTypesError>
     ensures same { IfOk result (λ types.
         All (λ o. HaveSameOutcomes o kernel.now types) objects.now) }
+    ensures slots { IfOk result (λ types. All (HasSameSlots kernel.now types) objects.now) }
     ensures fault { Refuses is_least_memory result (first_id_use objects.now) }
 {
     refuse_id_uses(alloc, objects)?;

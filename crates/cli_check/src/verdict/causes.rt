@@ -126,7 +126,7 @@ impl Judge<'_> {
             leads: false,
         };
         let key = cause_key(alloc, object, reason.cause)?;
-        let place: SourceLocation = slot.location(alloc, object.btf.as_ref())?;
+        let place: SourceLocation = slot.location(alloc, object)?;
         self.note(key, Some(place))
     }
 

@@ -67,6 +67,8 @@ pub struct SourceLocation {
     pub program: usize,
     /// The slot; none where the finding is about the whole program.
     pub slot: Option<usize>,
+    /// The instruction of the slot as the object has it, before relocations.
+    pub instruction: Option<Text>,
     /// The function that the slot was copied from, and the slot in it, where it is not the program's own.
     pub within: Option<(Text, usize)>,
     /// The source line.
@@ -81,6 +83,7 @@ impl SourceLocation {
         SourceLocation {
             program,
             slot: None,
+            instruction: None,
             within: None,
             line: None,
             kernels: Vec::new(alloc),

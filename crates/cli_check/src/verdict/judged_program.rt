@@ -2,7 +2,9 @@
 
 use crate::verdict::findings::SourceLocation;
 use cli_common::source_lines::{LineSpan, Lines};
-use ebpf_btf::Btf;
+use cli_instructions::decode;
+use ebpf_base::Text;
+use ebpf_object::Object;
 use ebpf_object::relocation::CodeCopy;
 use ebpf_verdict::{Cause, JudgedProgram, SlotReason};
 use std::alloc::{AllocError, Global};
@@ -75,12 +77,25 @@ impl SlotRef<'_> {
         self.program.is_poisoned(self.place())
     }
 
-    /// The location of the slot, with its source line by the object's own types.
-    pub fn location(
-        &self,
-        alloc: Global,
-        local: Option<&Btf>,
-    ) -> Result<SourceLocation, AllocError> {
+    /// The instruction of the slot as the object has it, before relocations.
+    fn instruction(&self, alloc: Global, object: &Object) -> Result<Option<Text>, AllocError> {
+        let Some(function) = object.functions.get(self.copy.key) else {
+            return Ok(None);
+        };
+        let Some(instruction) = function.instructions.get(self.slot).copied() else {
+            return Ok(None);
+        };
+        let second = function
+            .instructions
+            .get(self.slot.saturating_add(1))
+            .copied();
+        let operation = decode(instruction, second);
+        let text = format!(in alloc; "{operation}")?;
+        Ok(Some(Text::from_string(text)))
+    }
+
+    /// The location of the slot, with its source line by the object's own types, and its instruction.
+    pub fn location(&self, alloc: Global, object: &Object) -> Result<SourceLocation, AllocError> {
         let within = if self.copy.base == 0 {
             None
         } else {
@@ -92,11 +107,13 @@ impl SlotRef<'_> {
             slot: self.place(),
             leads: self.leads,
         };
+        let line = self.program.lines.of(alloc, object.btf.as_ref(), span)?;
         Ok(SourceLocation {
             program: self.program.number,
             slot: Some(self.place()),
+            instruction: self.instruction(alloc, object)?,
             within,
-            line: self.program.lines.of(alloc, local, span)?,
+            line,
             kernels: Vec::new(alloc),
         })
     }

@@ -72,7 +72,7 @@ impl Judge<'_> {
         let Some(local) = &answers.loaded.object.btf else {
             return Ok(());
         };
-        let place = slot.location(alloc, Some(local))?;
+        let place = slot.location(alloc, &answers.loaded.object)?;
         let key = record_key(alloc, local, record, &place, severity, reason)?;
         self.note(key, Some(place))
     }

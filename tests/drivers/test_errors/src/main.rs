@@ -8,6 +8,7 @@ mod externs;
 mod file;
 mod initial_slots;
 mod kernel_types;
+mod least_types;
 mod lines;
 mod object;
 mod prepare;
@@ -34,6 +35,7 @@ fn show_all(lines: &mut Lines, file: &[u8]) {
     initial_slots::show_all(lines);
     chosen::show_all(lines);
     kernel_types::show_all(lines);
+    least_types::show_all(lines);
 }
 
 /// Prints all errors, with what the names of a file add.

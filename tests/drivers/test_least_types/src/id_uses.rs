@@ -76,7 +76,7 @@ fn asks_for_many(alloc: Global) -> Result<Object, BtfError> {
     add_extern(alloc, &mut object, "typed", true)?;
     add_extern(alloc, &mut object, "plain", false)?;
     add_program(alloc, &mut object, "hook", "?lsm/file_open", 4)?;
-    add_program(alloc, &mut object, "at", "tp_btf/sched_switch", 3)?;
+    add_program(alloc, &mut object, "at", "tp_btf/sched_switch", 8)?;
     add_program(alloc, &mut object, "none", "fentry", 5)?;
     add_program(alloc, &mut object, "other", "freplace/f", 6)?;
     add_program(alloc, &mut object, "probe", "kprobe/f", 7)?;

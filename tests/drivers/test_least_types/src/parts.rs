@@ -1,8 +1,12 @@
-use ebpf_base::{ByIndex, ByKey, ByName, BySection, Items};
+use ebpf_base::{ByIndex, ByKey, ByName, BySection, Items, Text};
 use ebpf_btf::{Btf, BtfEnum, BtfError, BtfMember, BtfType, Endianness, Rows};
 use ebpf_btf_ext::BtfExt;
+use ebpf_elf::SectionIndex;
+use ebpf_model::Function;
 use ebpf_object::Object;
+use ebpf_parts::insn::bpf_insn;
 use std::alloc::{AllocError, Global};
+use test_types::functions::function_of;
 use test_types::{add_enumeration, add_struct, member};
 
 /// The kinds of relocations that are asked here, by their numbers.
@@ -144,12 +148,37 @@ fn ext_of(
     asked: &[(u32, &str, u32)],
 ) -> Result<BtfExt, BtfError> {
     let mut records = Vec::new(alloc);
-    for (type_id, access, kind) in asked {
+    for (index, (type_id, access, kind)) in asked.iter().enumerate() {
         let access = local.add_string(*access)?;
-        records.push([0, *type_id, access, *kind])?;
+        let offset = 8 * (index % 8) as u32;
+        records.push([offset, *type_id, access, *kind])?;
     }
     let bytes = ext_bytes(alloc, records.as_slice())?;
     BtfExt::parse(alloc, &bytes, Endianness::Little, local)
+}
+
+/// The function `p`, of eight moves, by its key.
+fn functions(alloc: Global) -> Result<ByKey<Function>, AllocError> {
+    let mut instructions = Vec::new(alloc);
+    for _move in 0..8 {
+        instructions.push(bpf_insn {
+            code: 0xb7,
+            regs: 0,
+            off: 0,
+            imm: 1,
+        })?;
+    }
+    let name = Text::from_str(alloc, "p")?;
+    let mut functions = ByKey::new(alloc);
+    functions.insert((3, 0), function_of(alloc, name, instructions))?;
+    Ok(functions)
+}
+
+/// The section of the relocations, whose name is empty.
+fn sections(alloc: Global) -> Result<ByName<SectionIndex>, AllocError> {
+    let mut sections = ByName::new(alloc);
+    sections.insert(String::new(alloc), SectionIndex(3))?;
+    Ok(sections)
 }
 
 /// An object with types and relocations: the type, the access string and the kind of each.
@@ -169,9 +198,9 @@ pub fn object_of(
         externs: ByName::new(alloc),
         maps: ByName::new(alloc),
         programs: ByName::new(alloc),
-        functions: ByKey::new(alloc),
+        functions: functions(alloc)?,
         symbol_table: ByIndex::new(alloc),
         relocations: BySection::new(alloc),
-        section_infos: ByName::new(alloc),
+        section_infos: sections(alloc)?,
     })
 }

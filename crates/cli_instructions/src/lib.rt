@@ -1,4 +1,5 @@
 //! Instructions as text, in the syntax of `llvm-objdump` 19.
+#![tactic(auto)]
 
 mod arithmetic;
 mod jumps;

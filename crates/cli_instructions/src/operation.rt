@@ -1,8 +1,8 @@
 //! Instructions, decoded.
 
-use crate::disassembly::arithmetic::{Arithmetic, decode_arithmetic};
-use crate::disassembly::jumps::{Jump, decode_jump};
-use crate::disassembly::memory::{
+use crate::arithmetic::{Arithmetic, decode_arithmetic};
+use crate::jumps::{Jump, decode_jump};
+use crate::memory::{
     Memory, MemoryLoad, decode_first_class, decode_load, decode_number_store, decode_store,
 };
 use ebpf_parts::insn::bpf_insn;

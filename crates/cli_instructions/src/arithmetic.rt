@@ -1,10 +1,10 @@
 //! Arithmetic, moves and changes of the byte order.
 
-use crate::disassembly::opcodes::{
+use crate::opcodes::{
     ADDR_SPACE_CAST, BPF_ADD, BPF_AND, BPF_ARSH, BPF_DIV, BPF_END, BPF_LSH, BPF_MOD, BPF_MOV,
     BPF_MUL, BPF_NEG, BPF_OR, BPF_RSH, BPF_SUB, BPF_X, BPF_XOR, OPERATION, SIGNED,
 };
-use crate::disassembly::operands::{Operand, Register};
+use crate::operands::{Operand, Register};
 use ebpf_parts::insn::bpf_insn;
 use ebpf_parts::insn::opcodes::ALU;
 use std::fmt;

@@ -1,10 +1,10 @@
 //! Jumps, calls and the end of a function.
 
-use crate::disassembly::opcodes::{
+use crate::opcodes::{
     BPF_JEQ, BPF_JGE, BPF_JGT, BPF_JLE, BPF_JLT, BPF_JNE, BPF_JSET, BPF_JSGE, BPF_JSGT, BPF_JSLE,
     BPF_JSLT, CALLX, JCOND, OPERATION,
 };
-use crate::disassembly::operands::{Distance, Number, Operand, Register};
+use crate::operands::{Distance, Number, Operand, Register};
 use ebpf_parts::insn::bpf_insn;
 use ebpf_parts::insn::opcodes::{CALL, EXIT, JA, JA32, JMP32};
 use std::fmt;

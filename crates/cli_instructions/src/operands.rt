@@ -1,6 +1,6 @@
 //! Registers and numbers.
 
-use crate::disassembly::opcodes::BPF_X;
+use crate::opcodes::BPF_X;
 use ebpf_parts::insn::bpf_insn;
 use std::fmt;
 

@@ -1,10 +1,10 @@
 //! Loads, stores and atomic operations; loads of wide numbers, and of a packet's bytes.
 
-use crate::disassembly::opcodes::{
+use crate::opcodes::{
     ATOMIC_ADD, ATOMIC_AND, ATOMIC_OR, ATOMIC_XOR, BPF_ABS, BPF_ATOMIC, BPF_CMPXCHG, BPF_IND,
     BPF_MEM, BPF_MEMSX, BPF_XCHG, FETCH_ADD, FETCH_AND, FETCH_OR, FETCH_XOR, MODE, SIZE,
 };
-use crate::disassembly::operands::{MemoryPlace, Number, Operand, Register};
+use crate::operands::{MemoryPlace, Number, Operand, Register};
 use ebpf_parts::insn::bpf_insn;
 use ebpf_parts::insn::opcodes::{BPF_B, BPF_DW, BPF_H, BPF_W, LD_IMM64};
 use std::fmt;
