@@ -251,8 +251,7 @@ static uint32_t leave_out(struct ebpf_handle **of)
 {
 	static const char *const names[] = { "on_packet" };
 
-	/* with memory the same call finds no such program */
-	return ebpf_program_count(*of) ? ebpf_leave_out(*of, names, 1) : EBPF_DONE;
+	return ebpf_leave_out(*of, names, 1);
 }
 
 /* Calls, by the object that they are made on: 0: none, 1: counter.o, 2: that for loaders; and their number. */

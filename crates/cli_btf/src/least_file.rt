@@ -1,7 +1,7 @@
 //! The bytes of a file of least types.
 
 ghost use Rattle.std.specs.Prelude.{◌≡◌, ◌-◌, IfOk, None, Ok, length};
-ghost use Rattle.cli_btf.specs.LeastFile.{HoldsLeastTypes};
+ghost use Rattle.cli_btf.specs.LeastFile.{HoldsLeastTypes, HoldsSameSlots};
 ghost use Rattle.ebpf_btf.specs.Header.{order_of};
 ghost use Rattle.ebpf_btf.specs.Reading.{type_info_of};
 ghost use Rattle.ebpf_least_types.specs.IdUses.{first_id_use};
@@ -57,6 +57,8 @@ pub fn least_file(
 ) -> Result<LeastFile, LeastFailure>
     ensures file { IfOk result (λ file.
         HoldsLeastTypes objects.now kernel.now file.bytes.items file.types) }
+    ensures slots { IfOk result (λ file.
+        HoldsSameSlots objects.now kernel.now file.bytes.items) }
     ensures no_ids { IfOk result (λ _. first_id_use objects.now ≡ None) }
 {
     match least_types(alloc, objects, kernel) {

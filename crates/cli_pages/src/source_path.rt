@@ -10,14 +10,16 @@ pub fn write_source_path<W: Write>(
     root: &str,
     path: &str,
 ) -> io::Result<()> {
-    let mut before = if path.starts_with('/') { root } else { "" };
+    let root = if path.starts_with('/') { root } else { "" };
+    let mut is_first = true;
     for text in path.split('/') {
         if text.is_empty() || text == "." {
             continue;
         }
+        let before = if is_first { root } else { "/" };
         let segment = Escaped { syntax, text };
         write!(out, "{before}{segment}")?;
-        before = "/";
+        is_first = false;
     }
     Ok(())
 }
