@@ -3,6 +3,11 @@
 use cli_formats::escape::{Escaped, Syntax};
 use std::io::{self, Write};
 
+/// The sign before a segment of a path.
+fn sign_before(is_first: bool) -> &'static str {
+    if is_first { "" } else { "/" }
+}
+
 /// Writes a path in a syntax, without empty segments and segments `.`; `root` is written for the slash of an absolute one.
 pub fn write_source_path<W: Write>(
     out: &mut W,
@@ -10,14 +15,18 @@ pub fn write_source_path<W: Write>(
     root: &str,
     path: &str,
 ) -> io::Result<()> {
-    let mut before = if path.starts_with('/') { root } else { "" };
+    if path.starts_with('/') {
+        write!(out, "{root}")?;
+    }
+    let mut is_first = true;
     for text in path.split('/') {
         if text.is_empty() || text == "." {
             continue;
         }
+        let sign = sign_before(is_first);
         let segment = Escaped { syntax, text };
-        write!(out, "{before}{segment}")?;
-        before = "/";
+        write!(out, "{sign}{segment}")?;
+        is_first = false;
     }
     Ok(())
 }
