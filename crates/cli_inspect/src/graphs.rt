@@ -81,7 +81,7 @@ fn map_edges(
 fn graph_of<'a>(
     alloc: Global,
     uses: &FunctionUses,
-    parts: &'a ProgramParts<'a>,
+    parts: &ProgramParts<'a>,
 ) -> Result<ProgramGraph<'a>, AllocError> {
     let copies = parts.map.copies.as_slice();
     let maps = sorted_names(alloc, &parts.uses.maps)?;
@@ -101,7 +101,7 @@ fn graph_of<'a>(
 pub fn graphs_of<'a>(
     alloc: Global,
     uses: &FunctionUses,
-    programs: &'a [ProgramParts<'a>],
+    programs: &[ProgramParts<'a>],
 ) -> Result<Vec<ProgramGraph<'a>>, AllocError> {
     let mut graphs = Vec::with_capacity(alloc, programs.len())?;
     for parts in programs {
