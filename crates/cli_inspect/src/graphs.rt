@@ -39,10 +39,14 @@ fn edges_between(alloc: Global, edges: &[Edge]) -> Result<Vec<FunctionEdge>, All
 }
 
 /// Names, in their order.
-fn sorted_names<'a>(alloc: Global, names: &BTreeSet<&'a str>) -> Result<Vec<&'a str>, AllocError> {
+fn sorted_names<'a, 'p: 'a>(
+    alloc: Global,
+    names: &BTreeSet<&'p str>,
+) -> Result<Vec<&'a str>, AllocError> {
     let mut all = Vec::with_capacity(alloc, names.len())?;
     for name in names.iter() {
-        all.push(*name)?;
+        let name: &'a str = *name;
+        all.push(name)?;
     }
     Ok(all)
 }
@@ -78,10 +82,10 @@ fn map_edges(
 }
 
 /// The graph of a program.
-fn graph_of<'a>(
+fn graph_of<'a, 'p: 'a>(
     alloc: Global,
     uses: &FunctionUses,
-    parts: &'a ProgramParts<'a>,
+    parts: &ProgramParts<'a>,
 ) -> Result<ProgramGraph<'a>, AllocError> {
     let copies = parts.map.copies.as_slice();
     let maps = sorted_names(alloc, &parts.uses.maps)?;
@@ -98,10 +102,10 @@ fn graph_of<'a>(
 }
 
 /// The graphs of programs, in their order.
-pub fn graphs_of<'a>(
+pub fn graphs_of<'a, 'p: 'a>(
     alloc: Global,
     uses: &FunctionUses,
-    programs: &'a [ProgramParts<'a>],
+    programs: &[ProgramParts<'a>],
 ) -> Result<Vec<ProgramGraph<'a>>, AllocError> {
     let mut graphs = Vec::with_capacity(alloc, programs.len())?;
     for parts in programs {
