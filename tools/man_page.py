@@ -99,7 +99,7 @@ def page(version, text):
     for kind, lines in found[1:]:
         if kind == "heading":
             level, title = lines[0].split(" ", 1)
-            made.append(f".SH {marked(title).upper()}" if len(level) == top else f".SS {marked(title)}")
+            made.append(f".SH {marked(title.upper())}" if len(level) == top else f".SS {marked(title)}")
         elif kind == "text":
             made += [".PP", marked(" ".join(lines))]
         else:
@@ -132,7 +132,7 @@ def header_page(version, text):
     for chunk in re.split(r"\n{2,}", text):
         title = re.fullmatch(r"/\* -+ (.*?) \*/", chunk.strip())
         if title:
-            made.append(".SH " + escaped(re.split("[;,]", title[1])[0]).upper())
+            made.append(".SH " + escaped(re.split("[;,]", title[1])[0].upper()))
             continue
         said = re.match(r"/\*.*?\*/", chunk, re.S)
         made += comment(said[0]) if said else []

@@ -72,9 +72,9 @@ def folders(rows):
     writes(rows, "a folder", ["loads.o", "--btf", "all", "--output", "made/here"], *pairs)
     rows.expect("a folder: files", sorted(os.listdir(rows.folder / "made/here")), ["a", "b"])
     said = "ebpf: some/b: neither BTF nor an ELF file"
-    words = ["loads.o", "--btf", "some", "--output", "other"]
-    writes(rows, "a file that is no BTF", words, ("some/a", "other/a"), more="not written  some/b\n", status=2, err=said)
-    rows.expect("a file that is no BTF: files", os.listdir(rows.folder / "other"), ["a"])
+    words = ["loads.o", "--btf", "some", "--output", "elsewhere"]
+    writes(rows, "a file that is no BTF", words, ("some/a", "elsewhere/a"), more="not written  some/b\n", status=2, err=said)
+    rows.expect("a file that is no BTF: files", os.listdir(rows.folder / "elsewhere"), ["a"])
     rows.row("a folder without files", ["btf", "loads.o", "--btf", "hollow", "--output", "no"], 2, "", "ebpf: hollow: no file in it")
     words = ["btf", "loads.o", "--btf", "all", "--output", "loads.o"]
     rows.row("a file for a folder", words, 2, "", "ebpf: loads.o: File exists (os error 17)")
