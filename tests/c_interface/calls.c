@@ -278,7 +278,7 @@ static uint32_t ask(char *rest)
 
 static void put_names(void)
 {
-	for (uint32_t number = 0; number < 1000; number++) {
+	for (uint32_t number = 0; number < 2000; number++) {
 		char name[64] = { 0 };
 		size_t len = 0;
 
