@@ -54,6 +54,8 @@ def fits(kind, in_c):
         return kind is NUMBERS[in_c]
     if in_c == "void":
         return kind is None
+    if in_c == "const char *const *":
+        return kind is c.POINTER(c.c_char_p)
     base = in_c.removeprefix("const ").removesuffix("*").strip()
     if base in ("uint8_t", "char", "struct ebpf_handle", "struct ebpf_btf"):
         return kind in (c.c_char_p, c.c_void_p)

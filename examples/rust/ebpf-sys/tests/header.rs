@@ -45,9 +45,9 @@ fn sizes(of: &Layout) -> String {
 
 /// A type of Rust as C has it.
 fn in_c(kind: &str) -> String {
-    for (mark, words) in [("*const ", "const "), ("*mut ", "")] {
+    for (mark, words) in [("*const ", " const"), ("*mut ", "")] {
         if let Some(rest) = kind.strip_prefix(mark) {
-            return format!("{words}{} *", in_c(rest));
+            return format!("{}{words} *", in_c(rest));
         }
     }
     let numbers =
