@@ -1,6 +1,6 @@
 #!/usr/bin/env python3
-"""Looks at what `ebpf` writes for people and for CI: the pages of `ebpf check` and `ebpf list` in Chromium, SARIF by what its
-standard demands, annotations, graphs, colours and the progress; with names that try to break out of each. Without Chromium
+"""Looks at what `ebpf` writes for people and for CI: the pages of `ebpf check` and `ebpf list` in Chromium, SARIF by its schema,
+annotations, graphs, colours and the progress; with names that try to break out of each. Without Chromium
 (`apt-get install chromium`) pages aren't looked at, which is printed. Ends with 'N passed, M failed', and with status 1 where one failed.
 usage: look.py PROGRAM [--kernels N] [--screenshots FOLDER]      PROGRAM: the built program `ebpf`; N: of the large page
 """
@@ -15,7 +15,7 @@ from pathlib import Path
 
 from check_rows import EXAMPLE, Rows
 from checked.objects import GONE, HAS_B, IS_THERE, LACKS_B, Code, address, call, object_of
-from looked import page, sarif, terminal
+from looked import page, sarif, schema_cases, terminal
 from rows.elf import EXIT
 
 # Names that mean something in HTML, JSON, Graphviz, Mermaid, annotations or a terminal. The name of a file has no slash.
@@ -229,6 +229,30 @@ def unread(rows):
     rows.expect("unread: SARIF", (invocation["executionSuccessful"], told), (False, [True]))
 
 
+def other_logs(rows):
+    """Logs over several kernels of which one can't be read, of an object that breaks on two and of one without programs."""
+    for name, types in [("a/1", HAS_B), ("a/2", LACKS_B), ("a/3", LACKS_B), ("a/4", b"none")]:
+        rows.write(name, types)
+    functions = [Code("kprobe/p", "program", [GONE, EXIT]), Code("fentry/no_such_function", "other", [IS_THERE, EXIT])]
+    rows.write("several.o", object_of(functions))
+    rows.write("programless.o", object_of([Code("?kprobe/p", "program", [GONE, EXIT])]))
+    said = "ebpf: a/4: neither BTF nor an ELF file"
+    for name, wanted in [("several", (1, 1)), ("programless", (0, 1))]:
+        rows.row(f"log of {name}", ["check", f"{name}.o", "a", f"--sarif={name}.sarif"], 2, None, said)
+        log = json.loads((rows.folder / f"{name}.sarif").read_text())
+        [run] = log["runs"]
+        counts = len(run["results"]), len(run["invocations"][0]["toolExecutionNotifications"])
+        rows.expect(f"log of {name}", (sarif.faults(log), counts), ([], wanted))
+
+
+def all_logs(rows):
+    """Each log that was written keeps to the schema."""
+    logs = sorted(rows.folder.glob("*.sarif"))
+    rows.expect("logs: some", len(logs) > 5, True)
+    for log in logs:
+        rows.expect(f"{log.name}: schema", sarif.faults(json.loads(log.read_text())), [])
+
+
 def failing_output(rows):
     """Files are written also where the output can't be."""
     for form in ["text", "json", "github"]:
@@ -300,7 +324,9 @@ def main():
         rows = Rows(str(Path(chosen.program).absolute()), None, None, Path(folder))
         shutil.copytree(EXAMPLE / "btf", rows.folder / "btf")
         shutil.copy(EXAMPLE / "memdrop.o", rows.folder)
-        for part in [example, graphs, hostile_graphs, hostile_reports, source_paths, unread, failing_output, lists, terminal.colours, terminal.progress]:
+        for part in [schema_cases.run, example, graphs, hostile_graphs, hostile_reports, source_paths, unread, other_logs]:
+            part(rows)
+        for part in [failing_output, all_logs, lists, terminal.colours, terminal.progress]:
             part(rows)
         pages(rows, chosen.kernels, chosen.screenshots)
     print(*rows.failures, sep="\n", end="\n" * bool(rows.failures))

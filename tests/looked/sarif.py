@@ -1,77 +1,32 @@
-"""What SARIF 2.1.0 (OASIS, 'Static Analysis Results Interchange Format') demands of the parts that `ebpf check` writes, as
-JSON Schema, written by hand; and a reader of as much of JSON Schema as this takes. It isn't the schema of OASIS."""
+"""What SARIF 2.1.0 (OASIS, 'Static Analysis Results Interchange Format') demands of a log: its schema, and what that doesn't say of
+the parts that `ebpf check` writes. sarif-schema-2.1.0.json is the schema of OASIS Open (errata 01), unchanged, as Debian has it in
+gcc-15 15.3.0, gcc/testsuite/lib; OASIS Open holds its copyright and lets it be copied."""
+import json
 import re
+from pathlib import Path
 
+from looked.schema import Validator
 
-def holds(properties, required=None):
-    """An object of these properties and no others, all required if not said otherwise."""
-    needed = list(properties) if required is None else required
-    return {"type": "object", "properties": properties, "required": needed, "additionalProperties": False}
-
-
-def texts_of(pattern):
-    return {"type": "string", "pattern": pattern}
-
-
-def many(items, least=0):
-    return {"type": "array", "items": items, "minItems": least}
-
-
-MESSAGE = holds({"text": texts_of(".")})
+SCHEMA = Validator(json.loads((Path(__file__).parent / "sarif-schema-2.1.0.json").read_text()))
 # A relative path of RFC 3986 without an authority, or an absolute one of the scheme `file`; neither has empty segments.
-ARTIFACT = holds({"uri": texts_of(r"^(?:file://(?=/)|(?!/))(?:/?(?:[A-Za-z0-9._~-]|%[0-9A-F]{2})+)+$")})
-REGION = holds({"startLine": {"type": "integer", "minimum": 1}})
-PLACE = holds({"artifactLocation": ARTIFACT, "region": REGION}, ["artifactLocation"])
-RESULT = holds(
-    {
-        "ruleId": {"enum": ["breaks"]},
-        "ruleIndex": {"type": "integer", "minimum": 0},
-        "level": {"enum": ["none", "note", "warning", "error"]},
-        "message": MESSAGE,
-        "locations": many(holds({"physicalLocation": PLACE}), 1),
-    }
-)
-RULE = holds({"id": texts_of("."), "shortDescription": MESSAGE, "fullDescription": MESSAGE, "help": MESSAGE})
-DRIVER = holds({"name": texts_of("."), "version": texts_of(r"^\d+\.\d+\.\d+$"), "rules": many(RULE)})
-NOTIFICATION = holds({"level": {"enum": ["none", "note", "warning", "error"]}, "message": MESSAGE})
-INVOCATION = holds({"executionSuccessful": {"type": "boolean"}, "toolExecutionNotifications": many(NOTIFICATION)})
-RUN = holds(
-    {
-        "tool": holds({"driver": DRIVER}),
-        "automationDetails": holds({"id": texts_of(".")}),
-        "invocations": many(INVOCATION, 1),
-        "results": many(RESULT),
-    }
-)
-SCHEMA = holds({"$schema": texts_of(r"^https://.*/sarif-2\.1\.0\.json$"), "version": {"enum": ["2.1.0"]}, "runs": many(RUN, 1)})
-
-TYPES = {"object": dict, "array": list, "string": str, "integer": int, "boolean": bool}
+PATH = re.compile(r"(?:file://(?=/)|(?!/))(?:/?(?:[A-Za-z0-9._~-]|%[0-9A-F]{2})+)+")
 
 
-def value_faults(value, schema, path):
-    """What is wrong with a value by itself."""
-    if "enum" in schema and value not in schema["enum"]:
-        yield f"{path}: {value!r}"
-    if "type" in schema and (not isinstance(value, TYPES[schema["type"]]) or isinstance(value, bool) != (schema["type"] == "boolean")):
-        yield f"{path}: no {schema['type']}"
-    elif "pattern" in schema and not re.search(schema["pattern"], value):
-        yield f"{path}: {value!r}"
-    elif "minimum" in schema and value < schema["minimum"]:
-        yield f"{path}: {value}"
-    elif "minItems" in schema and len(value) < schema["minItems"]:
-        yield f"{path}: {len(value)} items"
+def result_faults(result, rules):
+    """What is wrong with a result: the rule that it names (3.27.5 to 3.27.7), and the paths of its locations (3.4.3)."""
+    index = result.get("ruleIndex", -1)
+    if index not in range(len(rules)) or rules[index]["id"] != result.get("ruleId"):
+        yield f"no rule {index} of this name"
+    for location in result.get("locations", []):
+        uri = location["physicalLocation"]["artifactLocation"]["uri"]
+        if not PATH.fullmatch(uri):
+            yield f"no path: {uri}"
 
 
-def faults(value, schema=SCHEMA, path="log"):
-    """What is wrong with a value and what is in it."""
-    found = list(value_faults(value, schema, path))
-    if isinstance(value, dict):
-        known = schema.get("properties", {})
-        found += [f"{path}: no {name}" for name in schema.get("required", []) if name not in value]
-        found += [f"{path}: {name}" for name in value if name not in known]
-        for name in known.keys() & value.keys():
-            found += faults(value[name], known[name], f"{path}.{name}")
-    if isinstance(value, list):
-        for number, item in enumerate(value):
-            found += faults(item, schema.get("items", {}), f"{path}[{number}]")
-    return found
+def faults(log):
+    """What is wrong with a log."""
+    found = SCHEMA.faults(log)
+    if found:
+        return found
+    runs = log["runs"]
+    return [it for run in runs for result in run["results"] for it in result_faults(result, run["tool"]["driver"]["rules"])]
