@@ -5,6 +5,7 @@ annotations, graphs, colours and the progress; with names that try to break out 
 usage: look.py PROGRAM [--kernels N] [--screenshots FOLDER]      PROGRAM: the built program `ebpf`; N: of the large page
 """
 import argparse
+import html
 import json
 import re
 import shutil
@@ -44,8 +45,12 @@ HOSTILE = [
     "fa:fa-bug",
     "{0}",
 ]
+# A line of source with them all.
+SOURCE = "\tread(&one, \"two\\n\"); /* " + "".join(HOSTILE) + " */"
 # Characters of a label of Mermaid, and what is behind a name in it.
 MERMAID = r"(?:[A-Za-z0-9 ]|[^\x00-\x7f]|#\d+;)*(?:<br/>\d+ slots|<br/>map|: \d+ slots)"
+# The line of the example that breaks.
+LINE = {"startLine": 83, "snippet": {"text": "\tread(&running, queue->nr_running);"}}
 # Characters that are seen by their effect alone.
 UNSEEN = re.compile("[\x00-\x09\x0b-\x1f\x7f-\x9f\u061c\u200e\u200f\u2028-\u202e\u2066-\u2069]")
 
@@ -57,6 +62,11 @@ def visible(name, sign="\\x"):
     )
 
 
+def visible_source(line):
+    """A line of source as it is shown: backslashes and tabs are themselves."""
+    return "".join(c if c in "\\\t" else visible(c) for c in line)
+
+
 def hostile_object():
     """An object with a program, a function and a map for each hostile name, and a file of lines with them all."""
     functions, maps = [], {}
@@ -65,7 +75,7 @@ def hostile_object():
         functions.append(Code(section, name, [call(f"f{name}"), address(1, f"m{name}"), GONE, EXIT]))
         functions.append(Code(".text", f"f{name}", [EXIT]))
         maps[f"m{name}"] = 1
-    lines = [(0, f"dir/{''.join(HOSTILE)}.c", 7)]
+    lines = [(0, f"dir/{''.join(HOSTILE)}.c", 7, SOURCE)]
     return object_of(functions, maps=maps, lines=lines)
 
 
@@ -84,7 +94,7 @@ def example(rows):
     rows.expect("SARIF: schema", sarif.faults(log), [])
     [result] = log["runs"][0]["results"]
     place = result["locations"][0]["physicalLocation"]
-    rows.expect("SARIF: line", (place["artifactLocation"]["uri"], place["region"]), ("memdrop.bpf.c", {"startLine": 83}))
+    rows.expect("SARIF: line", (place["artifactLocation"]["uri"], place["region"]), ("memdrop.bpf.c", LINE))
     rows.expect("SARIF: successful", log["runs"][0]["invocations"], [{"executionSuccessful": True, "toolExecutionNotifications": []}])
     text = "struct cfs_rq.nr_running <byte_off> no such member; program on_tick slot 11; on 1 of 2 kernels: btf/6.18"
     rows.expect("SARIF: message", result["message"]["text"], text)
@@ -157,6 +167,9 @@ def hostile_graphs(rows):
     else:
         drawn = subprocess.run(["dot", "-Tsvg"], input=dot, capture_output=True, encoding="utf-8")
         rows.expect("hostile --dot: Graphviz", (drawn.returncode, drawn.stderr), (0, ""))
+        texts = [html.unescape(text).replace("\xa0", " ") for text in re.findall(r"<text[^>]*>(.*?)</text>", drawn.stdout)]
+        rows.expect("hostile --dot: names", [name for name in HOSTILE if visible(name) not in texts], [])
+        rows.expect("hostile --dot: elements", set(re.findall(r"<(\w+)", drawn.stdout)), {"svg", "g", "title", "polygon", "path", "text"})
     flow = rows.row("hostile --mermaid", ["inspect", "hostile.o", "--mermaid"], 0).stdout
     expect_plain(rows, "hostile --mermaid", flow)
     label = f'"{MERMAID}"'
@@ -166,7 +179,7 @@ def hostile_graphs(rows):
     )
     rows.expect("hostile --mermaid: lines", [line for line in flow.split("\n")[:-1] if not form.fullmatch(line)], [])
     read = re.sub(r"#(\d+);", lambda code: chr(int(code[1])), flow)
-    rows.expect("hostile --mermaid: names", [name for name in HOSTILE if visible(name) not in read], [])
+    rows.expect("hostile --mermaid: names", [name for name in HOSTILE if visible(name).replace(":", "\\x3a") not in read], [])
 
 
 def hostile_reports(rows):
@@ -193,7 +206,10 @@ def hostile_reports(rows):
     rows.expect("hostile SARIF: links", re.findall(r"(?<!\\)(?:\\\\)*[\[\]]", said), [])
     read = re.sub(r"\\([\\\[\]])", r"\1", said).replace("{{", "{").replace("}}", "}")
     rows.expect("hostile SARIF: names", [name for name in HOSTILE if visible(name) not in read], [])
-    uris = [result["locations"][0]["physicalLocation"]["artifactLocation"]["uri"] for result in results]
+    places = [result["locations"][0]["physicalLocation"] for result in results]
+    texts = {place["region"]["snippet"]["text"] for place in places if "region" in place}
+    rows.expect("hostile SARIF: source", texts, {visible_source(SOURCE)})
+    uris = [place["artifactLocation"]["uri"] for place in places]
     rows.expect("hostile SARIF: paths", [uri for uri in uris if not re.fullmatch(r"(?:[\w./~-]|%[0-9A-F]{2})*", uri, re.ASCII)], [])
 
 
@@ -306,7 +322,7 @@ def pages(rows, count, screenshots):
     large(rows, count)
     page.small(rows, browser)
     page.without_programs(rows, browser)
-    page.hostile(rows, browser, [visible(name) for name in HOSTILE])
+    page.hostile(rows, browser, [visible(name) for name in HOSTILE], visible_source(SOURCE))
     page.many(rows, browser, count)
     page.listed(rows, browser, rows.run("list", "memdrop.o").stdout)
     page.hostile_list(rows, browser, [visible(name) for name in HOSTILE])

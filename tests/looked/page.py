@@ -106,6 +106,7 @@ answer.programs = all('#head th').slice(1).map(cell => cell.textContent);
 answer.tags = [...new Set(all('#matrix *, #reasons *, #cell *').map(part => part.localName))].sort();
 all('#body td')[0].click();
 answer.cell = document.getElementById('cell').innerText;
+answer.source = [...new Set(all('#reasons .source').map(part => part.textContent))];
 """
 
 LISTED = """
@@ -158,7 +159,7 @@ def small(rows, browser):
     """The page of the example: its table, keys, filters, and what a reader of the screen needs."""
     said = answer(rows, browser, "page.html", SMALL)
     reason = "struct cfs_rq.nr_running <byte_off> no such member"
-    place = "on_tick slot 11: r1 = 0x0 ./memdrop.bpf.c:83"
+    place = ["on_tick slot 11: r1 = 0x0 ./memdrop.bpf.c:83", "read(&running, queue->nr_running);"]
     wanted = {
         "failed": [],
         "head": ["kernel", "on_shrink", "on_tick"],
@@ -169,7 +170,7 @@ def small(rows, browser):
         "scopes": True,
         "live": ["shown", "cell"],
         "role": "grid",
-        "clicked": ["on_tick on btf/6.18: breaks", reason, place],
+        "clicked": ["on_tick on btf/6.18: breaks", reason, *place],
         "stop": True,
         "entered": ["on_shrink on btf/5.18: ok", "No reason to break."],
         "kernel": ["btf/6.18"],
@@ -181,7 +182,7 @@ def small(rows, browser):
         "failing": ["btf/6.18"],
         "count": "1 of 2 kernels",
         "columns": ["kernel", "on_tick"],
-        "list": [[f"{reason} on 1 of 2 kernels", place]],
+        "list": [[f"{reason} on 1 of 2 kernels", *place]],
     }
     for key, value in wanted.items():
         rows.expect(f"page: {key}", said.get(key), value)
@@ -195,12 +196,13 @@ def without_programs(rows, browser):
         rows.expect(f"page without programs: {key}", said.get(key), value)
 
 
-def hostile(rows, browser, names):
-    """The page of hostile names: they are text, and none of them is run."""
+def hostile(rows, browser, names, source):
+    """The page of hostile names: they are text, and none of them is run; and so is a line of source."""
     said = answer(rows, browser, "hostile.html", HOSTILE)
     rows.expect("hostile page: failed", said.get("failed"), [])
     rows.expect("hostile page: kernels", sorted(said.get("names", [])), sorted(f"kernels/{name}" for name in names))
     rows.expect("hostile page: programs", sorted(said.get("programs", [])), sorted(names))
+    rows.expect("hostile page: source", said.get("source"), [source])
     tags = ["code", "h2", "li", "ol", "tbody", "td", "th", "thead", "tr", "ul"]
     rows.expect("hostile page: elements", [tag for tag in said.get("tags", []) if tag not in tags + ["p"]], [])
 
