@@ -287,10 +287,10 @@ all_kept : {S : Type 0} (r : Result (List S) BtfError) → r ≡ if_ok r (λ all
 all_kept (Ok all) = refl
 all_kept (Err e) = refl
 
-relocations_given : (o : Endianness) (bytes : List ℕ)
-    → core_relo_sections o bytes ≡ part_gives o bytes core_relo_part 16 (section_core_relos o bytes) (λ (all : List (ℕ × List Relocation)). all)
+relocations_given : (type_matches : Bool) (o : Endianness) (bytes : List ℕ)
+    → core_relo_sections type_matches o bytes ≡ part_gives o bytes core_relo_part 16 (section_core_relos type_matches o bytes) (λ (all : List (ℕ × List Relocation)). all)
 unfolding core_relo_sections
-relocations_given o bytes = ap (λ r. if_some (part_fault o bytes core_relo_part) (λ e. Err e) r) (all_kept _)
+relocations_given type_matches o bytes = ap (λ r. if_some (part_fault o bytes core_relo_part) (λ e. Err e) r) (all_kept _)
 
 -- the three parts as a value
 abbrev whole : Endianness → List ℕ → FinMap text_cmp FuncSecInfo → FinMap text_cmp LineSecInfo → List (ℕ × List Relocation) → ExtInfo
@@ -302,17 +302,17 @@ whole o bytes funcs lines relocations = record {
   line_record_size = record_size o bytes line_part;
 }
 
-found_from : (o : Endianness) (bytes strings : List ℕ) (ext : ExtInfo) → read_ext o bytes strings ≡ Ok ext → SpellsExt o bytes strings ext
+pub found_from : (type_matches : Bool) (o : Endianness) (bytes strings : List ℕ) (ext : ExtInfo) → read_ext type_matches o bytes strings ≡ Ok ext → SpellsExt type_matches o bytes strings ext
 unfolding read_ext
-found_from o bytes strings ext is = by_header (ext_header_fault o bytes) refl is
+found_from type_matches o bytes strings ext is = by_header (ext_header_fault o bytes) refl is
   where
     by_relocations : (funcs : FinMap text_cmp FuncSecInfo) (lines : FinMap text_cmp LineSecInfo) (r : Result (List (ℕ × List Relocation)) BtfError)
-        → ext_header_fault o bytes ≡ None → func_sections o bytes strings ≡ Ok funcs → line_sections o bytes strings ≡ Ok lines → core_relo_sections o bytes ≡ r
-        → if_ok r (λ relocations. Ok (whole o bytes funcs lines relocations)) ≡ Ok ext → SpellsExt o bytes strings ext
+        → ext_header_fault o bytes ≡ None → func_sections o bytes strings ≡ Ok funcs → line_sections o bytes strings ≡ Ok lines → core_relo_sections type_matches o bytes ≡ r
+        → if_ok r (λ relocations. Ok (whole o bytes funcs lines relocations)) ≡ Ok ext → SpellsExt type_matches o bytes strings ext
     by_relocations funcs lines (Err e) h f l r same = cc
     by_relocations funcs lines (Ok relocations) h f l r same =
         let made : ext ≡ whole o bytes funcs lines relocations = cc in
-        let part = part_is o bytes core_relo_part 16 (section_core_relos o bytes) (λ (all : List (ℕ × List Relocation)). all) relocations (sym (relocations_given o bytes) ∙ r) in
+        let part = part_is o bytes core_relo_part 16 (section_core_relos type_matches o bytes) (λ (all : List (ℕ × List Relocation)). all) relocations (sym (relocations_given type_matches o bytes) ∙ r) in
         rw made (record {
           header = h;
           funcs = part_is o bytes func_part 8 (named_func_info o bytes strings) (λ (all : List (List ℕ × FuncSecInfo)). put_all {R = text_cmp} empty all) funcs (sym (funcs_given o bytes strings) ∙ f);
@@ -324,29 +324,29 @@ found_from o bytes strings ext is = by_header (ext_header_fault o bytes) refl is
 
     by_lines : (funcs : FinMap text_cmp FuncSecInfo) (l : Result (FinMap text_cmp LineSecInfo) BtfError)
         → ext_header_fault o bytes ≡ None → func_sections o bytes strings ≡ Ok funcs → line_sections o bytes strings ≡ l
-        → if_ok l (λ lines. if_ok (core_relo_sections o bytes) (λ relocations. Ok (whole o bytes funcs lines relocations))) ≡ Ok ext → SpellsExt o bytes strings ext
+        → if_ok l (λ lines. if_ok (core_relo_sections type_matches o bytes) (λ relocations. Ok (whole o bytes funcs lines relocations))) ≡ Ok ext → SpellsExt type_matches o bytes strings ext
     by_lines funcs (Err e) h f l same = cc
-    by_lines funcs (Ok lines) h f l same = by_relocations funcs lines (core_relo_sections o bytes) h f l refl same
+    by_lines funcs (Ok lines) h f l same = by_relocations funcs lines (core_relo_sections type_matches o bytes) h f l refl same
 
     by_funcs : (f : Result (FinMap text_cmp FuncSecInfo) BtfError) → ext_header_fault o bytes ≡ None → func_sections o bytes strings ≡ f
-        → if_ok f (λ funcs. if_ok (line_sections o bytes strings) (λ lines. if_ok (core_relo_sections o bytes) (λ relocations. Ok (whole o bytes funcs lines relocations)))) ≡ Ok ext
-        → SpellsExt o bytes strings ext
+        → if_ok f (λ funcs. if_ok (line_sections o bytes strings) (λ lines. if_ok (core_relo_sections type_matches o bytes) (λ relocations. Ok (whole o bytes funcs lines relocations)))) ≡ Ok ext
+        → SpellsExt type_matches o bytes strings ext
     by_funcs (Err e) h f same = cc
     by_funcs (Ok funcs) h f same = by_lines funcs (line_sections o bytes strings) h f refl same
 
     by_header : (h : Option BtfError) → ext_header_fault o bytes ≡ h
         → if_some h (λ e. Err e)
-        (if_ok (func_sections o bytes strings) (λ funcs. if_ok (line_sections o bytes strings) (λ lines. if_ok (core_relo_sections o bytes) (λ relocations. Ok (whole o bytes funcs lines relocations))))) ≡ Ok ext
-        → SpellsExt o bytes strings ext
+        (if_ok (func_sections o bytes strings) (λ funcs. if_ok (line_sections o bytes strings) (λ lines. if_ok (core_relo_sections type_matches o bytes) (λ relocations. Ok (whole o bytes funcs lines relocations))))) ≡ Ok ext
+        → SpellsExt type_matches o bytes strings ext
     by_header (Some e) h same = cc
     by_header None h same = by_funcs (func_sections o bytes strings) h refl same
 
-again_from : (o : Endianness) (bytes strings : List ℕ) (ext : ExtInfo) → SpellsExt o bytes strings ext → read_ext o bytes strings ≡ Ok ext
+pub again_from : (type_matches : Bool) (o : Endianness) (bytes strings : List ℕ) (ext : ExtInfo) → SpellsExt type_matches o bytes strings ext → read_ext type_matches o bytes strings ≡ Ok ext
 unfolding read_ext
-again_from o bytes strings ext is =
+again_from type_matches o bytes strings ext is =
     let funcs = funcs_given o bytes strings ∙ part_again o bytes func_part 8 (named_func_info o bytes strings) (λ (all : List (List ℕ × FuncSecInfo)). put_all {R = text_cmp} empty all) is.funcs.0 is.funcs.2 in
     let lines = lines_given o bytes strings ∙ part_again o bytes line_part 16 (named_line_info o bytes strings) (λ (all : List (List ℕ × LineSecInfo)). put_all {R = text_cmp} empty all) is.lines.0 is.lines.2 in
-    let relocations = relocations_given o bytes ∙ part_again o bytes core_relo_part 16 (section_core_relos o bytes) (λ (all : List (ℕ × List Relocation)). all) ext.relocations is.relocations in
+    let relocations = relocations_given type_matches o bytes ∙ part_again o bytes core_relo_part 16 (section_core_relos type_matches o bytes) (λ (all : List (ℕ × List Relocation)). all) ext.relocations is.relocations in
     rw (is.header, funcs, lines, relocations) (ap Ok (same ext _ _ _ _ is.funcs.1 is.lines.1 is.func_record_size is.line_record_size))
   where
     same : (ext : ExtInfo) (funcs : FinMap text_cmp FuncSecInfo) (lines : FinMap text_cmp LineSecInfo) (func_size line_size : ℕ)
@@ -355,11 +355,11 @@ again_from o bytes strings ext is =
     same ext funcs lines func_size line_size f l m n = rw (← f, ← l, ← m, ← n) refl
 
 -- what is read is spelled so
-pub ext_found : (o : Endianness) (bytes strings : List ℕ) (r : Result ExtInfo BtfError) → Gives is_btf_memory r (read_ext o bytes strings) → IfOk r (λ ext. SpellsExt o bytes strings ext)
-ext_found o bytes strings (Ok ext) is = found_from o bytes strings ext is
-ext_found o bytes strings (Err e) is = tt
+pub ext_found : (type_matches : Bool) (o : Endianness) (bytes strings : List ℕ) (r : Result ExtInfo BtfError) → Gives is_btf_memory r (read_ext type_matches o bytes strings) → IfOk r (λ ext. SpellsExt type_matches o bytes strings ext)
+ext_found type_matches o bytes strings (Ok ext) is = found_from type_matches o bytes strings ext is
+ext_found type_matches o bytes strings (Err e) is = tt
 
 -- what is spelled so is read
-pub ext_only : (o : Endianness) (bytes strings : List ℕ) (r : Result ExtInfo BtfError) → Gives is_btf_memory r (read_ext o bytes strings)
-    → (ext : ExtInfo) → SpellsExt o bytes strings ext → Gives is_btf_memory r (Ok ext)
-ext_only o bytes strings r is ext spells = subst (λ (s : Result ExtInfo BtfError). Gives is_btf_memory r s) (again_from o bytes strings ext spells) is
+pub ext_only : (type_matches : Bool) (o : Endianness) (bytes strings : List ℕ) (r : Result ExtInfo BtfError) → Gives is_btf_memory r (read_ext type_matches o bytes strings)
+    → (ext : ExtInfo) → SpellsExt type_matches o bytes strings ext → Gives is_btf_memory r (Ok ext)
+ext_only type_matches o bytes strings r is ext spells = subst (λ (s : Result ExtInfo BtfError). Gives is_btf_memory r s) (again_from type_matches o bytes strings ext spells) is

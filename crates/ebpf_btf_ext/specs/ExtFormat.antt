@@ -1,7 +1,7 @@
 -- The fields of `.BTF.ext` in its bytes (the kernel's Documentation/bpf/btf.rst, 4.2; struct
 -- btf_ext_header, struct btf_ext_info_sec, and in include/uapi/linux/bpf.h struct bpf_core_relo).
 use Rattle.std.specs.Prelude.{ℕ, ◌+◌, ◌*◌, ◌/◌, List, [], ◌∷◌, map, length, Option, None, Result}
-use Rattle.std.specs.Prelude.{Ok, Err, nat_lt, not, ◌&&◌, ◌==◌, if◌then◌else◌}
+use Rattle.std.specs.Prelude.{Ok, Err, nat_lt, not, ◌&&◌, ◌==◌, if◌then◌else◌, Bool}
 use Rattle.std.specs.List.{range_with_len}
 use Rattle.ebpf_base.specs.Faults.{first_of, if_ok}
 use Rattle.ebpf_btf.specs.Next.{if_some}
@@ -18,7 +18,7 @@ use Rattle.ebpf_btf_ext.specs.declared.relocation.Relocation.{Relocation}
 use Rattle.ebpf_btf.specs.Format.{word}
 use Rattle.ebpf_btf.specs.Items.{items_at}
 use Rattle.ebpf_btf.specs.Reading.{header_length, magic}
-use Rattle.ebpf_btf_ext.specs.RelocationKinds.{relocation_kind}
+use Rattle.ebpf_btf_ext.specs.RelocationKinds.{known_kind}
 
 -- ---- the header; offsets count from its end
 
@@ -123,10 +123,10 @@ line_infos o bytes size offset = record {
 -- ---- CO-RE relocations, whose records are little endian in each file
 
 -- the CO-RE relocation at an offset, with its number in its section; the fault where its kind is
--- none
-unfoldable pub core_relo_at : List ℕ → ℕ → ℕ → ℕ → Result Relocation BtfError
-core_relo_at bytes size offset number =
-    if_some (relocation_kind (word Little bytes (offset + size * number + 12)))
+-- none. Kind 12 is one where type matches are known.
+unfoldable pub core_relo_at : Bool → List ℕ → ℕ → ℕ → ℕ → Result Relocation BtfError
+core_relo_at type_matches bytes size offset number =
+    if_some (known_kind type_matches (word Little bytes (offset + size * number + 12)))
     (λ kind. Ok (record {
       insn_off = word Little bytes (offset + size * number);
       type_id = word Little bytes (offset + size * number + 4);
@@ -142,6 +142,6 @@ all_ok [] = Ok []
 all_ok (r ∷ rs) = if_ok r (λ x. if_ok (all_ok rs) (λ xs. Ok (x ∷ xs)))
 
 -- so many relocations from an offset on, numbered from 0
-unfoldable pub core_relos_at : List ℕ → ℕ → ℕ → ℕ → Result (List Relocation) BtfError
-core_relos_at bytes size offset n =
-    all_ok (map (core_relo_at bytes size offset) (range_with_len 0 n))
+unfoldable pub core_relos_at : Bool → List ℕ → ℕ → ℕ → ℕ → Result (List Relocation) BtfError
+core_relos_at type_matches bytes size offset n =
+    all_ok (map (core_relo_at type_matches bytes size offset) (range_with_len 0 n))

@@ -2,7 +2,7 @@
 -- name, and the CO-RE relocations in order (the kernel's Documentation/bpf/btf.rst, 4.2 ".BTF.ext
 -- section").
 use Rattle.std.specs.Prelude.{ℕ, List, [], unwrap_or, zero, suc, ◌+◌, ◌-◌, ◌∷◌, Result, Ok, Err}
-use Rattle.std.specs.Prelude.{◌==◌, if◌then◌else◌, ◌≡◌, None}
+use Rattle.std.specs.Prelude.{◌==◌, if◌then◌else◌, ◌≡◌, None, Bool, true, false}
 use Rattle.std.specs.FinMap.{FinMap, get, empty}
 use Rattle.ebpf_base.specs.Maps.{put_all, text_cmp}
 use Rattle.ebpf_base.specs.Faults.{if_ok}
@@ -57,11 +57,12 @@ named_line_info o bytes strings size offset =
     if_ok (text_at strings (sec_name_off_at o bytes offset)) (λ name.
     Ok (name, line_infos o bytes size offset))
 
--- the offset of a section's name, and its relocations
-unfoldable pub section_core_relos : Endianness → List ℕ → ℕ → ℕ
+-- the offset of a section's name, and its relocations, those of kind 12 (type matches) where this
+-- kind is known
+unfoldable pub section_core_relos : Bool → Endianness → List ℕ → ℕ → ℕ
     → Result (ℕ × List Relocation) BtfError
-section_core_relos o bytes size offset =
-    if_ok (core_relos_at bytes size (offset + 8) (num_info_at o bytes offset)) (λ relocations.
+section_core_relos type_matches o bytes size offset =
+    if_ok (core_relos_at type_matches bytes size (offset + 8) (num_info_at o bytes offset)) (λ relocations.
     Ok (sec_name_off_at o bytes offset, relocations))
 
 abbrev pub func_section : Endianness
@@ -84,14 +85,15 @@ abbrev pub line_section : Endianness
 line_section o bytes strings size end =
     checked_section o bytes 16 size end (named_line_info o bytes strings size)
 
-abbrev pub core_relo_section : Endianness
+abbrev pub core_relo_section : Bool
+    → Endianness
     → List ℕ
     → ℕ
     → ℕ
     → ℕ
     → Result ((ℕ × List Relocation) × ℕ) BtfError
-core_relo_section o bytes size end =
-    checked_section o bytes 16 size end (section_core_relos o bytes size)
+core_relo_section type_matches o bytes size end =
+    checked_section o bytes 16 size end (section_core_relos type_matches o bytes size)
 
 -- ---- sections one after the other, of which there are at most `left`
 
@@ -139,13 +141,14 @@ line_sections o bytes strings =
     (line_section o bytes strings (record_size o bytes line_part)
     (sections_end o bytes line_part))))
 
-unfoldable pub core_relo_sections : Endianness
+unfoldable pub core_relo_sections : Bool
+    → Endianness
     → List ℕ
     → Result (List (ℕ × List Relocation)) BtfError
-core_relo_sections o bytes =
+core_relo_sections type_matches o bytes =
     if_some (part_fault o bytes core_relo_part) (λ e. Err e)
     (part_sections o bytes core_relo_part
-    (core_relo_section o bytes (record_size o bytes core_relo_part)
+    (core_relo_section type_matches o bytes (record_size o bytes core_relo_part)
     (sections_end o bytes core_relo_part)))
 
 -- the contents: func info and line info by section name, the relocations of sections in order, each
@@ -157,12 +160,12 @@ pub record ExtInfo : Type 0 where
   pub func_record_size : ℕ
   pub line_record_size : ℕ
 
-unfoldable pub read_ext : Endianness → List ℕ → List ℕ → Result ExtInfo BtfError
-read_ext o bytes strings =
+unfoldable pub read_ext : Bool → Endianness → List ℕ → List ℕ → Result ExtInfo BtfError
+read_ext type_matches o bytes strings =
     if_some (ext_header_fault o bytes) (λ e. Err e) (
     if_ok (func_sections o bytes strings) (λ funcs.
     if_ok (line_sections o bytes strings) (λ lines.
-    if_ok (core_relo_sections o bytes) (λ relocations. Ok (record {
+    if_ok (core_relo_sections type_matches o bytes) (λ relocations. Ok (record {
       func_info = funcs;
       line_info = lines;
       relocations = relocations;
@@ -201,7 +204,9 @@ pub record IsPart {S : Type 0} (o : Endianness) (bytes : List ℕ) (at least : �
 
 -- The header is sound, and the parts are these func info, line info and relocations; of sections of
 -- func info or line info with equal names the last one counts.
-pub record SpellsExt (o : Endianness) (bytes strings : List ℕ) (ext : ExtInfo) : Type 0 where
+pub record SpellsExt (type_matches : Bool) (o : Endianness) (bytes strings : List ℕ)
+    (ext : ExtInfo)
+    : Type 0 where
   pub header : ext_header_fault o bytes ≡ None
   pub funcs : (sections : List (List ℕ × FuncSecInfo))
       × (ext.func_info ≡ put_all empty sections)
@@ -209,6 +214,16 @@ pub record SpellsExt (o : Endianness) (bytes strings : List ℕ) (ext : ExtInfo)
   pub lines : (sections : List (List ℕ × LineSecInfo))
       × (ext.line_info ≡ put_all empty sections)
       × IsPart o bytes line_part 16 (named_line_info o bytes strings) sections
-  pub relocations : IsPart o bytes core_relo_part 16 (section_core_relos o bytes) ext.relocations
+  pub relocations : IsPart o bytes core_relo_part 16 (section_core_relos type_matches o bytes)
+      ext.relocations
   pub func_record_size : ext.func_record_size ≡ record_size o bytes func_part
   pub line_record_size : ext.line_record_size ≡ record_size o bytes line_part
+
+-- ---- readings that know kind 12, and others
+
+-- what is read without kind 12 is read with it
+abbrev pub KnownKindsAddNothing : Type 0
+KnownKindsAddNothing =
+    (o : Endianness) (bytes strings : List ℕ) (ext : ExtInfo)
+    → read_ext false o bytes strings ≡ Ok ext
+    → read_ext true o bytes strings ≡ Ok ext

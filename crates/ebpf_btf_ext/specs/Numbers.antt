@@ -1,10 +1,10 @@
 -- The numbers of CO-RE relocation kinds and the header fields of `.BTF.ext` in the definitions are
 -- the kernel's (include/uapi/linux/bpf.h, enum bpf_core_relo_kind; Documentation/bpf/btf.rst,
 -- struct btf_ext_header).
-use Rattle.std.specs.Prelude.{◌≡◌, Some, None, refl}
+use Rattle.std.specs.Prelude.{◌≡◌, Some, None, refl, true}
 use Rattle.ebpf_btf_ext.specs.declared.relocation.RelocationKind.TheVariants as kinds
 use Rattle.ebpf_btf_ext.specs.ExtFormat.{func_part, line_part, core_relo_part}
-use Rattle.ebpf_btf_ext.specs.RelocationKinds.{relocation_kind}
+use Rattle.ebpf_btf_ext.specs.RelocationKinds.{relocation_kind, known_kind}
 
 -- ---- enum bpf_core_relo_kind
 
@@ -68,7 +68,12 @@ pub enumval_value_kind_number : relocation_kind 11 ≡ Some kinds.EnumVariantVal
 unfolding relocation_kind
 enumval_value_kind_number = refl
 
--- BPF_CORE_TYPE_MATCHES is 12; this library does not read it
+-- BPF_CORE_TYPE_MATCHES
+pub type_matches_kind_number : known_kind true 12 ≡ Some kinds.TypeMatches
+unfolding known_kind
+type_matches_kind_number = refl
+
+-- a reading that does not know type matches has no kind 12
 pub past_kind_number : relocation_kind 12 ≡ None
 unfolding relocation_kind
 past_kind_number = refl

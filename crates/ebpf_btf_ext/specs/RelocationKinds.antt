@@ -1,6 +1,7 @@
 -- The kinds of CO-RE relocations by their numbers (the kernel's include/uapi/linux/bpf.h, enum
 -- bpf_core_relo_kind).
-use Rattle.std.specs.Prelude.{◌≡◌, ℕ, Option, Some, None, ◌==◌, if◌then◌else◌}
+use Rattle.std.specs.Prelude.{◌≡◌, ℕ, Bool, true, Option, Some, None, ◌==◌, ◌&&◌}
+use Rattle.std.specs.Prelude.{if◌then◌else◌}
 use Rattle.ebpf_btf_ext.specs.declared.relocation.RelocationKind.{RelocationKind}
 use Rattle.ebpf_btf_ext.specs.declared.relocation.RelocationKind.TheVariants.{FieldByteOffset}
 use Rattle.ebpf_btf_ext.specs.declared.relocation.RelocationKind.TheVariants.{FieldByteSize}
@@ -13,6 +14,7 @@ use Rattle.ebpf_btf_ext.specs.declared.relocation.RelocationKind.TheVariants.{Ty
 use Rattle.ebpf_btf_ext.specs.declared.relocation.RelocationKind.TheVariants.{TypeExists, TypeSize}
 use Rattle.ebpf_btf_ext.specs.declared.relocation.RelocationKind.TheVariants.{EnumVariantExists}
 use Rattle.ebpf_btf_ext.specs.declared.relocation.RelocationKind.TheVariants.{EnumVariantValue}
+use Rattle.ebpf_btf_ext.specs.declared.relocation.RelocationKind.TheVariants.{TypeMatches}
 
 unfoldable pub relocation_kind_number : RelocationKind → ℕ
 relocation_kind_number FieldByteOffset = 0
@@ -27,8 +29,9 @@ relocation_kind_number TypeExists = 8
 relocation_kind_number TypeSize = 9
 relocation_kind_number EnumVariantExists = 10
 relocation_kind_number EnumVariantValue = 11
+relocation_kind_number TypeMatches = 12
 
--- the kind of a number; there is none past 11
+-- the kind of a number up to 11; there is none past 11
 unfoldable pub relocation_kind : ℕ → Option RelocationKind
 relocation_kind n =
     if n == 0 then Some FieldByteOffset else
@@ -44,15 +47,20 @@ relocation_kind n =
     (if n == 10 then Some EnumVariantExists else
     (if n == 11 then Some EnumVariantValue else None)))))))))))
 
--- ---- the two tables compared with each other
+-- the kind of a number, where kind 12 (BPF_CORE_TYPE_MATCHES) may be known as well
+unfoldable pub known_kind : Bool → ℕ → Option RelocationKind
+known_kind type_matches n =
+    if type_matches && n == 12 then Some TypeMatches else relocation_kind n
+
+-- ---- the tables compared with each other
 
 -- the relocation kind of a number has this number
 abbrev pub RelocationKindsByNumber : Type 0
 RelocationKindsByNumber =
-    (n : ℕ) (kind : RelocationKind) → relocation_kind n ≡ Some kind
+    (type_matches : Bool) (n : ℕ) (kind : RelocationKind) → known_kind type_matches n ≡ Some kind
     → relocation_kind_number kind ≡ n
 
--- each kind is the kind of its number
+-- each kind is the kind of its number, where kind 12 is known
 abbrev pub NumbersOfRelocationKinds : Type 0
 NumbersOfRelocationKinds =
-    (kind : RelocationKind) → relocation_kind (relocation_kind_number kind) ≡ Some kind
+    (kind : RelocationKind) → known_kind true (relocation_kind_number kind) ≡ Some kind

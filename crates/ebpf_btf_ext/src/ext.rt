@@ -1,6 +1,6 @@
 //! Reads `.BTF.ext`.
 
-ghost use Rattle.std.specs.Prelude.{◌≡◌, length, IfOk, Ok};
+ghost use Rattle.std.specs.Prelude.{◌≡◌, length, IfOk, Ok, false};
 ghost use Rattle.ebpf_base.specs.Faults.{Gives};
 ghost use Rattle.ebpf_btf_ext.specs.ExtReading.{ExtInfo, read_ext, func_sections, line_sections, core_relo_sections, SpellsExt};
 ghost use Rattle.ebpf_btf_ext.specs.ExtFormat.{func_part, line_part, record_size};
@@ -69,11 +69,13 @@ impl Model for BtfExt {
 #[tactic(auto, unfolding(crate::specs::ExtReading::read_ext, crate::specs::ExtReading::func_sections, crate::specs::ExtReading::line_sections, crate::specs::ExtReading::core_relo_sections))]
 fn read_parts(
     alloc: Global,
+    type_matches: bool,
     endianness: Endianness,
     data: &[u8],
     btf: &Btf,
 ) -> Result<BtfExt, BtfError>
-    ensures { Gives is_btf_memory result (read_ext endianness «data».now btf.now.strings) }
+    ensures { Gives is_btf_memory result
+        (read_ext type_matches endianness «data».now btf.now.strings) }
 {
     let header = read_header_length(endianness, data)?;
     let func_part = read_part(endianness, data, header, FUNC_PART)?;
@@ -81,7 +83,13 @@ fn read_parts(
     let line_part = read_part(endianness, data, header, LINE_PART)?;
     let lines = read_line_sections(alloc, endianness, data, btf, line_part)?;
     let core_relo_part = read_part(endianness, data, header, RELOCATION_PART)?;
-    let relocations = read_relocation_sections(alloc, endianness, data, core_relo_part)?;
+    let relocations = read_relocation_sections(
+        alloc,
+        type_matches,
+        endianness,
+        data,
+        core_relo_part,
+    )?;
     Ok(BtfExt {
         func_info: funcs,
         line_info: lines,
@@ -119,13 +127,41 @@ impl BtfExt {
         btf: &Btf,
     ) -> Result<BtfExt, BtfError>
         ensures exact { Gives is_btf_memory result
-            (read_ext endianness «data».now btf.now.strings) }
-        ensures found { IfOk result (λ ext. SpellsExt endianness «data».now btf.now.strings ext) }
+            (read_ext false endianness «data».now btf.now.strings) }
+        ensures found { IfOk result (λ ext.
+            SpellsExt false endianness «data».now btf.now.strings ext) }
         ensures only { (ext : ExtInfo)
-            → SpellsExt endianness «data».now btf.now.strings ext
+            → SpellsExt false endianness «data».now btf.now.strings ext
             → Gives is_btf_memory result (Ok ext) }
     {
-        read_parts(alloc, endianness, data, btf)
+        read_parts(alloc, false, endianness, data, btf)
+    }
+
+    /// Reads the three parts of `.BTF.ext` as `parse` does. With `type_matches` relocations of kind 12 (type matches) are
+    /// read as well.
+    ///
+    /// # Errors
+    ///
+    /// Those of `parse`, in the same order, except:
+    ///
+    /// - `InvalidRelocationKind`: the kind of a relocation is past 11, or past 12 with `type_matches`.
+    #[tactic(auto, using(crate::proofs::ExtSections::ext_found, crate::proofs::ExtSections::ext_only))]
+    pub fn parse_as(
+        alloc: Global,
+        data: &[u8],
+        endianness: Endianness,
+        btf: &Btf,
+        type_matches: bool,
+    ) -> Result<BtfExt, BtfError>
+        ensures exact { Gives is_btf_memory result
+            (read_ext type_matches endianness «data».now btf.now.strings) }
+        ensures found { IfOk result (λ ext.
+            SpellsExt type_matches endianness «data».now btf.now.strings ext) }
+        ensures only { (ext : ExtInfo)
+            → SpellsExt type_matches endianness «data».now btf.now.strings ext
+            → Gives is_btf_memory result (Ok ext) }
+    {
+        read_parts(alloc, type_matches, endianness, data, btf)
     }
 
     /// Returns the CO-RE relocations by section, in order: for each section the offset of its name in the strings, and the

@@ -187,19 +187,23 @@ impl Row for bpf_line_info {
 }
 
 /// Returns the relocation with an index, of the relocations of a size from `offset` on. Relocations are little-endian in
-/// each file.
+/// each file. With `type_matches` kind 12 is known.
 #[tactic(auto, unfolding(crate::specs::ExtFormat::core_relo_at))]
 fn read_relocation(
+    type_matches: bool,
     bytes: &[u8],
     offset: usize,
     size: usize,
     number: usize,
 ) -> Result<Relocation, BtfError>
     requires { offset + size * number + 16 ≤ length bytes.now }
-    ensures { result ≡ core_relo_at bytes.now size offset number }
+    ensures { result ≡ core_relo_at type_matches bytes.now size offset number }
 {
     let offset = offset + size * number;
-    let kind = RelocationKind::try_from(read_u32(Endianness::Little, bytes, offset + 12))?;
+    let kind = RelocationKind::known(
+        read_u32(Endianness::Little, bytes, offset + 12),
+        type_matches,
+    )?;
     Ok(Relocation {
         insn_off: read_u32(Endianness::Little, bytes, offset),
         type_id: read_u32(Endianness::Little, bytes, offset + 4),
@@ -213,11 +217,12 @@ fn read_relocation(
 ///
 /// # Errors
 ///
-/// - `InvalidRelocationKind`: the kind of a relocation is past 11; the first such kind.
+/// - `InvalidRelocationKind`: the kind of a relocation is past 11, or past 12 with `type_matches`; the first such kind.
 /// - `OutOfMemory`: out of memory.
 #[tactic(auto, using(ebpf_btf::proofs::InOrder::record_inside))]
 fn read_relocations(
     alloc: Global,
+    type_matches: bool,
     bytes: &[u8],
     offset: usize,
     size: usize,
@@ -225,11 +230,11 @@ fn read_relocations(
 ) -> Result<Items<Relocation>, BtfError>
     requires whole { offset + size * count ≤ length bytes.now }
     requires long { 0 < count → 16 ≤ size }
-    ensures { Gives is_btf_memory result (core_relos_at bytes.now size offset count) }
+    ensures { Gives is_btf_memory result (core_relos_at type_matches bytes.now size offset count) }
 {
     let mut items = Vec::with_capacity(alloc, count)?;
     for number in 0..count {
-        items.push(read_relocation(bytes, offset, size, number)?)?;
+        items.push(read_relocation(type_matches, bytes, offset, size, number)?)?;
     }
     Ok(Items::from_vec(items))
 }
@@ -332,6 +337,7 @@ pub fn read_line_sections(
 #[tactic(auto, unfolding(crate::specs::ExtReading::checked_section, crate::specs::ExtReading::section_core_relos))]
 fn read_relocation_section(
     alloc: Global,
+    type_matches: bool,
     order: Endianness,
     bytes: &[u8],
     part: Part,
@@ -340,18 +346,20 @@ fn read_relocation_section(
     requires before { offset < part.end }
     requires inside { part.end ≤ length bytes.now }
     ensures found { Gives is_btf_memory result
-        (core_relo_section order bytes.now part.record_size part.end offset) }
+        (core_relo_section type_matches order bytes.now part.record_size part.end offset) }
 {
     let head = read_section_head(order, bytes, part, RELOCATION, offset)?;
     let size = part.record_size as usize;
     let count = head.count as usize;
-    let relocations = read_relocations(alloc, bytes, offset + SECTION_HEAD, size, count)?;
+    let start = offset + SECTION_HEAD;
+    let relocations = read_relocations(alloc, type_matches, bytes, start, size, count)?;
     Ok(((head.name_offset, relocations), head.next))
 }
 
-/// Returns the sections of relocations of a part, in order.
+/// Returns the sections of relocations of a part, in order. With `type_matches` kind 12 is known.
 pub fn read_relocation_sections(
     alloc: Global,
+    type_matches: bool,
     order: Endianness,
     bytes: &[u8],
     part: Part,
@@ -360,13 +368,20 @@ pub fn read_relocation_sections(
     requires inside { part.end ≤ length bytes.now }
     ensures { Gives is_btf_memory result
         (sections_from (part.end - part.offset)
-        (core_relo_section order bytes.now part.record_size part.end) part.offset
+        (core_relo_section type_matches order bytes.now part.record_size part.end) part.offset
         part.end) }
 {
     let mut sections = Items::new(alloc);
     let mut offset = part.offset;
     while offset < part.end {
-        let (section, next) = read_relocation_section(alloc, order, bytes, part, offset)?;
+        let (section, next) = read_relocation_section(
+            alloc,
+            type_matches,
+            order,
+            bytes,
+            part,
+            offset,
+        )?;
         sections.push(section)?;
         offset = next;
     }

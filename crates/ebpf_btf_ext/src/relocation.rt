@@ -2,7 +2,7 @@
 
 ghost use Rattle.std.specs.Prelude.{◌≡◌, Ok, Err};
 ghost use Rattle.std.specs.Option.{ok_or};
-ghost use Rattle.ebpf_btf_ext.specs.RelocationKinds.{relocation_kind, relocation_kind_number};
+ghost use Rattle.ebpf_btf_ext.specs.RelocationKinds.{known_kind, relocation_kind, relocation_kind_number};
 ghost use Rattle.ebpf_btf.specs.declared.error.BtfError.TheVariants.{InvalidRelocationKind};
 
 use ebpf_btf::BtfError;
@@ -10,7 +10,7 @@ use ebpf_btf::BtfError;
 /// The kind of a CO-RE relocation: the value that it takes from its type, field or variant.
 ///
 /// The kinds are in the order of their numbers in `.BTF.ext` (`enum bpf_core_relo_kind`): `FieldByteOffset` is 0,
-/// `EnumVariantValue` is 11.
+/// `TypeMatches` is 12.
 #[derive(Clone, Copy, Debug, PartialEq, Eq)]
 pub enum RelocationKind {
     /// The offset of a field in bytes.
@@ -37,15 +37,32 @@ pub enum RelocationKind {
     EnumVariantExists,
     /// The value of a variant of an enumeration.
     EnumVariantValue,
+    /// Whether the type matches a type of the kernel (1) or not (0). Lenient parsing alone reads this kind.
+    TypeMatches,
 }
 
 impl RelocationKind {
-    /// Returns the number of the kind in `.BTF.ext`, 0 to 11.
+    /// Returns the number of the kind in `.BTF.ext`, 0 to 12.
     #[tactic(auto, unfolding(crate::specs::RelocationKinds::relocation_kind_number))]
     pub fn number(self) -> u32
         ensures { result ≡ relocation_kind_number self }
     {
         self as u32
+    }
+
+    /// Returns the kind with a number, as `try_from` does; with `type_matches` also kind 12.
+    ///
+    /// # Errors
+    ///
+    /// - `InvalidRelocationKind`: the number is past 11, or past 12 with `type_matches`.
+    #[tactic(auto, unfolding(crate::specs::RelocationKinds::known_kind))]
+    pub fn known(value: u32, type_matches: bool) -> Result<RelocationKind, BtfError>
+        ensures { result ≡ ok_or (known_kind type_matches value) (InvalidRelocationKind value) }
+    {
+        if type_matches && value == 12 {
+            return Ok(RelocationKind::TypeMatches);
+        }
+        RelocationKind::try_from(value)
     }
 }
 
@@ -55,7 +72,7 @@ impl TryFrom<u32> for RelocationKind {
     ghost try_from_gives = { λ number result.
         result ≡ ok_or (relocation_kind number) (InvalidRelocationKind number) };
 
-    /// Returns the kind with a number.
+    /// Returns the kind with a number up to 11.
     ///
     /// # Errors
     ///

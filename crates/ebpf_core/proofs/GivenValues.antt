@@ -11,6 +11,7 @@ use Rattle.ebpf_btf.specs.declared.types.BtfType.{BtfType}
 use Rattle.ebpf_btf_ext.specs.declared.relocation.Relocation.{Relocation}
 use Rattle.ebpf_core_candidates.proofs.Refusals.{ok_parts, same_ok}
 use Rattle.ebpf_core_candidates.specs.Compatibility.{types_compatible}
+use Rattle.ebpf_core_candidates.specs.TypeMatches.{types_match}
 use Rattle.ebpf_core.proofs.Collected.{collect, first_is, kept, split}
 use Rattle.ebpf_core.proofs.MatchSteps as variants
 use Rattle.ebpf_core.proofs.MatchSteps.{kept_with, match_more, no_candidates}
@@ -19,7 +20,7 @@ use Rattle.ebpf_core.specs.Answers.{each, of_types}
 use Rattle.ebpf_core.specs.Fields.{field_value}
 use Rattle.ebpf_core.specs.Outcomes.{FirstVariantIs, by_place, first_variant, found_at_candidate, match_of, match_value, matches, type_name_at, type_value}
 use Rattle.ebpf_core.specs.Places.{PathLeads, place_of}
-use Rattle.ebpf_core.specs.SamePathValue.{HasEnumerator, HasField, HasFieldAlone, HasPath, IsCompatible, IsIncompatible, LacksEnumerator, LacksField, LacksPath}
+use Rattle.ebpf_core.specs.SamePathValue.{DoesNotMatch, HasEnumerator, HasField, HasFieldAlone, HasPath, IsCompatible, IsIncompatible, LacksEnumerator, LacksField, LacksPath, Matches}
 use Rattle.ebpf_core.specs.declared.error.RelocationError.{RelocationError}
 use Rattle.ebpf_core.specs.declared.error.RelocationError.TheVariants.{MaximumNestingLevelReached}
 use Rattle.ebpf_core.specs.declared.field.FieldFault.{FieldFault}
@@ -51,6 +52,7 @@ module _ (local target : TypeInfo) (r : Relocation) where
   lacks_gives id (LacksField steps place leads) = rw (one_place local target leads) refl
   lacks_gives id (LacksEnumerator name t is first) = rw (is, sym (variants.one_first target name (unwrap_or (variants_of t) []) (Ok None) first)) refl
   lacks_gives id (IsIncompatible is) = rw is refl
+  lacks_gives id (DoesNotMatch is) = rw is refl
 
   pub has_gives : {path : NamedPath} {value : MatchValue} (id : ℕ) → HasPath local target r.kind r.type_id id path value → given path id ≡ Ok (Some value)
   unfolding found_at_candidate match_value
@@ -58,6 +60,7 @@ module _ (local target : TypeInfo) (r : Relocation) where
   has_gives id (HasFieldAlone steps place there fault leads is) = rw (one_place local target leads, is) refl
   has_gives id (HasEnumerator name t value is first) = rw (is, sym (variants.one_first target name (unwrap_or (variants_of t) []) (Ok (Some value)) first)) refl
   has_gives id (IsCompatible number is counted) = rw (is, counted) refl
+  has_gives id (Matches number is counted) = rw (is, counted) refl
 
   -- a candidate lacks the path, or has it with a value
   abbrev Gave : NamedPath → ℕ → Option MatchValue → Type 0
@@ -71,6 +74,14 @@ module _ (local target : TypeInfo) (r : Relocation) where
   by_fits id (Ok false) is number counted = IsIncompatible is
   by_fits id (Ok true) is (Err e) counted = rw counted tt
   by_fits id (Ok true) is (Ok number) counted = rw counted (IsCompatible number is counted)
+
+  by_match : (id : ℕ) (fits : Result Bool TypeError) → types_match local r.type_id target id ≡ fits → (number : Result ℕ TypeError) → type_value target r.kind id ≡ number
+      → IfOk (if_ok (if_ok (of_types fits) (λ fits. Ok (if fits then Some found.WholeType else None))) (valued id)) (Gave paths.MatchedType id)
+  unfolding match_value
+  by_match id (Err e) is number counted = tt
+  by_match id (Ok false) is number counted = DoesNotMatch is
+  by_match id (Ok true) is (Err e) counted = rw counted tt
+  by_match id (Ok true) is (Ok number) counted = rw counted (Matches number is counted)
 
   by_variant : (name : List ℕ) (id : ℕ) (t : BtfType) → resolved_type target.types id ≡ Ok t → (value : Result (Option ℕ) TypeError)
       → FirstVariantIs target name (unwrap_or (variants_of t) []) value
@@ -107,6 +118,7 @@ module _ (local target : TypeInfo) (r : Relocation) where
   gives_so : (path : NamedPath) (id : ℕ) → IfOk (given path id) (Gave path id)
   unfolding found_at_candidate
   gives_so paths.WholeType id = by_fits id (types_compatible local r.type_id target id) refl (type_value target r.kind id) refl
+  gives_so paths.MatchedType id = by_match id (types_match local r.type_id target id) refl (type_value target r.kind id) refl
   gives_so (paths.Variant name) id = by_enumeration name id (resolved_type target.types id) refl
   gives_so (paths.Field steps place) id = by_leads steps place id (place_of local target id steps) (path_leads local target id steps)
 

@@ -15,7 +15,7 @@ use Rattle.ebpf_btf.specs.Steps.{resolved, type_at}
 use Rattle.ebpf_btf.specs.Strings.{text_at, type_name}
 use Rattle.ebpf_btf_ext.specs.declared.relocation.Relocation.{Relocation}
 use Rattle.ebpf_core_candidates.proofs.Refusals.{by_answer}
-use Rattle.ebpf_core.specs.LocalPaths.{all_of, part_step, spot_after, accessors, field_path, local_path, path_for, spot_at_element, basis_of, FieldLeads, NoPart, NoRoot, NoField, ToField, IsRead, LocalPathLeads, OfType, NoType, OfVariant, OfField, LocalSideIs, NoLocalType, NoName, NoString, NoAccessors, NotResolved, NoPath, Led, AccessorsLead, Arrived, Refused, Onward, accessor_of, number_of_digits}
+use Rattle.ebpf_core.specs.LocalPaths.{all_of, part_step, spot_after, accessors, field_path, local_path, path_for, spot_at_element, basis_of, FieldLeads, NoPart, NoRoot, NoField, ToField, IsRead, LocalPathLeads, OfType, OfMatchedType, NoType, OfVariant, OfField, LocalSideIs, NoLocalType, NoName, NoString, NoAccessors, NotResolved, NoPath, Led, AccessorsLead, Arrived, Refused, Onward, accessor_of, number_of_digits}
 use Rattle.ebpf_core.specs.Answers.{each, Tells, of_types}
 use Rattle.ebpf_core.specs.declared.error.RelocationError.{RelocationError}
 use Rattle.ebpf_core.specs.declared.local_walk.LocalSpot.{LocalSpot}
@@ -176,6 +176,7 @@ module _ (info : TypeInfo) (r : Relocation) where
 
     leads_by : (s : RelocationBasis) → basis_of r.kind ≡ s → Leads (path_for info r.number access id parts s)
     leads_by bases.WholeType of = OfType of
+    leads_by bases.MatchedType of = OfMatchedType of
     leads_by bases.Variant of = by_types Leads (type_at info.types id) _ (λ e is. NoType e of is) (λ t is. OfVariant t of is)
     leads_by bases.Field of = OfField (field_path info r.number access id parts) of (field_leads info r.number access id parts)
 
@@ -184,6 +185,7 @@ module _ (info : TypeInfo) (r : Relocation) where
 
     one_path : {a : Result NamedPath RelocationError} → Leads a → path_for info r.number access id parts (basis_of r.kind) ≡ a
     one_path (OfType of) = rw of refl
+    one_path (OfMatchedType of) = rw of refl
     one_path (NoType e of is) = rw (of, is) refl
     one_path (OfVariant t of is) = rw (of, is) refl
     one_path (OfField a of way) = rw of (one_field info r.number access id way)

@@ -28,7 +28,7 @@ use Rattle.ebpf_core.specs.Answers.{each, of_types}
 use Rattle.ebpf_core.specs.Fields.{field_value}
 use Rattle.ebpf_core.specs.LocalPaths.{LocalSideIs, local_path}
 use Rattle.ebpf_core.specs.Outcomes.{differing_names, loaded_by, local_loaded, match_value, matches, outcome_among, outcome_of_matches, values_agree, without_match}
-use Rattle.ebpf_core.specs.SamePathValue.{AgreesWith, ByLack, ByValue, HasPath, InCandidate, InNoCandidate, IsCandidate, IsSameValue, IsSought, LacksPath, LoadsLocally, OfEnumerator, OfLocalField, OfLocalType, OutcomesAreOfSamePaths, OwnId, SamePathValue, SamePathValueIsOne, SamePathsAreOutcomes, is_of_kind_of}
+use Rattle.ebpf_core.specs.SamePathValue.{AgreesWith, ByLack, ByValue, HasPath, InCandidate, InNoCandidate, IsCandidate, IsSameValue, IsSought, LacksPath, LoadsLocally, OfEnumerator, OfLocalField, OfLocalType, OfMatchedType, OutcomesAreOfSamePaths, OwnId, SamePathValue, SamePathValueIsOne, SamePathsAreOutcomes, is_of_kind_of}
 use Rattle.ebpf_core.specs.Searches.{candidates_for, candidates_named, ids_unless_fault, is_local, itself, outcome_of, was_enum64}
 use Rattle.ebpf_core.specs.declared.error.RelocationError.{RelocationError}
 use Rattle.ebpf_core.specs.declared.error.RelocationError.TheVariants.{ConflictingCandidates}
@@ -82,6 +82,7 @@ unfolding local_loaded
 loads_is r (OfLocalField steps place value is) = rw is refl
 loads_is r (OfEnumerator name) = refl
 loads_is r OfLocalType = refl
+loads_is r OfMatchedType = refl
 
 module _ (local : TypeInfo) (r : Relocation) where
   by_local : (steps : List Step) (place : FieldPlace) (value : Result FieldValue FieldFault) → field_value local r.kind place ≡ value
@@ -95,6 +96,7 @@ module _ (local : TypeInfo) (r : Relocation) where
   loads_all (paths.Field steps place) = by_local steps place (field_value local r.kind place) refl
   loads_all (paths.Variant name) = OfEnumerator name
   loads_all paths.WholeType = OfLocalType
+  loads_all paths.MatchedType = OfMatchedType
 
   loads_so : (path : NamedPath) (loaded : Option LoadedField) → local_loaded local r path ≡ Ok loaded → LoadsLocally local r.kind path loaded
   loads_so path loaded is = IfOk-at_ok (LoadsLocally local r.kind path) is (loads_all path)
@@ -114,6 +116,7 @@ local_kind relocations.TypeExists is = cc
 local_kind relocations.TypeSize is = cc
 local_kind relocations.EnumVariantExists is = cc
 local_kind relocations.EnumVariantValue is = cc
+local_kind relocations.TypeMatches is = cc
 
 other_kind : (kind : RelocationKind) → is_local kind ≡ false → kind ≢ relocations.TypeIdLocal
 other_kind kind is same = let yes : is_local kind ≡ true = ap is_local same in cc

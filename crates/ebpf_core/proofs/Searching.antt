@@ -23,7 +23,7 @@ use Rattle.ebpf_btf.specs.Variants.{variants_of}
 use Rattle.ebpf_core_candidates.specs.Candidates.{IndexedTypes, has_named, is_among_kinds}
 use Rattle.ebpf_btf.specs.Steps.{resolved, type_at}
 use Rattle.ebpf_btf_ext.proofs.Relocations.{numbers_of_relocation_kinds}
-use Rattle.ebpf_btf_ext.specs.RelocationKinds.{relocation_kind, relocation_kind_number}
+use Rattle.ebpf_btf_ext.specs.RelocationKinds.{known_kind, relocation_kind_number}
 use Rattle.ebpf_btf_ext.specs.declared.relocation.RelocationKind.{RelocationKind}
 use Rattle.ebpf_base.proofs.Maps.{is_equal}
 use Rattle.ebpf_btf.specs.declared.kind.BtfKind.TheVariants as kinds
@@ -163,6 +163,7 @@ module _ (info : TypeInfo) (access : List ℕ) (n m : ℕ) where
   path_alike : (id : ℕ) (parts : List ℕ) (s : RelocationBasis) → Follows (path_for info n access id parts s) (path_for info m access id parts s)
   unfolding field_path variant_path
   path_alike id parts bases.WholeType = λ x is. is
+  path_alike id parts bases.MatchedType = λ x is. is
   path_alike id parts bases.Variant = on_same (of_types (type_at info.types id)) _ _ (λ t. on_none (variants_of t) _ _ _ (never _ (wrong_kind m)))
   path_alike id [] bases.Field = λ x is. is
   path_alike id (root ∷ parts) bases.Field = on_same (spot_at_element info [] 0 id root) _ _ (λ start. on_first (spot_after info n access parts start) (spot_after info m access parts start) _ (walk_alike parts start))
@@ -192,6 +193,7 @@ module _ (local target : TypeInfo) (r : Relocation) (number insn_off : ℕ) wher
   unfolding local_loaded
   field_loaded_alike (paths.Field steps place) = loaded_alike (field_value local r.kind place)
   field_loaded_alike paths.WholeType = λ x is. is
+  field_loaded_alike paths.MatchedType = λ x is. is
   field_loaded_alike (paths.Variant name) = λ x is. is
 
   outcome_alike : Follows (outcome_of local target r) (outcome_of local target (again r number insn_off))
@@ -210,7 +212,7 @@ module _ (local target : TypeInfo) (r : Relocation) (number insn_off : ℕ) wher
 -- ---- records that ask the same
 
 kinds_alike : (a b : RelocationKind) → relocation_kind_number a ≡ relocation_kind_number b → a ≡ b
-kinds_alike a b e = same_Some _ _ (sym (numbers_of_relocation_kinds a) ∙ ap relocation_kind e ∙ numbers_of_relocation_kinds b)
+kinds_alike a b e = same_Some _ _ (sym (numbers_of_relocation_kinds a) ∙ ap (known_kind true) e ∙ numbers_of_relocation_kinds b)
 
 pub same_record : (r s : Relocation) → question_of r ≡ question_of s → again r s.number s.insn_off ≡ s
 same_record r s e =

@@ -40,6 +40,7 @@ use Rattle.ebpf_btf_ext.specs.declared.relocation.RelocationKind.TheVariants.{Ty
 use Rattle.ebpf_btf_ext.specs.declared.relocation.RelocationKind.TheVariants.{TypeExists, TypeSize}
 use Rattle.ebpf_btf_ext.specs.declared.relocation.RelocationKind.TheVariants.{EnumVariantExists}
 use Rattle.ebpf_btf_ext.specs.declared.relocation.RelocationKind.TheVariants.{EnumVariantValue}
+use Rattle.ebpf_btf_ext.specs.declared.relocation.RelocationKind.TheVariants.{TypeMatches}
 use Rattle.ebpf_btf.specs.declared.error.BtfError.{BtfError as TypeError}
 use Rattle.ebpf_core.specs.declared.error.RelocationError.{RelocationError}
 use Rattle.ebpf_core.specs.declared.error.RelocationError.TheVariants.{InvalidAccessString}
@@ -53,6 +54,7 @@ use Rattle.ebpf_core.specs.declared.local_walk.LocalSpot.{LocalSpot}
 use Rattle.ebpf_core.specs.declared.paths.RelocationBasis.{RelocationBasis}
 use Rattle.ebpf_core.specs.Answers.{of_types}
 use Rattle.ebpf_core.specs.declared.paths.RelocationBasis.TheVariants.{Field, WholeType, Variant}
+use Rattle.ebpf_core.specs.declared.paths.RelocationBasis.TheVariants.{MatchedType}
 use Rattle.ebpf_core.specs.declared.paths.NamedPath.TheVariants as paths
 use Rattle.ebpf_core.specs.declared.paths.RelocationBasis.TheVariants as bases
 
@@ -108,6 +110,7 @@ basis_of TypeIdLocal = WholeType
 basis_of TypeIdTarget = WholeType
 basis_of TypeExists = WholeType
 basis_of TypeSize = WholeType
+basis_of TypeMatches = MatchedType
 basis_of EnumVariantExists = Variant
 basis_of EnumVariantValue = Variant
 
@@ -206,10 +209,10 @@ abbrev pub only_accessor : List ℕ → Option ℕ
 only_accessor (part ∷ []) = Some part
 only_accessor _ = None
 
-abbrev pub type_path : List ℕ → List ℕ → Result NamedPath RelocationError
-type_path access parts =
+abbrev pub type_path : NamedPath → List ℕ → List ℕ → Result NamedPath RelocationError
+type_path path access parts =
     if_some (only_accessor parts)
-    (λ part. if part == 0 then Ok paths.WholeType else wrong_string access)
+    (λ part. if part == 0 then Ok path else wrong_string access)
     (wrong_string access)
 
 abbrev pub named_variant : TypeInfo → BtfVariant → Result NamedPath RelocationError
@@ -230,7 +233,8 @@ variant_path info number access t parts =
 
 abbrev pub path_for : TypeInfo → ℕ → List ℕ → ℕ → List ℕ → RelocationBasis
     → Result NamedPath RelocationError
-path_for info number access id parts bases.WholeType = type_path access parts
+path_for info number access id parts bases.WholeType = type_path paths.WholeType access parts
+path_for info number access id parts bases.MatchedType = type_path paths.MatchedType access parts
 path_for info number access id parts bases.Variant =
     if_ok (of_types (type_at info.types id)) (λ t. variant_path info number access t parts)
 path_for info number access id parts bases.Field = field_path info number access id parts
@@ -288,7 +292,9 @@ pub data LocalPathLeads (info : TypeInfo) (r : Relocation) (access : List ℕ) (
     (parts : List ℕ)
     : Result NamedPath RelocationError → Type 0 where
   OfType : basis_of r.kind ≡ bases.WholeType
-      → LocalPathLeads info r access id parts (type_path access parts)
+      → LocalPathLeads info r access id parts (type_path paths.WholeType access parts)
+  OfMatchedType : basis_of r.kind ≡ bases.MatchedType
+      → LocalPathLeads info r access id parts (type_path paths.MatchedType access parts)
   NoType : (e : TypeError)
       → basis_of r.kind ≡ bases.Variant
       → type_at info.types id ≡ Err e

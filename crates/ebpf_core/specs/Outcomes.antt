@@ -14,6 +14,7 @@ use Rattle.std.specs.Option.{option_eq}
 use Rattle.std.specs.Result.{result_ok}
 use Rattle.ebpf_base.specs.Faults.{first_some, if_ok}
 use Rattle.ebpf_core_candidates.specs.Compatibility.{types_compatible}
+use Rattle.ebpf_core_candidates.specs.TypeMatches.{types_match}
 use Rattle.ebpf_btf.specs.declared.error.BtfError.{BtfError as TypeError}
 use Rattle.ebpf_btf.specs.declared.variants.BtfVariant.{BtfVariant}
 use Rattle.ebpf_btf.specs.Steps.{resolved_type, type_at, size_of}
@@ -31,6 +32,7 @@ use Rattle.ebpf_btf_ext.specs.declared.relocation.RelocationKind.TheVariants.{Ty
 use Rattle.ebpf_btf_ext.specs.declared.relocation.RelocationKind.TheVariants.{TypeExists, TypeSize}
 use Rattle.ebpf_btf_ext.specs.declared.relocation.RelocationKind.TheVariants.{EnumVariantExists}
 use Rattle.ebpf_btf_ext.specs.declared.relocation.RelocationKind.TheVariants.{EnumVariantValue}
+use Rattle.ebpf_btf_ext.specs.declared.relocation.RelocationKind.TheVariants.{TypeMatches}
 use Rattle.ebpf_core.specs.declared.error.RelocationError.{RelocationError}
 use Rattle.ebpf_core.specs.declared.error.RelocationError.TheVariants.{MaximumNestingLevelReached}
 use Rattle.ebpf_core.specs.declared.error.RelocationError.TheVariants.{BtfError}
@@ -96,6 +98,9 @@ unfoldable pub found_at_candidate : TypeInfo
 found_at_candidate local target local_id paths.WholeType id =
     if_ok (of_types (types_compatible local local_id target id)) (λ fits.
     Ok (if fits then Some found.WholeType else None))
+found_at_candidate local target local_id paths.MatchedType id =
+    if_ok (of_types (types_match local local_id target id)) (λ matches.
+    Ok (if matches then Some found.WholeType else None))
 found_at_candidate local target local_id (paths.Variant name) id =
     if_ok (of_types (variant_in target name id)) (λ value. Ok (option_map found.Variant value))
 found_at_candidate local target local_id (paths.Field steps place) id =
@@ -194,6 +199,7 @@ unfoldable pub local_loaded : TypeInfo
     → Result (Option LoadedField) RelocationError
 local_loaded local r (paths.Field steps place) = loaded_by r.number (field_value local r.kind place)
 local_loaded local r paths.WholeType = Ok None
+local_loaded local r paths.MatchedType = Ok None
 local_loaded local r (paths.Variant name) = Ok None
 
 -- ---- all candidates
@@ -207,6 +213,7 @@ values_agree a b = a.bits == b.bits && option_eq nat_eq a.number b.number
 abbrev pub without_match : RelocationKind → Option ℕ
 without_match FieldExists = Some 0
 without_match TypeExists = Some 0
+without_match TypeMatches = Some 0
 without_match EnumVariantExists = Some 0
 without_match _ = None
 

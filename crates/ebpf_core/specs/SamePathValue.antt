@@ -37,6 +37,7 @@ use Rattle.ebpf_btf_ext.specs.declared.relocation.Relocation.{Relocation}
 use Rattle.ebpf_btf_ext.specs.declared.relocation.RelocationKind.{RelocationKind}
 use Rattle.ebpf_btf_ext.specs.declared.relocation.RelocationKind.TheVariants.{TypeIdLocal}
 use Rattle.ebpf_core_candidates.specs.Compatibility.{types_compatible}
+use Rattle.ebpf_core_candidates.specs.TypeMatches.{types_match}
 use Rattle.ebpf_core.specs.Fields.{field_value}
 use Rattle.ebpf_core.specs.LocalPaths.{LocalSideIs}
 use Rattle.ebpf_core.specs.Outcomes.{FirstVariantIs, match_of_number, type_value, variant_value}
@@ -80,7 +81,8 @@ pub record IsCandidate (local target : TypeInfo) (local_id id : ℕ) : Type 0 wh
 -- ---- what a candidate has
 
 -- The candidate with an id lacks what a path names: the path of a field leads nowhere, no
--- enumerator has the name, or the type isn't compatible with the local one.
+-- enumerator has the name, the type isn't compatible with the local one, or the local one doesn't
+-- match it.
 pub data LacksPath (local target : TypeInfo) (local_id id : ℕ) : NamedPath → Type 0 where
   LacksField : (steps : List Step) (place : FieldPlace) → PathLeads local target id steps (Ok None)
       → LacksPath local target local_id id (paths.Field steps place)
@@ -89,6 +91,8 @@ pub data LacksPath (local target : TypeInfo) (local_id id : ℕ) : NamedPath →
       → LacksPath local target local_id id (paths.Variant name)
   IsIncompatible : types_compatible local local_id target id ≡ Ok false
       → LacksPath local target local_id id paths.WholeType
+  DoesNotMatch : types_match local local_id target id ≡ Ok false
+      → LacksPath local target local_id id paths.MatchedType
 
 -- a field of a candidate, with its bit offset and what a kind asks of it
 abbrev pub field_with : ℕ → FieldPlace → FieldValue → MatchValue
@@ -101,7 +105,7 @@ field_without id place = record { candidate = id; bits = place.bits; number = No
 
 -- The candidate with an id has what a path names, and this is its value. The path of a field leads,
 -- name by name, to a field there. The first enumerator of the name has a value. The type is
--- compatible with the local one.
+-- compatible with the local one, or matched by it.
 pub data HasPath (local target : TypeInfo) (kind : RelocationKind) (local_id id : ℕ)
     : NamedPath → MatchValue → Type 0 where
   HasField : (steps : List Step) (place there : FieldPlace) (value : FieldValue)
@@ -119,6 +123,9 @@ pub data HasPath (local target : TypeInfo) (kind : RelocationKind) (local_id id 
   IsCompatible : (number : ℕ) → types_compatible local local_id target id ≡ Ok true
       → type_value target kind id ≡ Ok number
       → HasPath local target kind local_id id paths.WholeType (match_of_number id number)
+  Matches : (number : ℕ) → types_match local local_id target id ≡ Ok true
+      → type_value target kind id ≡ Ok number
+      → HasPath local target kind local_id id paths.MatchedType (match_of_number id number)
 
 -- two candidates have it at the same bits and with the same number
 pub record IsSameValue (a b : MatchValue) : Type 0 where
@@ -147,6 +154,7 @@ pub data LoadsLocally (local : TypeInfo) (kind : RelocationKind)
       → LoadsLocally local kind (paths.Field steps place) value.loaded
   OfEnumerator : (name : List ℕ) → LoadsLocally local kind (paths.Variant name) None
   OfLocalType : LoadsLocally local kind paths.WholeType None
+  OfMatchedType : LoadsLocally local kind paths.MatchedType None
 
 -- A relocation names a path, to be looked for in the target: its access string leads to a field or
 -- an enumerator of its local type, or it is about that type. The names of the target types of the

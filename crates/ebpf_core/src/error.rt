@@ -202,6 +202,7 @@ pub fn relocation_words(kind: RelocationKind) -> &'static str {
         RelocationKind::TypeSize => "the size of a type",
         RelocationKind::EnumVariantExists => "the existence of a variant",
         RelocationKind::EnumVariantValue => "the value of a variant",
+        RelocationKind::TypeMatches => "the match of a type",
     }
 }
 

@@ -16,7 +16,7 @@ use crate::{FieldPlace, PlaceFault, Step, place_in};
 use ebpf_base::{Items, Text};
 use ebpf_btf::{Btf, BtfError, BtfType};
 use ebpf_btf_ext::RelocationKind;
-use ebpf_core_candidates::types_are_compatible;
+use ebpf_core_candidates::{types_are_compatible, types_match};
 use std::alloc::Global;
 
 /// The end of a path in a type that matches.
@@ -119,6 +119,12 @@ fn found_at_candidate(
     match path {
         NamedPath::WholeType => {
             if types_are_compatible(local, local_id, target, candidate)? {
+                return Ok(Some(FoundMatch::WholeType));
+            }
+            Ok(None)
+        }
+        NamedPath::MatchedType => {
+            if types_match(local, local_id, target, candidate)? {
                 return Ok(Some(FoundMatch::WholeType));
             }
             Ok(None)

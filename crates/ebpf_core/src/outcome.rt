@@ -36,6 +36,7 @@ fn without_match(kind: RelocationKind) -> Option<u64>
     match kind {
         RelocationKind::FieldExists
         | RelocationKind::TypeExists
+        | RelocationKind::TypeMatches
         | RelocationKind::EnumVariantExists => Some(0),
         _ => None,
     }

@@ -4,6 +4,7 @@ ghost use Rattle.std.specs.Prelude.{◌≡◌, ◌==◌, IfOk, map};
 ghost use Rattle.std.specs.List.{slice_split};
 ghost use Rattle.ebpf_core.specs.Answers.{Tells, TellsSo};
 ghost use Rattle.ebpf_core.specs.LocalPaths.{LocalSideIs, local_path, only_accessor, named_variant, path_for, type_path, variant_path, basis_of, accessors, all_of, accessor_of, accessors_of};
+ghost use Rattle.ebpf_core.specs.declared.paths.NamedPath.TheVariants as paths;
 
 use crate::error::{
     RelocationError, Request, invalid_access_index, invalid_access_string, invalid_kind,
@@ -21,6 +22,8 @@ use std::alloc::{AllocError, Global};
 pub enum NamedPath {
     /// The type as a whole.
     WholeType,
+    /// The type as a whole, which is to match.
+    MatchedType,
     /// The variant of an enumeration with a name.
     Variant {
         name: Text,
@@ -39,6 +42,8 @@ pub enum RelocationBasis {
     Field,
     /// A type as a whole.
     WholeType,
+    /// A type as a whole, which is to match.
+    MatchedType,
     /// A variant of an enumeration.
     Variant,
 }
@@ -64,10 +69,20 @@ fn only_accessor(parts: &[usize]) -> Option<usize>
 
 /// The path of a relocation on a type, whose string is one 0.
 fn type_path(alloc: Global, access: &str, parts: &[usize]) -> Result<NamedPath, RelocationError>
-    ensures { Tells result (type_path access.now parts.now) }
+    ensures { Tells result (type_path paths.WholeType access.now parts.now) }
 {
     if only_accessor(parts) == Some(0) {
         return Ok(NamedPath::WholeType);
+    }
+    invalid_access_string(alloc, access)
+}
+
+/// The path of a relocation on a type that is to match, whose string is one 0.
+fn matched_path(alloc: Global, access: &str, parts: &[usize]) -> Result<NamedPath, RelocationError>
+    ensures { Tells result (type_path paths.MatchedType access.now parts.now) }
+{
+    if only_accessor(parts) == Some(0) {
+        return Ok(NamedPath::MatchedType);
     }
     invalid_access_string(alloc, access)
 }
@@ -135,6 +150,7 @@ fn path_for(
 {
     match basis_of(request.kind) {
         RelocationBasis::WholeType => type_path(alloc, request.access, parts),
+        RelocationBasis::MatchedType => matched_path(alloc, request.access, parts),
         RelocationBasis::Variant => {
             let ty = local.type_by_id(type_id)?;
             variant_path(alloc, local, request, &ty, parts)
@@ -283,6 +299,7 @@ pub fn basis_of(kind: RelocationKind) -> RelocationBasis
         | RelocationKind::TypeIdTarget
         | RelocationKind::TypeExists
         | RelocationKind::TypeSize => RelocationBasis::WholeType,
+        RelocationKind::TypeMatches => RelocationBasis::MatchedType,
         RelocationKind::EnumVariantExists | RelocationKind::EnumVariantValue =>
             RelocationBasis::Variant,
     }

@@ -215,7 +215,7 @@ fn is_compared(kind: BtfKind) -> bool
 
 /// Returns the parameters of a FUNC_PROTO; no parameters for other types.
 #[tactic(auto, unfolding(crate::specs::Compatibility::params_of))]
-fn params_of<'a>(ty: &BtfType<'a>) -> Rows<'a, BtfParam>
+pub fn params_of<'a>(ty: &BtfType<'a>) -> Rows<'a, BtfParam>
     ensures { result ≡ params_of ty.now }
 {
     match ty {
@@ -227,7 +227,7 @@ fn params_of<'a>(ty: &BtfType<'a>) -> Rows<'a, BtfParam>
 /// Returns the inner type of a PTR (its target), an ARRAY (its elements) or a FUNC_PROTO (its result); none for other
 /// types.
 #[tactic(auto, unfolding(crate::specs::Compatibility::inner_type_id))]
-fn inner_type_id(ty: &BtfType<'_>) -> Option<u32>
+pub fn inner_type_id(ty: &BtfType<'_>) -> Option<u32>
     ensures { result ≡ inner_type_id ty.now }
 {
     match ty {

@@ -6,6 +6,7 @@ mod id_uses;
 pub mod laws;
 mod least;
 mod marks;
+mod matched_types;
 mod members;
 mod paths;
 mod same_faults;

@@ -1,6 +1,7 @@
 //! Keeps what the subjects of relocations are found by: variants and paths of fields.
 
 use crate::marks::Marks;
+use crate::matched_types::keep_matched;
 use crate::members::{KeptMember, keep_last, keep_named};
 use crate::whole_types::{BothSides, keep_compared};
 use ebpf_btf::Btf;
@@ -128,6 +129,7 @@ pub fn keep_path(
 ) -> Result<(), AllocError> {
     match path {
         NamedPath::WholeType => keep_compared(sides, marks, local_id, candidate),
+        NamedPath::MatchedType => keep_matched(sides, marks, local_id, candidate),
         NamedPath::Variant { name } => {
             keep_variant(sides.kernel, marks, name.as_str(), candidate)
         }

@@ -19,13 +19,13 @@ pub struct BothSides<'a> {
 
 /// The ids of two types that are compared.
 #[derive(Clone, Copy)]
-struct ComparedTypes {
-    local: u32,
-    target: u32,
+pub struct ComparedTypes {
+    pub local: u32,
+    pub target: u32,
 }
 
 /// Returns the parameters of a FUNC_PROTO; no parameters for other types.
-fn params_of<'a>(ty: &BtfType<'a>) -> Rows<'a, BtfParam> {
+pub fn params_of<'a>(ty: &BtfType<'a>) -> Rows<'a, BtfParam> {
     match ty {
         BtfType::FuncProto { params, .. } => params.copy(),
         _ => Rows::of(&[]),
@@ -42,14 +42,14 @@ fn compared_inside(ty: &BtfType<'_>) -> Option<u32> {
 }
 
 /// Returns the pair of the types inside two types; none where a side has none.
-fn both_inside(local: &BtfType<'_>, target: &BtfType<'_>) -> Option<ComparedTypes> {
+pub fn both_inside(local: &BtfType<'_>, target: &BtfType<'_>) -> Option<ComparedTypes> {
     let local = compared_inside(local)?;
     let target = compared_inside(target)?;
     Some(ComparedTypes { local, target })
 }
 
 /// Keeps as many parameters as a type has.
-fn keep_params(marks: &mut Marks, type_id: u32, count: usize) -> Result<(), AllocError> {
+pub fn keep_params(marks: &mut Marks, type_id: u32, count: usize) -> Result<(), AllocError> {
     for row in 0..count {
         marks.keep_row(type_id, row)?;
     }

@@ -22,9 +22,9 @@ use Rattle.ebpf_parts.specs.declared.error.ParseError.{ParseError}
 use Rattle.ebpf_parts.specs.declared.error.ParseError.TheVariants.{ElfError}
 use Rattle.ebpf_parts.specs.declared.parse_mode.ParseMode.{ParseMode}
 
-types_clear : (file : List ℕ) → file_types_fault file ≡ None → btf_fault file ≡ None
+types_clear : (mode : ParseMode) (file : List ℕ) → file_types_fault mode file ≡ None → btf_fault file ≡ None
 unfolding file_types_fault
-types_clear file clear = (both_None (btf_fault file) (ext_fault file) clear).0
+types_clear mode file clear = (both_None (btf_fault file) (ext_fault mode file) clear).0
 
 -- by what can be read of `.BTF.ext`
 pub own_what_is_made : ObjectsOwnWhatIsMade
@@ -36,16 +36,16 @@ own_what_is_made mode file short clear =
     let c = both_None (license_fault_as mode file) _ b.1 in
     let d = both_None (version_fault file) _ c.1 in
     let e = both_None (symbols_fault file) _ d.1 in
-    let f = both_None (file_types_fault file) _ e.1 in
+    let f = both_None (file_types_fault mode file) _ e.1 in
     let ext : Option ExtInfo = readable_ext file in
     let license = license_owned mode file c.0 in
-    let types = types_owned file (types_clear file f.0) in
-    let records = ext_owned file f.0 in
+    let types = types_owned file (types_clear mode file f.0) in
+    let records = ext_owned mode file f.0 in
     let names = names_owned file in
     let symbol_rows = symbols_owned file in
     let externs = externs_owned file in
     let programs = programs_owned mode file (license_bytes file) ext license in
-    let functions = functions_owned file (license_bytes file) ext (ext_same file f.0) short in
+    let functions = functions_owned file (license_bytes file) ext (ext_same mode file f.0) short in
     let maps = maps_owned file (license_bytes file) ext mode in
     let relocations = relocations_owned file ext in
     let parts = all_parts file (license_bytes file) (all_facts file) (symbols file) in

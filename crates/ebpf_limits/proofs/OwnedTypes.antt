@@ -172,20 +172,20 @@ types_same : (file : List ℕ) → btf_fault file ≡ None → readable_types fi
 unfolding btf_of btf_fault readable_types
 types_same file clear = same_in (ei_data file) (types_section file) clear
 
-ext_in_same : (file : List ℕ) (types : TypeInfo) (s : Option SectionOf) → ext_fault_in (ei_data file) types s ≡ None → result_ok (read_ext (ei_data file) (data_in s) types.strings) ≡ ext_in (ei_data file) types s
+ext_in_same : (mode : ParseMode) (file : List ℕ) (types : TypeInfo) (s : Option SectionOf) → ext_fault_in mode (ei_data file) types s ≡ None → result_ok (read_ext true (ei_data file) (data_in s) types.strings) ≡ ext_in (ei_data file) types s
 unfolding section_of section_with read_ext ext_header_fault
-ext_in_same file types None clear = refl
-ext_in_same file types (Some s) clear = let sound = both_None (section_fault s) _ clear in ap (λ b. result_ok (read_ext (ei_data file) b types.strings)) (readable s sound.0)
+ext_in_same mode file types None clear = refl
+ext_in_same mode file types (Some s) clear = let sound = both_None (section_fault s) _ clear in ap (λ b. result_ok (read_ext true (ei_data file) b types.strings)) (readable s sound.0)
 
-beside_same : (file : List ℕ) (types : Option TypeInfo) → ext_fault_beside file types ≡ None → ext_beside_types file types ≡ ext_beside file types
-beside_same file None clear = refl
-beside_same file (Some types) clear = ext_in_same file types (ext_section file) clear
+beside_same : (mode : ParseMode) (file : List ℕ) (types : Option TypeInfo) → ext_fault_beside mode file types ≡ None → ext_beside_types file types ≡ ext_beside file types
+beside_same mode file None clear = refl
+beside_same mode file (Some types) clear = ext_in_same mode file types (ext_section file) clear
 
-pub ext_same : (file : List ℕ) → file_types_fault file ≡ None → readable_ext file ≡ ext_of file
+pub ext_same : (mode : ParseMode) (file : List ℕ) → file_types_fault mode file ≡ None → readable_ext file ≡ ext_of file
 unfolding ext_of readable_ext file_types_fault ext_fault
-ext_same file clear =
+ext_same mode file clear =
     let both = both_None (btf_fault file) _ clear in
-    ap (ext_beside_types file) (types_same file both.0) ∙ beside_same file (btf_of file) both.1
+    ap (ext_beside_types file) (types_same file both.0) ∙ beside_same mode file (btf_of file) both.1
 
 -- ---- the records of `.BTF.ext`, by the lengths of its parts
 
@@ -301,14 +301,14 @@ module _ (o : Endianness) (bytes strings : List ℕ) where
       let count = items_length (line_record o bytes) size (offset + 8) (num_info_at o bytes offset) in
       subst (λ (t : List ℕ × LineSecInfo). length t.1.line_info ≤ num_info_at o bytes offset) same (omega (arith, count))
 
-  core_count : (size offset : ℕ) (s : ℕ × List Relocation) → section_core_relos o bytes size offset ≡ Ok s → length s.1 ≤ num_info_at o bytes offset
+  core_count : (size offset : ℕ) (s : ℕ × List Relocation) → section_core_relos true o bytes size offset ≡ Ok s → length s.1 ≤ num_info_at o bytes offset
   unfolding section_core_relos core_relos_at
   core_count size offset s is =
       let n = num_info_at o bytes offset in
-      let parts = ok_parts (core_relos_at bytes size (offset + 8) n) _ s is in
+      let parts = ok_parts (core_relos_at true bytes size (offset + 8) n) _ s is in
       let same : (sec_name_off_at o bytes offset, parts.0) ≡ s = cc in
-      let fewer = all_ok_length (map (core_relo_at bytes size (offset + 8)) (range_with_len 0 n)) parts.0 parts.1 in
-      let count = length-map-range_with_len (core_relo_at bytes size (offset + 8)) 0 n in
+      let fewer = all_ok_length (map (core_relo_at true bytes size (offset + 8)) (range_with_len 0 n)) parts.0 parts.1 in
+      let count = length-map-range_with_len (core_relo_at true bytes size (offset + 8)) 0 n in
       subst (λ (t : ℕ × List Relocation). length t.1 ≤ n) same (omega (arith, fewer, count))
 
   funcs_within : (m : FinMap text_cmp FuncSecInfo) → func_sections o bytes strings ≡ Ok m → total funcs_row (entries m) ≤ 10 * part_length o bytes func_part
@@ -337,13 +337,13 @@ module _ (o : Endianness) (bytes strings : List ℕ) where
       let room = part_room o bytes line_part in
       subst (λ t. total lines_row (entries t) ≤ 10 * part_length o bytes line_part) same (omega (arith, read, fewer, room))
 
-  core_within : (all : List (ℕ × List Relocation)) → core_relo_sections o bytes ≡ Ok all → total core_row all ≤ 10 * part_length o bytes core_relo_part
+  core_within : (all : List (ℕ × List Relocation)) → core_relo_sections true o bytes ≡ Ok all → total core_row all ≤ 10 * part_length o bytes core_relo_part
   unfolding core_relo_sections
   core_within all is =
       let size = record_size o bytes core_relo_part in
       let end = sections_end o bytes core_relo_part in
       let sound = no_fault (part_fault o bytes core_relo_part) _ all is in
-      let read = all_read core_row (core_relo_section o bytes size end) end (λ offset found is. (let step = one_section o bytes 16 size end (section_core_relos o bytes size) (λ (s : ℕ × List Relocation). length s.1) (core_count size) offset found is in omega (arith, step))) _ (sections_start o bytes core_relo_part) all sound.1 in
+      let read = all_read core_row (core_relo_section true o bytes size end) end (λ offset found is. (let step = one_section o bytes 16 size end (section_core_relos true o bytes size) (λ (s : ℕ × List Relocation). length s.1) (core_count size) offset found is in omega (arith, step))) _ (sections_start o bytes core_relo_part) all sound.1 in
       let room = part_room o bytes core_relo_part in
       omega (arith, read, room)
 
@@ -367,14 +367,14 @@ module _ (o : Endianness) (bytes strings : List ℕ) where
       by_tests true true e f = rw (e, f) (omega arith)
       by_tests true false e f = absurd (let no : ⊥ = grind (arith, nat_tests, e, f, whole) in no)
 
-  pub ext_within : (ext : ExtInfo) → read_ext o bytes strings ≡ Ok ext → ext_bytes (Some ext) ≤ ext_in_bytes o bytes (Some ext)
+  pub ext_within : (ext : ExtInfo) → read_ext true o bytes strings ≡ Ok ext → ext_bytes (Some ext) ≤ ext_in_bytes o bytes (Some ext)
   unfolding read_ext ext_header_fault
   ext_within ext is =
       let sound = no_fault (ext_header_fault o bytes) _ ext is in
       let whole = header_within (nat_lt (length bytes) 24) (not (magic o bytes == 0xEB9F)) (nat_lt (header_length o bytes) 24) InvalidHeader InvalidHeader InvalidHeader sound.0 in
       let funcs = ok_parts (func_sections o bytes strings) _ ext sound.1 in
       let lines = ok_parts (line_sections o bytes strings) _ ext funcs.2 in
-      let core = ok_parts (core_relo_sections o bytes) _ ext lines.2 in
+      let core = ok_parts (core_relo_sections true o bytes) _ ext lines.2 in
       let same : record { func_info = funcs.0; line_info = lines.0; relocations = core.0; func_record_size = record_size o bytes func_part; line_record_size = record_size o bytes line_part } ≡ ext = cc in
       let a = funcs_within funcs.0 funcs.1 in
       let b = lines_within lines.0 lines.1 in
@@ -386,23 +386,23 @@ module _ (o : Endianness) (bytes strings : List ℕ) where
 
 -- ---- the records of `.BTF.ext` of a file without a fault
 
-records_by_result : (o : Endianness) (bytes strings : List ℕ) (r : Result ExtInfo BtfError) → read_ext o bytes strings ≡ r → ext_bytes (result_ok r) ≤ ext_in_bytes o bytes (result_ok r)
+records_by_result : (o : Endianness) (bytes strings : List ℕ) (r : Result ExtInfo BtfError) → read_ext true o bytes strings ≡ r → ext_bytes (result_ok r) ≤ ext_in_bytes o bytes (result_ok r)
 records_by_result o bytes strings (Err e) is = omega arith
 records_by_result o bytes strings (Ok ext) is = ext_within o bytes strings ext is
 
-records_in_section : (o : Endianness) (types : TypeInfo) (s : Option SectionOf) → ext_fault_in o types s ≡ None → ext_bytes (ext_in o types s) ≤ ext_in_bytes o (data_in s) (ext_in o types s)
+records_in_section : (mode : ParseMode) (o : Endianness) (types : TypeInfo) (s : Option SectionOf) → ext_fault_in mode o types s ≡ None → ext_bytes (ext_in o types s) ≤ ext_in_bytes o (data_in s) (ext_in o types s)
 unfolding section_of section_with
-records_in_section o types None clear = omega arith
-records_in_section o types (Some s) clear =
+records_in_section mode o types None clear = omega arith
+records_in_section mode o types (Some s) clear =
     let sound = both_None (section_fault s) _ clear in
-    rw (readable s sound.0) (records_by_result o (data_of s) types.strings (read_ext o (data_of s) types.strings) refl)
+    rw (readable s sound.0) (records_by_result o (data_of s) types.strings (read_ext true o (data_of s) types.strings) refl)
 
-records_beside : (file : List ℕ) (types : Option TypeInfo) → ext_fault_beside file types ≡ None → ext_bytes (ext_beside file types) ≤ ext_in_bytes (ei_data file) (data_in (ext_section file)) (ext_beside file types)
-records_beside file None clear = omega arith
-records_beside file (Some types) clear = records_in_section (ei_data file) types (ext_section file) clear
+records_beside : (mode : ParseMode) (file : List ℕ) (types : Option TypeInfo) → ext_fault_beside mode file types ≡ None → ext_bytes (ext_beside file types) ≤ ext_in_bytes (ei_data file) (data_in (ext_section file)) (ext_beside file types)
+records_beside mode file None clear = omega arith
+records_beside mode file (Some types) clear = records_in_section mode (ei_data file) types (ext_section file) clear
 
-pub ext_owned : (file : List ℕ) → file_types_fault file ≡ None → ext_bytes (ext_of file) ≤ ext_in_bytes (ei_data file) (data_in (ext_section file)) (readable_ext file)
+pub ext_owned : (mode : ParseMode) (file : List ℕ) → file_types_fault mode file ≡ None → ext_bytes (ext_of file) ≤ ext_in_bytes (ei_data file) (data_in (ext_section file)) (readable_ext file)
 unfolding ext_of file_types_fault ext_fault
-ext_owned file clear =
+ext_owned mode file clear =
     let both = both_None (btf_fault file) _ clear in
-    rw (ext_same file clear) (records_beside file (btf_of file) both.1)
+    rw (ext_same mode file clear) (records_beside mode file (btf_of file) both.1)

@@ -172,7 +172,7 @@ readable_types file = result_ok (type_info_of (ei_data file) (data_in (types_sec
 abbrev pub ext_beside_types : List ℕ → Option TypeInfo → Option ExtInfo
 ext_beside_types file None = None
 ext_beside_types file (Some types) =
-    result_ok (read_ext (ei_data file) (data_in (ext_section file)) types.strings)
+    result_ok (read_ext true (ei_data file) (data_in (ext_section file)) types.strings)
 
 unfoldable pub readable_ext : List ℕ → Option ExtInfo
 readable_ext file = ext_beside_types file (readable_types file)

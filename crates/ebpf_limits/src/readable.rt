@@ -1,6 +1,6 @@
 //! The parts of a file's sections that can be read before any other fault of the file is known.
 
-ghost use Rattle.std.specs.Prelude.{◌≡◌, ◌<◌, ◌≤◌, ◌^◌, IfOk};
+ghost use Rattle.std.specs.Prelude.{◌≡◌, ◌<◌, ◌≤◌, ◌^◌, IfOk, true};
 ghost use Rattle.std.specs.Result.{result_ok};
 ghost use Rattle.ebpf_btf.specs.Reading.{type_info_of};
 ghost use Rattle.ebpf_btf_ext.specs.ExtReading.{read_ext};
@@ -45,16 +45,17 @@ fn types_in(alloc: Global, order: Endianness, bytes: &[u8]) -> Result<Option<Btf
     }
 }
 
-/// The info entries and CO-RE relocations in bytes, if they can be read.
+/// The info entries and CO-RE relocations in bytes, if they can be read; type matches are read too.
 fn ext_in(
     alloc: Global,
     order: Endianness,
     bytes: &[u8],
     types: &Btf,
 ) -> Result<Option<BtfExt>, AllocError>
-    ensures { IfOk result (λ ext. ext ≡ result_ok (read_ext order bytes.now types.now.strings)) }
+    ensures { IfOk result (λ ext.
+        ext ≡ result_ok (read_ext true order bytes.now types.now.strings)) }
 {
-    match BtfExt::parse(alloc, bytes, order, types) {
+    match BtfExt::parse_as(alloc, bytes, order, types, true) {
         Ok(ext) => Ok(Some(ext)),
         Err(BtfError::OutOfMemory) => Err(AllocError),
         Err(_) => Ok(None),

@@ -29,6 +29,7 @@ use Rattle.ebpf_parts.specs.declared.section.EbpfSectionKind.{EbpfSectionKind}
 use Rattle.ebpf_parts.specs.declared.section.EbpfSectionKind.TheVariants.{Maps, BtfMaps, Data, Rodata, Bss, Text, Program as Programs}
 use Rattle.ebpf_parsing.specs.FileContents.{map_entries, program_entries, maps_as, programs_as, read_fault, sections_fault, own_symbols}
 use Rattle.ebpf_parsing.specs.FileTypes.{types_of_file, file_externs_fault, file_types_fault}
+use Rattle.ebpf_parsing.proofs.KnownKinds.{types_alike}
 use Rattle.ebpf_parsing.specs.Laws.{ModesAgree, StrictKindsAreNamed}
 use Rattle.ebpf_parsing.specs.Maps.{btf_defined_maps, btf_defined_maps_fault}
 use Rattle.ebpf_parsing.specs.OfSection.{maps_by, maps_in, programs_by, programs_in, fault_by, fault_in, program_section_faults}
@@ -195,7 +196,7 @@ modes_agree bytes is own clear =
     let b = both_None (license_fault_as Strict bytes) _ a.1 in
     let c = both_None (version_fault bytes) _ b.1 in
     let d = both_None (symbols_fault bytes) _ c.1 in
-    let e = both_None (file_types_fault bytes) _ d.1 in
+    let e = both_None (file_types_fault Strict bytes) _ d.1 in
     let f = both_None (file_externs_fault bytes) _ e.1 in
     let license = license_alike _ b.0 in
     let tables = tables_alike bytes (types_of_file bytes) f.1 in
@@ -203,7 +204,7 @@ modes_agree bytes is own clear =
       license = license.0;
       maps = ap (put_all empty) tables.0;
       programs = ap (put_all empty) (ap (λ l. program_entries Lenient l (kernel_version_of bytes) bytes) license.0 ∙ entries_alike bytes (types_of_file bytes) (license_as Strict bytes) (kernel_version_of bytes) f.1);
-      sound = both_clear a.0 (both_clear (own_machine bytes own) (both_clear (little bytes is) (both_clear license.1 (both_clear c.0 (both_clear d.0 (both_clear e.0 (both_clear f.0 tables.1)))))));
+      sound = both_clear a.0 (both_clear (own_machine bytes own) (both_clear (little bytes is) (both_clear license.1 (both_clear c.0 (both_clear d.0 (both_clear (types_alike bytes e.0) (both_clear f.0 tables.1)))))));
     }
 
 -- ---- kinds in strict parsing

@@ -8,4 +8,5 @@ pub mod Added
 pub mod SectionTables
 pub mod TableKeys
 pub mod PlainFaults
+pub mod KnownKinds
 pub mod Alike

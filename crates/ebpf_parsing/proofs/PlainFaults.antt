@@ -143,17 +143,17 @@ types_in_plain : (o : Endianness) (s : Option SectionOf) → Plain (types_fault_
 types_in_plain o None = refl
 types_in_plain o (Some s) = either told (section_fault s) _ (section_plain s) (made_plain BtfError (λ e. refl) _)
 
-ext_in_plain : (o : Endianness) (types : TypeInfo) (s : Option SectionOf) → Plain (ext_fault_in o types s)
-ext_in_plain o types None = refl
-ext_in_plain o types (Some s) = either told (section_fault s) _ (section_plain s) (made_plain BtfError (λ e. refl) _)
+ext_in_plain : (mode : ParseMode) (o : Endianness) (types : TypeInfo) (s : Option SectionOf) → Plain (ext_fault_in mode o types s)
+ext_in_plain mode o types None = refl
+ext_in_plain mode o types (Some s) = either told (section_fault s) _ (section_plain s) (made_plain BtfError (λ e. refl) _)
 
-ext_plain : (bytes : List ℕ) (types : Option TypeInfo) → Plain (ext_fault_beside bytes types)
-ext_plain bytes None = refl
-ext_plain bytes (Some types) = ext_in_plain (ei_data bytes) types (ext_section bytes)
+ext_plain : (mode : ParseMode) (bytes : List ℕ) (types : Option TypeInfo) → Plain (ext_fault_beside mode bytes types)
+ext_plain mode bytes None = refl
+ext_plain mode bytes (Some types) = ext_in_plain mode (ei_data bytes) types (ext_section bytes)
 
-file_types_plain : (bytes : List ℕ) → Plain (file_types_fault bytes)
+file_types_plain : (mode : ParseMode) (bytes : List ℕ) → Plain (file_types_fault mode bytes)
 unfolding file_types_fault btf_fault ext_fault
-file_types_plain bytes = either told _ _ (types_in_plain (ei_data bytes) (types_section bytes)) (ext_plain bytes (btf_of bytes))
+file_types_plain mode bytes = either told _ _ (types_in_plain (ei_data bytes) (types_section bytes)) (ext_plain mode bytes (btf_of bytes))
 
 beside_plain : (ys : List SymbolValue) (types : Option TypeInfo) → Plain (externs_fault_beside ys types)
 beside_plain ys None = refl
@@ -253,12 +253,12 @@ module _ (test : Option ParseError → Bool) (plain : (o : Option ParseError) �
 
   -- what follows the order of code
   behind_order : (bytes : List ℕ)
-      → test (or_else (license_fault_as mode bytes) (or_else (version_fault bytes) (or_else (symbols_fault bytes) (or_else (file_types_fault bytes) (or_else (file_externs_fault bytes) (sections_fault mode (types_of_file bytes) bytes)))))) ≡ false
+      → test (or_else (license_fault_as mode bytes) (or_else (version_fault bytes) (or_else (symbols_fault bytes) (or_else (file_types_fault mode bytes) (or_else (file_externs_fault bytes) (sections_fault mode (types_of_file bytes) bytes)))))) ≡ false
   behind_order bytes =
       either test _ _ (plain _ (license_plain mode bytes))
       (either test _ _ (plain _ (version_plain bytes))
       (either test _ _ (plain _ (plain_all symbol_fault symbol_plain (symbols bytes)))
-      (either test _ _ (plain _ (file_types_plain bytes))
+      (either test _ _ (plain _ (file_types_plain mode bytes))
       (either test _ _ (plain _ (externs_plain bytes)) (sections_pass (types_of_file bytes) bytes)))))
 
 file_plain : (bytes : List ℕ) → Plain (option_map ElfError (first_in (faults bytes)))

@@ -51,7 +51,7 @@ clear_sections mode bytes clear =
     let b = both_None (license_fault_as mode bytes) _ o.1 in
     let c = both_None (version_fault bytes) _ b.1 in
     let d = both_None (symbols_fault bytes) _ c.1 in
-    let e = both_None (file_types_fault bytes) _ d.1 in
+    let e = both_None (file_types_fault mode bytes) _ d.1 in
     (both_None (file_externs_fault bytes) _ e.1).1
 
 module _ (mode : ParseMode) (bytes : List ℕ) (clear : parse_fault_as mode bytes ≡ None) (n : ℕ) (s : SectionValue) (here : slice_get (object_sections bytes) n ≡ Some s) where

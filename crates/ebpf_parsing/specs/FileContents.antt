@@ -144,7 +144,7 @@ parse_fault_as mode bytes =
     (or_else (license_fault_as mode bytes)
     (or_else (version_fault bytes)
     (or_else (symbols_fault bytes)
-    (or_else (file_types_fault bytes)
+    (or_else (file_types_fault mode bytes)
     (or_else (file_externs_fault bytes)
     (sections_fault mode (types_of_file bytes) bytes))))))))
 

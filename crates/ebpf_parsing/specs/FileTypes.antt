@@ -1,7 +1,7 @@
 -- The types of a file, its info entries and CO-RE relocations, and its externs: its sections `.BTF`
 -- and `.BTF.ext` (libbpf's names).
 use Rattle.std.specs.FinMap.{FinMap, empty}
-use Rattle.std.specs.Prelude.{ℕ, Bool, false, not, ◌==◌, length, List, [], Option, Some, None}
+use Rattle.std.specs.Prelude.{ℕ, Bool, true, false, not, ◌==◌, length, List, [], Option, Some, None}
 use Rattle.std.specs.Prelude.{Result, codes, option_map}
 use Rattle.std.specs.Result.{result_ok}
 use Rattle.ebpf_base.specs.Faults.{or_else, fault_of}
@@ -19,6 +19,8 @@ use Rattle.ebpf_model.specs.declared.symbol.ExternDesc.{ExternDesc}
 use Rattle.ebpf_parts.specs.Sections.{section_of, section_fault}
 use Rattle.ebpf_parts.specs.declared.error.ParseError.{ParseError}
 use Rattle.ebpf_parts.specs.declared.error.ParseError.TheVariants.{BtfError}
+use Rattle.ebpf_parts.specs.declared.parse_mode.ParseMode.{ParseMode}
+use Rattle.ebpf_parts.specs.declared.parse_mode.ParseMode.TheVariants.{Strict, Lenient}
 use Rattle.ebpf_sections.specs.Sections.{section_info_entry, first_section_named}
 use Rattle.ebpf_sections.specs.Symbols.{file_symbols, SymbolValue, weak_named}
 
@@ -46,17 +48,27 @@ types_fault_in o (Some s) =
 
 -- ---- the records of `.BTF.ext`, their names in the strings of the types
 
-abbrev pub read_ext_section : Endianness → TypeInfo → SectionOf → Result ExtInfo TypeError
-read_ext_section o types s = read_ext o (section_of s).bytes types.strings
+-- whether CO-RE relocations of kind 12 (type matches) are read; strict parsing refuses them
+unfoldable pub reads_type_matches : ParseMode → Bool
+reads_type_matches Strict = false
+reads_type_matches Lenient = true
+
+abbrev pub read_ext_section : Bool → Endianness → TypeInfo → SectionOf → Result ExtInfo TypeError
+read_ext_section type_matches o types s =
+    read_ext type_matches o (section_of s).bytes types.strings
+
+-- The contents are those that lenient parsing reads. What strict parsing does not refuse, it reads
+-- in the same way.
 
 abbrev pub ext_in : Endianness → TypeInfo → Option SectionOf → Option ExtInfo
 ext_in o types None = None
-ext_in o types (Some s) = result_ok (read_ext_section o types s)
+ext_in o types (Some s) = result_ok (read_ext_section true o types s)
 
-abbrev pub ext_fault_in : Endianness → TypeInfo → Option SectionOf → Option ParseError
-ext_fault_in o types None = None
-ext_fault_in o types (Some s) =
-    or_else (section_fault s) (option_map BtfError (fault_of (read_ext_section o types s)))
+abbrev pub ext_fault_in : ParseMode → Endianness → TypeInfo → Option SectionOf → Option ParseError
+ext_fault_in mode o types None = None
+ext_fault_in mode o types (Some s) =
+    or_else (section_fault s)
+    (option_map BtfError (fault_of (read_ext_section (reads_type_matches mode) o types s)))
 
 -- ---- of a file: the first section of each name, `.BTF.ext` only beside types
 
@@ -76,15 +88,16 @@ abbrev pub ext_beside : List ℕ → Option TypeInfo → Option ExtInfo
 ext_beside bytes None = None
 ext_beside bytes (Some types) = ext_in (ei_data bytes) types (ext_section bytes)
 
-abbrev pub ext_fault_beside : List ℕ → Option TypeInfo → Option ParseError
-ext_fault_beside bytes None = None
-ext_fault_beside bytes (Some types) = ext_fault_in (ei_data bytes) types (ext_section bytes)
+abbrev pub ext_fault_beside : ParseMode → List ℕ → Option TypeInfo → Option ParseError
+ext_fault_beside mode bytes None = None
+ext_fault_beside mode bytes (Some types) =
+    ext_fault_in mode (ei_data bytes) types (ext_section bytes)
 
 unfoldable pub ext_of : List ℕ → Option ExtInfo
 ext_of bytes = ext_beside bytes (btf_of bytes)
 
-unfoldable pub ext_fault : List ℕ → Option ParseError
-ext_fault bytes = ext_fault_beside bytes (btf_of bytes)
+unfoldable pub ext_fault : ParseMode → List ℕ → Option ParseError
+ext_fault mode bytes = ext_fault_beside mode bytes (btf_of bytes)
 
 -- the names that this step meets
 abbrev pub ext_names_beside : List ℕ → Option TypeInfo → List (List ℕ × SectionIndex)
@@ -101,8 +114,8 @@ unfoldable pub type_info_names : List ℕ → FinMap text_cmp SectionIndex
 type_info_names bytes = put_all (put_all empty (type_names bytes)) (ext_names bytes)
 
 -- the faults of this step
-unfoldable pub file_types_fault : List ℕ → Option ParseError
-file_types_fault bytes = or_else (btf_fault bytes) (ext_fault bytes)
+unfoldable pub file_types_fault : ParseMode → List ℕ → Option ParseError
+file_types_fault mode bytes = or_else (btf_fault bytes) (ext_fault mode bytes)
 
 -- CO-RE relocations of at least one section
 abbrev pub has_relocations : Option ExtInfo → Bool

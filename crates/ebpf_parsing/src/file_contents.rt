@@ -68,12 +68,12 @@ fn read_head(
     ensures metadata { IfOk result (λ head. head.metadata ≡ metadata_as mode file.now) }
     ensures externs { IfOk result (λ head. head.externs ≡ externs_of file.now) }
     ensures section_infos { IfOk result (λ head. head.section_infos ≡ type_info_names file.now) }
-    ensures types_clear { OnOk result (file_types_fault file.now ≡ None) }
+    ensures types_clear { OnOk result (file_types_fault mode file.now ≡ None) }
     ensures externs_clear { OnOk result (file_externs_fault file.now ≡ None) }
     ensures fault { Refuses is_parse_memory result
-        (or_else (file_types_fault file.now) (file_externs_fault file.now)) }
+        (or_else (file_types_fault mode file.now) (file_externs_fault file.now)) }
 {
-    let types = FileTypes::read(alloc, file, tables)?;
+    let types = FileTypes::read(alloc, file, tables, mode)?;
     let declared = FileExterns::read(alloc, file, types.btf)?;
     Ok(FileHead {
         metadata: FileMetadata {
@@ -177,7 +177,7 @@ fn read_parts(
         (or_else (license_fault_as mode file.now)
         (or_else (version_fault file.now)
         (or_else (symbols_fault file.now)
-        (or_else (file_types_fault file.now)
+        (or_else (file_types_fault mode file.now)
         (or_else (file_externs_fault file.now)
         (sections_fault mode (types_of_file file.now) file.now)))))) }
 {

@@ -10,7 +10,7 @@ ghost use Rattle.ebpf_elf.specs.Headers.{ei_data};
 ghost use Rattle.ebpf_btf_ext.specs.ExtReading.{read_ext};
 ghost use Rattle.ebpf_parts.specs.Memory.{is_parse_memory};
 ghost use Rattle.ebpf_parts.specs.declared.error.ParseError.TheVariants.{BtfError as TypeFault};
-ghost use Rattle.ebpf_parsing.specs.FileTypes.{btf_of, btf_fault, ext_of, ext_fault, ext_beside, ext_fault_beside, ext_names_beside, ext_in, ext_fault_in, ext_section, names_in, type_names, type_info_names, file_types_fault, externs_beside, externs_fault_beside};
+ghost use Rattle.ebpf_parsing.specs.FileTypes.{btf_of, btf_fault, ext_of, ext_fault, ext_beside, ext_fault_beside, ext_names_beside, ext_in, ext_fault_in, ext_section, names_in, reads_type_matches, type_names, type_info_names, file_types_fault, externs_beside, externs_fault_beside};
 ghost use Rattle.ebpf_sections.specs.Sections.{AreTablesOf, section_info_entry};
 ghost use Rattle.ebpf_sections.specs.Symbols.{file_symbols, symbols_fault};
 
@@ -20,7 +20,7 @@ use ebpf_btf_decls::{collect_externs, may_declare_externs, parse_error};
 use ebpf_btf_ext::BtfExt;
 use ebpf_elf::{ElfFile, SectionIndex};
 use ebpf_model::ExternDesc;
-use ebpf_parts::{ParseError, Section};
+use ebpf_parts::{ParseError, ParseMode, Section};
 use ebpf_sections::relocations::RelocationTable;
 use ebpf_sections::sections::{Groups, read_section_of};
 use ebpf_sections::symbols::weak_by_name;
@@ -39,15 +39,33 @@ fn btf_in(alloc: Global, order: Endianness, bytes: &[u8]) -> Result<Btf, ParseEr
     }
 }
 
-/// The info entries and CO-RE relocations in the bytes of `.BTF.ext`.
-#[tactic(auto, using(crate::proofs::TypeErrors::refused))]
-fn ext_in(alloc: Global, order: Endianness, bytes: &[u8], types: &Btf) -> Result<BtfExt, ParseError>
-    ensures infos { IfOk result (λ infos.
-        result_ok (read_ext order bytes.now types.now.strings) ≡ Some infos) }
-    ensures fault { Refuses is_parse_memory result
-        (option_map TypeFault (fault_of (read_ext order bytes.now types.now.strings))) }
+/// Whether CO-RE relocations of kind 12 (type matches) are read.
+#[tactic(auto, unfolding(crate::specs::FileTypes::reads_type_matches))]
+pub fn reads_type_matches(mode: ParseMode) -> bool
+    ensures { result ≡ reads_type_matches mode }
 {
-    match BtfExt::parse(alloc, bytes, order, types) {
+    match mode {
+        ParseMode::Strict => false,
+        ParseMode::Lenient => true,
+    }
+}
+
+/// The info entries and CO-RE relocations in the bytes of `.BTF.ext`.
+#[tactic(auto, using(crate::proofs::TypeErrors::refused, crate::proofs::KnownKinds::read_with_matches))]
+fn ext_in(
+    alloc: Global,
+    mode: ParseMode,
+    order: Endianness,
+    bytes: &[u8],
+    types: &Btf,
+) -> Result<BtfExt, ParseError>
+    ensures infos { IfOk result (λ infos.
+        result_ok (read_ext true order bytes.now types.now.strings) ≡ Some infos) }
+    ensures fault { Refuses is_parse_memory result
+        (option_map TypeFault
+        (fault_of (read_ext (reads_type_matches mode) order bytes.now types.now.strings))) }
+{
+    match BtfExt::parse_as(alloc, bytes, order, types, reads_type_matches(mode)) {
         Ok(infos) => Ok(infos),
         Err(error) => Err(parse_error(error)),
     }
@@ -98,6 +116,7 @@ fn read_types(
 #[tactic(auto, using(ebpf_sections::proofs::RelocationTables::found_from), unfolding(ebpf_parts::specs::Sections::section_of, ebpf_parts::specs::Sections::section_with))]
 fn read_ext_section(
     alloc: Global,
+    mode: ParseMode,
     file: &ElfFile<'_>,
     tables: &Groups<RelocationTable<'_>>,
     types: &Btf,
@@ -109,13 +128,13 @@ fn read_ext_section(
     ensures names { OnOk result
         (section_infos.new ≡ put_all section_infos.old (names_in (ext_section file.now))) }
     ensures fault { Refuses is_parse_memory result
-        (ext_fault_in (ei_data file.now) types.now (ext_section file.now)) }
+        (ext_fault_in mode (ei_data file.now) types.now (ext_section file.now)) }
 {
     let Some(section) = file.section_by_name(".BTF.ext") else {
         return Ok(None);
     };
     let section = read_section_of(alloc, file, tables, &section)?;
-    let infos = ext_in(alloc, file.endianness(), section.bytes, types)?;
+    let infos = ext_in(alloc, mode, file.endianness(), section.bytes, types)?;
     remember(alloc, section_infos, &section)?;
     Ok(Some(infos))
 }
@@ -123,6 +142,7 @@ fn read_ext_section(
 /// What a file's section `.BTF.ext` says of instructions, where the file has types.
 fn read_ext_beside(
     alloc: Global,
+    mode: ParseMode,
     file: &ElfFile<'_>,
     tables: &Groups<RelocationTable<'_>>,
     types: &Option<Btf>,
@@ -132,12 +152,12 @@ fn read_ext_beside(
     ensures infos { IfOk result (λ infos. infos ≡ ext_beside file.now types.now) }
     ensures names { OnOk result
         (section_infos.new ≡ put_all section_infos.old (ext_names_beside file.now types.now)) }
-    ensures fault { Refuses is_parse_memory result (ext_fault_beside file.now types.now) }
+    ensures fault { Refuses is_parse_memory result (ext_fault_beside mode file.now types.now) }
 {
     let Some(types) = types else {
         return Ok(None);
     };
-    read_ext_section(alloc, file, tables, types, section_infos)
+    read_ext_section(alloc, mode, file, tables, types, section_infos)
 }
 
 /// The types of a file, its info entries and CO-RE relocations, and the names of their sections.
@@ -149,7 +169,7 @@ pub struct FileTypes {
 }
 
 impl FileTypes {
-    /// Reads the sections `.BTF` and `.BTF.ext` of a file.
+    /// Reads the sections `.BTF` and `.BTF.ext` of a file; CO-RE relocations of kind 12 (type matches) in lenient parsing.
     ///
     /// # Errors
     ///
@@ -161,17 +181,18 @@ impl FileTypes {
         alloc: Global,
         file: &ElfFile<'_>,
         tables: &Groups<RelocationTable<'_>>,
+        mode: ParseMode,
     ) -> Result<FileTypes, ParseError>
         requires tables { AreTablesOf file.now tables.now.groups }
         ensures btf { IfOk result (λ types. types.btf ≡ btf_of file.now) }
         ensures btf_ext { IfOk result (λ types. types.btf_ext ≡ ext_of file.now) }
         ensures section_infos { IfOk result (λ types.
             types.section_infos ≡ type_info_names file.now) }
-        ensures fault { Refuses is_parse_memory result (file_types_fault file.now) }
+        ensures fault { Refuses is_parse_memory result (file_types_fault mode file.now) }
     {
         let mut section_infos = ByName::new(alloc);
         let btf = read_types(alloc, file, tables, &mut section_infos)?;
-        let btf_ext = read_ext_beside(alloc, file, tables, &btf, &mut section_infos)?;
+        let btf_ext = read_ext_beside(alloc, mode, file, tables, &btf, &mut section_infos)?;
         Ok(FileTypes {
             btf,
             btf_ext,
