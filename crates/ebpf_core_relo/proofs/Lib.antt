@@ -3,6 +3,7 @@ pub mod FurthestOnes
 pub mod MatchAbsences
 pub mod MisfitNames
 pub mod RecordRuns
+pub mod WalkedRecords
 pub mod OutcomeSlots
 pub mod Refused
 pub mod Tops

@@ -137,6 +137,7 @@ field_absence local target steps ids =
 
 abbrev pub path_absence : TypeInfo → TypeInfo → NamedPath → List ℕ → Absence
 path_absence local target paths.WholeType ids = TypeOfAnotherKind
+path_absence local target paths.MatchedType ids = TypeOfAnotherKind
 path_absence local target (paths.Variant name) ids = NoEnumerator
 path_absence local target (paths.Field steps place) ids = field_absence local target steps ids
 

@@ -1,10 +1,16 @@
 -- What contracts of private functions name and no public one.
 use Rattle.std.specs.Prelude.{◌≡◌, ⊤, [], MatchBool, Result, Ok, Err, ℕ, List, ◌∷◌, ◌++◌, Option}
-use Rattle.std.specs.Prelude.{Some, None, nat_le, if◌then◌else◌, ◌+◌, ◌<◌, length, slice_set}
+use Rattle.std.specs.Prelude.{Some, None, nat_le, if◌then◌else◌, ◌+◌, ◌<◌, length, slice_set, Bool, false}
 use Rattle.ebpf_core.specs.Answers.{without_texts, is_record_memory}
 use Rattle.ebpf_core.specs.declared.error.RelocationError.{RelocationError}
 use Rattle.ebpf_core_relo.specs.declared.error.BtfRelocationError.{BtfRelocationError}
-use Rattle.ebpf_core_relo.specs.Records.{is_memory_in_section, without_texts_at}
+use Rattle.ebpf_base.specs.Faults.{if_ok}
+use Rattle.ebpf_btf_ext.specs.declared.relocation.Relocation.{Relocation}
+use Rattle.ebpf_core.specs.declared.outcome.Outcome.{Outcome}
+use Rattle.ebpf_core_relo.specs.RecordOutcomes.{record_result, slot_of_record}
+use Rattle.ebpf_core_relo.specs.Records.{RelocationInputs, Written, is_memory_in_section}
+use Rattle.ebpf_core_relo.specs.Records.{records_applied, without_texts_at}
+use Rattle.ebpf_core_relo.specs.declared.outcomes.RecordOutcome.{RecordOutcome}
 use Rattle.std.specs.FinMap.{FinMap, insert}
 use Rattle.std.specs.Ordering.{nat_cmp}
 use Rattle.ebpf_core_relo.specs.declared.spans.Span.{Span}
@@ -17,9 +23,9 @@ use Rattle.ebpf_core_relo.specs.Spans.{span_at}
 use Rattle.ebpf_core_relo.specs.declared.carried.PatchedSlots.{PatchedSlots}
 use Rattle.ebpf_btf.specs.declared.error.BtfError.TheVariants.{InvalidStringOffset}
 use Rattle.ebpf_core.specs.declared.error.RelocationError.TheVariants.{BtfError, SectionNotFound}
-use Rattle.ebpf_core_relo.specs.declared.outcomes.FoundSection.{FoundSection}
-use Rattle.ebpf_core_relo.specs.declared.outcomes.FoundSection.TheVariants.{Number, NoName}
-use Rattle.ebpf_core_relo.specs.declared.outcomes.FoundSection.TheVariants.{NoSection}
+use Rattle.ebpf_core_relo.specs.declared.walk.FoundSection.{FoundSection}
+use Rattle.ebpf_core_relo.specs.declared.walk.FoundSection.TheVariants.{Number, NoName}
+use Rattle.ebpf_core_relo.specs.declared.walk.FoundSection.TheVariants.{NoSection}
 
 -- The call leaves what is stated, or answers the stated fault, its texts for people aside, or a
 -- out of memory.
@@ -95,3 +101,37 @@ abbrev pub found_number : FoundSection → Result ℕ RelocationError
 found_number (Number number) = Ok number
 found_number (NoName offset) = Err (BtfError (InvalidStringOffset offset))
 found_number NoSection = Err SectionNotFound
+
+-- whether a section is found
+abbrev pub IsFound : Result ℕ RelocationError → Type 0
+IsFound (Ok number) = ⊤
+IsFound (Err fault) = ⊥
+
+-- the records of a section, one after the other, where the section is found
+abbrev pub part_applied : RelocationInputs → Result ℕ RelocationError → List Relocation → Written
+    → Result Written RelocationError
+part_applied inputs section rs so_far =
+    if_ok section (λ number. records_applied inputs number rs so_far)
+
+-- ---- the outcome of a record, as a walk goes on with it
+
+-- its fault is no lack of memory, and where the walk stops at a fault there is none
+abbrev pub IsKept : Bool → Result Outcome RelocationError → Type 0
+IsKept stops (Ok outcome) = ⊤
+IsKept stops (Err e) = (is_record_memory e ≡ false) × (stops ≡ false)
+
+-- the texts aside that are for people to read
+abbrev pub outcome_or_fault : Result Outcome RelocationError → Result Outcome RelocationError
+outcome_or_fault (Ok outcome) = Ok outcome
+outcome_or_fault (Err e) = Err (without_texts e)
+
+-- the row of a record of a section, by its outcome or fault
+abbrev pub row_of : RelocationInputs → ℕ → Result ℕ RelocationError → Relocation
+    → Result Outcome RelocationError → RecordOutcome
+row_of inputs offset section r applied =
+    record {
+      section_name = offset;
+      number = r.number;
+      slot = slot_of_record inputs section r;
+      result = record_result inputs.sides r applied;
+    }

@@ -21,7 +21,7 @@ const UNNAMED_LEVELS: u32 = 64;
 pub enum Absence {
     /// No type has the kind and the name.
     NoType,
-    /// Types have the kind and the name, and none is compatible with the local one.
+    /// Types have the kind and the name, and none is compatible with the local one, or matched by it.
     TypeOfAnotherKind,
     /// The path needs a member of a name that the types lack, or an element of a number that they lack.
     NoMember,
@@ -172,7 +172,7 @@ pub fn absence_among(
         return Ok(Absence::NoType);
     }
     match path {
-        NamedPath::WholeType => Ok(Absence::TypeOfAnotherKind),
+        NamedPath::WholeType | NamedPath::MatchedType => Ok(Absence::TypeOfAnotherKind),
         NamedPath::Variant { .. } => Ok(Absence::NoEnumerator),
         NamedPath::Field { steps, .. } => {
             field_absence(local, target, steps.as_slice(), candidates)

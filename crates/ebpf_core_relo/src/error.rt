@@ -1,13 +1,17 @@
 //! The errors of relocating the slots of a section to the types of another kernel.
 
-ghost use Rattle.std.specs.Prelude.{◌≡◌, [], false, IfOk, OnOk};
+ghost use Rattle.std.specs.Prelude.{◌≡◌, [], false, true, IfOk, OnOk};
 ghost use Rattle.ebpf_core.specs.declared.error.RelocationError.TheVariants.{OutOfMemory};
-ghost use Rattle.ebpf_core.specs.Answers.{is_record_memory};
+ghost use Rattle.ebpf_core.specs.Answers.{is_record_memory, without_texts};
 ghost use Rattle.ebpf_btf.specs.Memory as types;
 ghost use Rattle.ebpf_core.specs.Places as places;
+ghost use Rattle.ebpf_btf.specs.Strings.{text_at};
+ghost use Rattle.ebpf_core_relo.specs.PrivateContracts.{IsStatedRefusal};
+ghost use Rattle.ebpf_core_relo.specs.RecordOutcomes.{name_or_unnamed};
+ghost use Rattle.ebpf_core_relo.specs.Records.{error_in_section, is_memory_in_section, unnamed_section};
 
 use ebpf_base::Text;
-use ebpf_btf::BtfError;
+use ebpf_btf::{Btf, BtfError};
 use ebpf_core::{PlaceFault, RelocationError};
 use ebpf_parts::Within;
 use std::alloc::{AllocError, Global};
@@ -77,5 +81,51 @@ pub fn unless_memory_of_places(fault: PlaceFault) -> Result<(), AllocError>
     match fault {
         PlaceFault::Btf(error) => unless_memory_of_types(error),
         PlaceFault::NestingLevel => Ok(()),
+    }
+}
+
+/// The error of a fault in the section of a name. Out of memory names no section.
+fn error_in_section(alloc: Global, name: &str, error: RelocationError) -> BtfRelocationError
+    ensures refusal { IsStatedRefusal result (error_in_section name.now (without_texts error)) }
+    ensures memory { is_record_memory error ≡ true → is_memory_in_section result ≡ true }
+{
+    if matches!(error, RelocationError::OutOfMemory) {
+        return BtfRelocationError::memory(alloc);
+    }
+    let Ok(section) = Text::from_str(alloc, name) else {
+        return BtfRelocationError::memory(alloc);
+    };
+    BtfRelocationError { section, error }
+}
+
+/// The error of a fault in a section whose name can't be read.
+fn error_in_unnamed(alloc: Global, offset: u32, error: RelocationError) -> BtfRelocationError
+    ensures refusal { IsStatedRefusal result
+        (error_in_section (unnamed_section offset) (without_texts error)) }
+    ensures memory { is_record_memory error ≡ true → is_memory_in_section result ≡ true }
+{
+    let Ok(name) = format!(in alloc; "section@{offset}") else {
+        return BtfRelocationError::memory(alloc);
+    };
+    error_in_section(alloc, name.as_str(), error)
+}
+
+/// Returns the error of a fault in the section whose name is at an offset. Out of memory names no section.
+#[tactic(auto, unfolding(ebpf_btf::specs::Strings::text_at))]
+pub fn error_at(
+    alloc: Global,
+    local: &Btf,
+    offset: u32,
+    error: RelocationError,
+) -> BtfRelocationError
+    ensures refusal { IsStatedRefusal result
+        (error_in_section (name_or_unnamed offset (text_at local.now.strings offset))
+        (without_texts error)) }
+    ensures memory { is_record_memory error ≡ true → is_memory_in_section result ≡ true }
+{
+    match local.string_at(offset) {
+        Ok(name) => error_in_section(alloc, name.as_str(), error),
+        Err(BtfError::OutOfMemory) => BtfRelocationError::memory(alloc),
+        Err(_) => error_in_unnamed(alloc, offset, error),
     }
 }

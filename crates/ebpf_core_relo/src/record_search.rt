@@ -1,21 +1,25 @@
 //! Results of records over the types of a kernel, with the reasons of those that have no value.
 
-ghost use Rattle.std.specs.Prelude.{◌≡◌, IfOk, Ok, OnOk};
+ghost use Rattle.std.specs.Prelude.{◌≡◌, IfOk, Ok};
 ghost use Rattle.ebpf_core.specs.LocalPaths.{local_path};
-ghost use Rattle.ebpf_core.specs.Searches.{candidates_for};
+ghost use Rattle.ebpf_core.specs.Searches.{candidates_for, outcome_of};
 ghost use Rattle.ebpf_core_relo.specs.Absences.{absence_in, absence_of, without_position};
-ghost use Rattle.ebpf_core_relo.specs.RecordOutcomes.{applied, left_by, outcome_result, result_in, result_without_texts};
+ghost use Rattle.ebpf_core_relo.specs.PrivateContracts.{Leaves, StaysRefused, outcome_or_fault};
+ghost use Rattle.ebpf_core_relo.specs.RecordOutcomes.{outcome_result, record_result, result_without_texts};
+ghost use Rattle.ebpf_core_relo.specs.Records.{record_applied};
 ghost use Rattle.ebpf_core_relo.specs.SpanInputs.{inputs_of};
 
 use crate::absence::{Absence, absence_among};
+use crate::applied::apply_record;
 use crate::error::{unless_memory, unless_memory_of_types};
 use crate::outcomes::RecordResult;
-use crate::sections::apply_record;
 use crate::spans::FunctionSpans;
 use ebpf_base::{ByKey, Items};
 use ebpf_btf::Btf;
 use ebpf_btf_ext::Relocation;
-use ebpf_core::{CoreSearch, NamedPath, Outcome, Question, local_path, question_of};
+use ebpf_core::{
+    CoreSearch, NamedPath, Outcome, Question, RelocationError, local_path, question_of,
+};
 use ebpf_parts::insn::bpf_insn;
 use std::alloc::{AllocError, Global};
 use std::collections::BTreeMap;
@@ -156,39 +160,56 @@ impl<'a> RecordSearch<'a> {
         Ok(RecordResult::Absent(absence))
     }
 
-    /// Returns the result of a record of a section, and applies the record to the function that holds its instruction.
+    /// Applies a record of a section to the function that holds its instruction. A refused record writes nothing.
     ///
-    /// A refused record writes nothing.
-    pub fn result_in(
+    /// # Errors
+    ///
+    /// Those of `apply_record`.
+    pub fn apply(
         &mut self,
         alloc: Global,
         function_spans: &FunctionSpans<'_>,
         section: usize,
         written: &mut ByKey<Items<bpf_insn>>,
         relocation: &Relocation,
-    ) -> Result<RecordResult, AllocError>
-        ensures outcome_result { IfOk result (λ answer.
-            result_without_texts answer
-            ≡ result_in (inputs_of self.old function_spans.now) (Ok section) written.old
+    ) -> Result<Outcome, RelocationError>
+        ensures applied { Leaves result written.new
+            (record_applied (inputs_of self.old function_spans.now) section written.old
             relocation.now) }
-        ensures written { OnOk result
-            (written.new
-            ≡ left_by written.old
-            (applied (inputs_of self.old function_spans.now) (Ok section) written.old
-            relocation.now)) }
-        ensures stays { self.new ≡ self.old }
+        ensures outcome { IfOk result (λ outcome.
+            outcome_of self.old.local self.old.target relocation.now ≡ Ok outcome) }
+        ensures stays { StaysRefused result written.old written.new }
+        ensures search { self.new ≡ self.old }
     {
-        let applied = apply_record(
+        apply_record(
             alloc,
             &mut self.search,
             function_spans,
             section,
             written,
             relocation,
-        );
+        )
+    }
+
+    /// Returns the result of a record that was applied, by its outcome or its fault.
+    ///
+    /// # Errors
+    ///
+    /// - `AllocError`: an allocation failed.
+    pub fn result_of(
+        &mut self,
+        alloc: Global,
+        relocation: &Relocation,
+        applied: Result<Outcome, RelocationError>,
+    ) -> Result<RecordResult, AllocError>
+        ensures result_of { IfOk result (λ answer.
+            result_without_texts answer
+            ≡ record_result self.old relocation.now (outcome_or_fault applied)) }
+        ensures stays { self.new ≡ self.old }
+    {
         match applied {
             Ok(outcome) => self.outcome_result(alloc, relocation, outcome),
-            Err(fault) => Ok(RecordResult::Refused(unless_memory(fault)?)),
+            Err(fault) => Ok(RecordResult::Refused(fault)),
         }
     }
 }

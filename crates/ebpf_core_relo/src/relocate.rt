@@ -7,12 +7,11 @@ ghost use Rattle.ebpf_core_relo.specs.Records.{is_memory_in_section, without_tex
 ghost use Rattle.ebpf_core_relo.specs.PrivateContracts.{with_slots_at};
 
 use crate::error::BtfRelocationError;
-use crate::sections::apply_all;
 use crate::spans::FunctionSpans;
+use crate::walk::{RecordWalk, walk_all};
 use ebpf_base::{ByKey, ByName, Items};
 use ebpf_btf::Btf;
 use ebpf_btf_ext::BtfExt;
-use ebpf_core::CoreSearch;
 use ebpf_elf::SectionIndex;
 use ebpf_model::Function;
 use ebpf_parts::insn::bpf_insn;
@@ -42,16 +41,15 @@ fn written_slots(
     let Ok(function_spans) = FunctionSpans::new(alloc, functions, section_infos) else {
         return Err(BtfRelocationError::memory(alloc));
     };
-    let mut search = CoreSearch::new(alloc, local, target);
-    let mut written = ByKey::new(alloc);
-    apply_all(
-        alloc,
-        &mut search,
-        &function_spans,
-        &mut written,
-        relocations.relocations(),
-    )?;
-    Ok(written)
+    let walk = RecordWalk {
+        function_spans: &function_spans,
+        lists: false,
+        stops: true,
+    };
+    match walk_all(alloc, &walk, local, target, relocations.relocations()) {
+        Ok(outcomes) => Ok(outcomes.written),
+        Err(error) => Err(error),
+    }
 }
 
 /// Returns the slots of the functions that the CO-RE relocations of an object write, by the functions' keys.

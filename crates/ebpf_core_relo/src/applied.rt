@@ -1,21 +1,18 @@
-//! The records of an object, section by section and one by one.
+//! One record, applied to the function that holds its instruction.
 
 ghost use Rattle.std.specs.Prelude.{◌≡◌, Err, Ok, ◌<◌, ⊤, MatchBool, IfOk, IfErr, length};
-ghost use Rattle.ebpf_core.specs.Answers.{of_type_error, without_texts, is_record_memory};
-ghost use Rattle.ebpf_core.specs.declared.error.RelocationError.TheVariants.{BtfError};
-ghost use Rattle.ebpf_core_relo.specs.Records.{error_in_section, all_applied, named_applied, section_applied, unnamed_section, put_outcome, record_applied, records_applied, slots_so_far};
+ghost use Rattle.ebpf_core.specs.Answers.{without_texts, is_record_memory};
+ghost use Rattle.ebpf_core_relo.specs.Records.{put_outcome, record_applied, slots_so_far};
 ghost use Rattle.ebpf_core_relo.specs.SpanInputs.{inputs_of};
-ghost use Rattle.ebpf_core_relo.specs.PrivateContracts.{IsStatedRefusal, Leaves, LeavesAt, StaysRefused, HasRoom, put_at};
+ghost use Rattle.ebpf_core_relo.specs.PrivateContracts.{Leaves, StaysRefused, HasRoom, put_at};
 ghost use Rattle.ebpf_core.specs.Searches.{outcome_of};
 ghost use Rattle.std.specs.FinMap as map;
 ghost use Rattle.ebpf_core_relo.specs.Carried as carried;
 
 use crate::carried::{PatchedSlots, patched_slots, put_slots_at};
-use crate::error::BtfRelocationError;
 use crate::outcomes::RecordSlot;
 use crate::spans::{FunctionSpans, Span, span_in};
-use ebpf_base::{ByKey, Items, Text};
-use ebpf_btf::BtfError;
+use ebpf_base::{ByKey, Items};
 use ebpf_btf_ext::Relocation;
 use ebpf_core::{CoreSearch, Outcome, RelocationError};
 use ebpf_parts::insn::bpf_insn;
@@ -26,112 +23,6 @@ use std::alloc::{AllocError, Global};
 struct SpanInSection {
     section: usize,
     span: Span,
-}
-
-/// Applies the records of the section of a name.
-fn apply_section(
-    alloc: Global,
-    search: &mut CoreSearch<'_>,
-    function_spans: &FunctionSpans<'_>,
-    written: &mut ByKey<Items<bpf_insn>>,
-    name: &str,
-    records: &[Relocation],
-) -> Result<(), RelocationError>
-    ensures applied { Leaves result written.new
-        (section_applied (inputs_of search.old function_spans.now) name.now records.now
-        written.old) }
-    ensures search { search.new ≡ search.old }
-{
-    let Some(section) = function_spans.section_infos.get(name) else {
-        return Err(RelocationError::SectionNotFound);
-    };
-    apply_records(alloc, search, function_spans, section.0, written, records)
-}
-
-/// The error of a fault in the section of a name. Out of memory names no section.
-fn answer_in_section(alloc: Global, name: &str, error: RelocationError) -> BtfRelocationError
-    ensures { IsStatedRefusal result (error_in_section name.now (without_texts error)) }
-{
-    if matches!(error, RelocationError::OutOfMemory) {
-        return BtfRelocationError::memory(alloc);
-    }
-    let Ok(section) = Text::from_str(alloc, name) else {
-        return BtfRelocationError::memory(alloc);
-    };
-    BtfRelocationError { section, error }
-}
-
-/// The error of a section whose name can't be read.
-fn unnamed_section_error(alloc: Global, offset: u32, error: BtfError) -> BtfRelocationError
-    ensures { IsStatedRefusal result
-        (error_in_section (unnamed_section offset) (of_type_error error)) }
-{
-    let error = RelocationError::from(error);
-    let Ok(name) = format!(in alloc; "section@{offset}") else {
-        return BtfRelocationError::memory(alloc);
-    };
-    answer_in_section(alloc, name.as_str(), error)
-}
-
-/// Applies the records of the section whose name is at an offset.
-fn apply_named(
-    alloc: Global,
-    search: &mut CoreSearch<'_>,
-    function_spans: &FunctionSpans<'_>,
-    written: &mut ByKey<Items<bpf_insn>>,
-    offset: u32,
-    records: &[Relocation],
-) -> Result<(), BtfRelocationError>
-    ensures applied { LeavesAt result written.new
-        (named_applied (inputs_of search.old function_spans.now) (offset, records.now)
-        written.old) }
-    ensures search { search.new ≡ search.old }
-{
-    let local = search.local();
-    let name = match local.string_at(offset) {
-        Ok(name) => name,
-        Err(error) => return Err(unnamed_section_error(alloc, offset, error)),
-    };
-    match apply_section(
-        alloc,
-        search,
-        function_spans,
-        written,
-        name.as_str(),
-        records,
-    ) {
-        Ok(()) => Ok(()),
-        Err(error) => Err(answer_in_section(alloc, name.as_str(), error)),
-    }
-}
-
-/// Applies all records, section by section.
-///
-/// # Errors
-///
-/// - The first fault, with the name of its section.
-/// - `OutOfMemory`, with an empty name: an allocation failed.
-pub fn apply_all(
-    alloc: Global,
-    search: &mut CoreSearch<'_>,
-    function_spans: &FunctionSpans<'_>,
-    written: &mut ByKey<Items<bpf_insn>>,
-    sections: &[(u32, Items<Relocation>)],
-) -> Result<(), BtfRelocationError>
-    ensures applied { LeavesAt result written.new
-        (all_applied (inputs_of search.old function_spans.now) sections.now written.old) }
-{
-    for section in sections {
-        apply_named(
-            alloc,
-            search,
-            function_spans,
-            written,
-            section.0,
-            section.1.as_slice(),
-        )?;
-    }
-    Ok(())
 }
 
 /// Takes the slots of a function out of those that are written, or copies the function's own.
@@ -276,28 +167,4 @@ pub fn apply_record(
     };
     let located = SpanInSection { section, span };
     put_outcome(alloc, search, function_spans, written, relocation, located)
-}
-
-/// Applies the records of a section in order.
-///
-/// # Errors
-///
-/// The error of `apply_record` for the first record that has one.
-pub fn apply_records(
-    alloc: Global,
-    search: &mut CoreSearch<'_>,
-    function_spans: &FunctionSpans<'_>,
-    section: usize,
-    written: &mut ByKey<Items<bpf_insn>>,
-    records: &[Relocation],
-) -> Result<(), RelocationError>
-    ensures applied { Leaves result written.new
-        (records_applied (inputs_of search.old function_spans.now) section records.now
-        written.old) }
-    ensures search { search.new ≡ search.old }
-{
-    for relocation in records {
-        apply_record(alloc, search, function_spans, section, written, relocation)?;
-    }
-    Ok(())
 }

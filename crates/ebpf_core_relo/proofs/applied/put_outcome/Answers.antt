@@ -3,7 +3,7 @@ use Rattle.std.specs.FinMap.{insert}
 use Rattle.ebpf_core_relo.specs.Carried.{written}
 use Rattle.ebpf_core_relo.specs.PrivateContracts.{put_at}
 use Rattle.ebpf_core_relo.proofs.OutcomeSlots.{put_by}
-use Rattle.ebpf_core_relo.proofs.sections.put_outcome.Goals as goal
+use Rattle.ebpf_core_relo.proofs.applied.put_outcome.Goals as goal
 
 pub returns-clause-put : goal.returns-clause-put
 returns-clause-put c =
