@@ -6,3 +6,4 @@ pub mod OneResult
 pub mod Runs
 pub mod MapChains
 pub mod NamedSlots
+pub mod SlotOutcomes

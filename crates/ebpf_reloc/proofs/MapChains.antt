@@ -17,7 +17,7 @@ use Rattle.ebpf_model.specs.declared.symbol.Symbol.{Symbol}
 use Rattle.ebpf_parts.specs.Maps.{section_index_of, symbol_index_of}
 use Rattle.ebpf_parts.specs.Slots.{is_pseudo_call}
 use Rattle.ebpf_parts.specs.declared.insn.bpf_insn.{bpf_insn}
-use Rattle.ebpf_reloc.specs.Maps.{address_in, data_address_in_section, data_address_of_symbol, data_address_by, data_address, OffsetsAddUp, MapInputs, fits_imm, value_edit, target_edit, found_edit, map_target_at, edit_in_section, map_edit_of_symbol, map_edit, GivenMap, LentMap, given_map, map_target, at_symbol, tables_of, with_symbol, with_map_target}
+use Rattle.ebpf_reloc.specs.Maps.{address_in, data_address_in_section, data_address_of_symbol, data_address_by, data_address, OffsetsAddUp, MapInputs, fits_imm, value_edit, target_edit, found_edit, map_target_at, edit_in_section, map_edit_of_symbol, map_edit, GivenMap, LentMap, given_map, map_target, symbol_target, at_symbol, tables_of, with_symbol, with_map_target}
 use Rattle.ebpf_reloc.specs.Relocated.{slot_or_zeros, edited_next, found_slot, SectionRelocations, edit_of, edit_by, edit_at, is_in_slots, refused, refusal_at, first_refusal}
 use Rattle.ebpf_reloc.specs.declared.edit.Edit.{Edit}
 use Rattle.ebpf_reloc.specs.declared.edit.Edit.TheVariants.{Stay, Slot, Pair}
@@ -166,13 +166,13 @@ put_symbol table None target = refl
 put_symbol table (Some symbol) target = refl
 
 symbols_push : (table : Table) (given : List GivenMap) (m : GivenMap)
-    → put_all table (flat_map (λ m. at_symbol (symbol_index_of m.1) (map_target m)) (given ++ m ∷ [])) ≡ with_symbol (put_all table (flat_map (λ m. at_symbol (symbol_index_of m.1) (map_target m)) given)) (symbol_index_of m.1) (map_target m)
-symbols_push table [] m = put_all-append table (at_symbol (symbol_index_of m.1) (map_target m)) [] ∙ put_symbol table (symbol_index_of m.1) (map_target m)
+    → put_all table (flat_map (λ m. at_symbol (symbol_index_of m.1) (symbol_target m)) (given ++ m ∷ [])) ≡ with_symbol (put_all table (flat_map (λ m. at_symbol (symbol_index_of m.1) (symbol_target m)) given)) (symbol_index_of m.1) (symbol_target m)
+symbols_push table [] m = put_all-append table (at_symbol (symbol_index_of m.1) (symbol_target m)) [] ∙ put_symbol table (symbol_index_of m.1) (symbol_target m)
 symbols_push table (n ∷ given) m =
-    let first = at_symbol (symbol_index_of n.1) (map_target n) in
-    put_all-append table first (flat_map (λ m. at_symbol (symbol_index_of m.1) (map_target m)) (given ++ m ∷ []))
+    let first = at_symbol (symbol_index_of n.1) (symbol_target n) in
+    put_all-append table first (flat_map (λ m. at_symbol (symbol_index_of m.1) (symbol_target m)) (given ++ m ∷ []))
     ∙ symbols_push (put_all table first) given m
-    ∙ ap (λ t. with_symbol t (symbol_index_of m.1) (map_target m)) (sym (put_all-append table first (flat_map (λ m. at_symbol (symbol_index_of m.1) (map_target m)) given)))
+    ∙ ap (λ t. with_symbol t (symbol_index_of m.1) (symbol_target m)) (sym (put_all-append table first (flat_map (λ m. at_symbol (symbol_index_of m.1) (symbol_target m)) given)))
 
 sections_push : (table : Table) (given : List GivenMap) (m : GivenMap)
     → put_all table (map (λ m. (section_index_of m.1, map_target m)) (given ++ m ∷ [])) ≡ insert (put_all table (map (λ m. (section_index_of m.1, map_target m)) given)) (section_index_of m.1) (map_target m)

@@ -31,7 +31,7 @@ use Rattle.ebpf_reloc.specs.declared.edit.SlotRefusal.{SlotRefusal}
 -- ---- relocations in the order of their offsets
 
 -- the offsets rise, from one on
-abbrev Rises : ℕ → List (ℕ × ElfRelocation) → Type 0
+abbrev pub Rises : ℕ → List (ℕ × ElfRelocation) → Type 0
 Rises low [] = Unit {0}
 Rises low (e ∷ es) = (low ≤ e.0) × Rises (suc e.0) es
 
@@ -92,15 +92,15 @@ all_none f low (e ∷ es) up h = rw (h e up.0) (all_none f (suc e.0) es up.1 (λ
 
 module _ (section_relocations : SectionRelocations) (start : ℕ) where
   -- some relocations are those that stand from slot p on
-  record AreLeft (p : ℕ) (es : List (ℕ × ElfRelocation)) : Type 0 where
-    low : ℕ
-    from : start ≤ low
-    near : start + 8 * p ≤ low + 7
-    up : Rises low es
-    known : (k : ℕ) → p ≤ k → get section_relocations (start + 8 * k) ≡ find nat_cmp (start + 8 * k) es
+  pub record AreLeft (p : ℕ) (es : List (ℕ × ElfRelocation)) : Type 0 where
+    pub low : ℕ
+    pub from : start ≤ low
+    pub near : start + 8 * p ≤ low + 7
+    pub up : Rises low es
+    pub known : (k : ℕ) → p ≤ k → get section_relocations (start + 8 * k) ≡ find nat_cmp (start + 8 * k) es
 
   -- at first all from the first slot on
-  all_left : AreLeft 0 (entries_from start (entries section_relocations))
+  pub all_left : AreLeft 0 (entries_from start (entries section_relocations))
   all_left = record {
     low = start;
     from = omega arith;
@@ -115,20 +115,20 @@ module _ (section_relocations : SectionRelocations) (start : ℕ) where
 
   module _ (e : ℕ × ElfRelocation) (es : List (ℕ × ElfRelocation)) (p : ℕ) (left : AreLeft p (e ∷ es)) where
     -- a slot before the first of them has none
-    none_before : (k : ℕ) → p ≤ k → start + 8 * k < e.0 → get section_relocations (start + 8 * k) ≡ None
+    pub none_before : (k : ℕ) → p ≤ k → start + 8 * k < e.0 → get section_relocations (start + 8 * k) ≡ None
     none_before k le lt =
         left.known k le
         ∙ find_other (start + 8 * k) e es (λ same. absurd (omega arith))
         ∙ find_below (start + 8 * k) (suc e.0) es left.up.1 (omega arith)
 
     -- the slot at which it stands
-    stands_at : (k : ℕ) → e.0 ≡ start + 8 * k → get section_relocations (start + 8 * k) ≡ Some e.1
+    pub stands_at : (k : ℕ) → e.0 ≡ start + 8 * k → get section_relocations (start + 8 * k) ≡ Some e.1
     stands_at k here =
         let le : p ≤ k = omega (arith, left.near, left.up.0) in
         left.known k le ∙ ap (λ q. find nat_cmp q (e ∷ es)) (sym here) ∙ find_head e es
 
     -- the others, from a slot on past which it doesn't stand
-    others_left : (n : ℕ) → p ≤ n → start + 8 * n ≤ suc e.0 + 7 → ((k : ℕ) → n ≤ k → (start + 8 * k) ≢ e.0) → AreLeft n es
+    pub others_left : (n : ℕ) → p ≤ n → start + 8 * n ≤ suc e.0 + 7 → ((k : ℕ) → n ≤ k → (start + 8 * k) ≢ e.0) → AreLeft n es
     others_left n le near apart = record {
       low = suc e.0;
       from = omega (arith, left.from, left.up.0);
@@ -222,7 +222,7 @@ module _ (rule_edit : EditRule) (section_relocations : SectionRelocations) (star
   no_edit : (k : ℕ) (s : bpf_insn) → get section_relocations (start + 8 * k) ≡ None → edit k s ≡ Stay
   no_edit k s none = ap (λ o. edit_by rule_edit o s (nat_lt (k + 1) (length old))) none
 
-  one_edit : (k : ℕ) (s : bpf_insn) (r : ElfRelocation) → get section_relocations (start + 8 * k) ≡ Some r → edit k s ≡ edit_of (rule_edit r s (nat_lt (k + 1) (length old)))
+  pub one_edit : (k : ℕ) (s : bpf_insn) (r : ElfRelocation) → get section_relocations (start + 8 * k) ≡ Some r → edit k s ≡ edit_of (rule_edit r s (nat_lt (k + 1) (length old)))
   one_edit k s r is = ap (λ o. edit_by rule_edit o s (nat_lt (k + 1) (length old))) is
 
   -- slots without relocations are passed over
@@ -283,19 +283,19 @@ module _ (rule_edit : EditRule) (section_relocations : SectionRelocations) (star
   fault = refusal_at rule_edit section_relocations start slots
 
   -- slot p is found with what is pending, which no later one is
-  record IsPending (p : ℕ) (pending : Pending) : Type 0 where
-    found : found_slot makes slots p ≡ pending_slot pending p (slot_or_zeros slots p)
-    later : (k : ℕ) (s : bpf_insn) → p < k → pending_slot pending k s ≡ s
+  pub record IsPending (p : ℕ) (pending : Pending) : Type 0 where
+    pub found : found_slot makes slots p ≡ pending_slot pending p (slot_or_zeros slots p)
+    pub later : (k : ℕ) (s : bpf_insn) → p < k → pending_slot pending k s ≡ s
 
   -- slots without relocations are passed over
-  pending_on : (p n : ℕ) (pending : Pending) → p ≤ n → ((k : ℕ) → p ≤ k → k < n → get section_relocations (start + 8 * k) ≡ None) → IsPending p pending → IsPending n pending
+  pub pending_on : (p n : ℕ) (pending : Pending) → p ≤ n → ((k : ℕ) → p ≤ k → k < n → get section_relocations (start + 8 * k) ≡ None) → IsPending p pending → IsPending n pending
   pending_on p n pending le none is = passed (λ k. IsPending k pending) p n le (λ k from lt at. record {
     found = ap (λ x. edited_next x (slot_or_zeros slots (suc k))) (no_edit rule_edit section_relocations start slots k (found_slot makes slots k) (none k from lt)) ∙ sym (at.later (suc k) (slot_or_zeros slots (suc k)) (omega arith));
     later = λ j s past. at.later j s (omega arith);
   }) is
 
   -- what the edit of slot p leaves is pending at the next
-  pending_next : (p : ℕ) (made : Edit) → makes p (found_slot makes slots p) ≡ made → IsPending (suc p) (pending_of p made)
+  pub pending_next : (p : ℕ) (made : Edit) → makes p (found_slot makes slots p) ≡ made → IsPending (suc p) (pending_of p made)
   pending_next p made is = record {
     found = ap (λ x. edited_next x (slot_or_zeros slots (suc p))) is ∙ left_next made p (slot_or_zeros slots (suc p));
     later = λ k s past. left_later made p k s past;

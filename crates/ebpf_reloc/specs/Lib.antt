@@ -9,3 +9,4 @@ pub mod PrivateContracts
 pub mod Relocated
 pub mod Passes
 pub mod Maps
+pub mod SlotOutcomes

@@ -1,7 +1,7 @@
 -- File descriptors of maps in slots, and the offsets in maps' data that slots in a row add up.
 use Rattle.std.specs.Prelude.{ℕ, ℤ, pos, negsuc, ◌^◌, ◌+ℤ◌, Bool, true, false, ◌||◌, if◌then◌else◌}
 use Rattle.std.specs.Prelude.{nat_lt, List, [], ◌∷◌, map, Option, Some, None, Result, Ok, Err, ◌≡◌}
-use Rattle.std.specs.Prelude.{◌<◌, ◌+◌, ◌*◌, length, sum, unwrap_or, suc, option_map}
+use Rattle.std.specs.Prelude.{◌<◌, ◌+◌, ◌*◌, ◌==◌, length, sum, unwrap_or, suc, option_map}
 use Rattle.std.specs.FinMap.{FinMap, get, empty, insert}
 use Rattle.std.specs.List.{flat_map}
 use Rattle.std.specs.Ordering.{nat_cmp}
@@ -12,7 +12,7 @@ use Rattle.ebpf_elf.specs.declared.relocation.ElfRelocation.{ElfRelocation}
 use Rattle.ebpf_model.specs.Symbols.{TextSections}
 use Rattle.ebpf_model.specs.declared.function.Function.{Function}
 use Rattle.ebpf_model.specs.declared.symbol.Symbol.{Symbol}
-use Rattle.ebpf_parts.specs.Maps.{bytes_of, section_index_of, symbol_index_of}
+use Rattle.ebpf_parts.specs.Maps.{bytes_of, map_type_of, section_index_of, symbol_index_of}
 use Rattle.ebpf_parts.specs.Slots.{pseudo_map_fd, pseudo_map_value, is_pseudo_call, dst_of}
 use Rattle.ebpf_parts.specs.Slots.{registers}
 use Rattle.ebpf_parts.specs.declared.insn.bpf_insn.{bpf_insn}
@@ -47,6 +47,19 @@ has_data (byte ∷ bytes) = true
 abbrev pub map_target : GivenMap → MapTarget
 map_target given = record { descriptor = given.0; has_data = has_data (bytes_of given.1) }
 
+-- the number of the type of arenas (BPF_MAP_TYPE_ARENA)
+abbrev pub arena_type : ℕ
+arena_type = 33
+
+-- What a slot takes from the map that its symbol names. The data of an arena are in a section of
+-- their own, and the arena's own symbol names the map alone (libbpf 1.5, libbpf.c:
+-- bpf_program__record_reloc).
+abbrev pub symbol_target : GivenMap → MapTarget
+symbol_target given = record {
+  descriptor = given.0;
+  has_data = if map_type_of given.1 == arena_type then false else has_data (bytes_of given.1);
+}
+
 abbrev pub at_symbol : Option ℕ → MapTarget → List (ℕ × MapTarget)
 at_symbol None target = []
 at_symbol (Some symbol) target = (symbol, target) ∷ []
@@ -54,7 +67,8 @@ at_symbol (Some symbol) target = (symbol, target) ∷ []
 -- the maps that are handed in, by symbol and by section, the later over the earlier
 unfoldable pub tables_of : List GivenMap → MapTables
 tables_of given = record {
-  by_symbol = put_all empty (flat_map (λ m. at_symbol (symbol_index_of m.1) (map_target m)) given);
+  by_symbol =
+      put_all empty (flat_map (λ m. at_symbol (symbol_index_of m.1) (symbol_target m)) given);
   by_section = put_all empty (map (λ m. (section_index_of m.1, map_target m)) given);
 }
 
@@ -178,9 +192,7 @@ with_symbol table None target = table
 with_symbol table (Some symbol) target = insert table symbol target
 
 abbrev pub with_map_target : MapTables → ℤ → Map → MapTables
-with_map_target tables descriptor m =
-    let target : MapTarget = record { descriptor = descriptor; has_data = has_data (bytes_of m) } in
-    record {
-      by_symbol = with_symbol tables.by_symbol (symbol_index_of m) target;
-      by_section = insert tables.by_section (section_index_of m) target;
-    }
+with_map_target tables descriptor m = record {
+  by_symbol = with_symbol tables.by_symbol (symbol_index_of m) (symbol_target (descriptor, m));
+  by_section = insert tables.by_section (section_index_of m) (map_target (descriptor, m));
+}

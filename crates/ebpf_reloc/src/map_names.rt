@@ -63,7 +63,7 @@ impl MapNames {
     }
 
     /// The name of a slot's own map, by the symbol of its relocation and the symbol's section.
-    fn own_map(&self, symbol: usize, section: usize) -> Option<&Text>
+    pub fn own_map(&self, symbol: usize, section: usize) -> Option<&Text>
         ensures { option_copied result ≡ own_map self.now symbol section }
     {
         match self.by_symbol.get(symbol) {

@@ -6,7 +6,7 @@ ghost use Rattle.ebpf_base.specs.Maps.{map_values};
 ghost use Rattle.ebpf_model.specs.Memory.{is_memory_at};
 ghost use Rattle.ebpf_model.specs.Symbols.{text_sections_in};
 ghost use Rattle.ebpf_parts.specs.Maps.{bytes_of};
-ghost use Rattle.ebpf_reloc.specs.Maps.{LentMap, given_map, tables_of, has_data, with_map_target, value_offset, with_source, map_target_at, target_edit, section_edit, map_edit};
+ghost use Rattle.ebpf_reloc.specs.Maps.{LentMap, given_map, symbol_target, tables_of, has_data, with_map_target, value_offset, with_source, map_target_at, target_edit, section_edit, map_edit};
 ghost use Rattle.ebpf_reloc.specs.Passes.{map_inputs, HoldsOfGivenMaps, with_map_fds, map_fault};
 ghost use Rattle.ebpf_reloc.specs.Relocated.{out_of_memory};
 
@@ -21,12 +21,15 @@ use ebpf_parts::maps::Map;
 use std::alloc::{AllocError, Global};
 use std::collections::HashSet;
 
+/// The type of an arena (`BPF_MAP_TYPE_ARENA`).
+const ARENA: u32 = 33;
+
 /// What a slot takes from a map.
 #[derive(Clone, Copy)]
 pub struct MapTarget {
     /// The map's descriptor.
     pub descriptor: i32,
-    /// Whether the map begins with data.
+    /// Whether the slot refers to data that the map begins with.
     pub has_data: bool,
 }
 
@@ -60,6 +63,19 @@ fn map_target(descriptor: i32, map: &Map) -> MapTarget
     }
 }
 
+/// What a slot takes from the map that its symbol names. The symbol of an arena names the map alone.
+fn symbol_target(descriptor: i32, map: &Map) -> MapTarget
+    ensures { result ≡ symbol_target (descriptor, map.now) }
+{
+    if map.map_type() == ARENA {
+        return MapTarget {
+            descriptor,
+            has_data: false,
+        };
+    }
+    map_target(descriptor, map)
+}
+
 impl MapTables {
     /// Puts a map over those of its symbol and its section.
     fn put(&mut self, descriptor: i32, map: &Map) -> Result<(), AllocError>
@@ -67,7 +83,8 @@ impl MapTables {
     {
         let target = map_target(descriptor, map);
         if let Some(symbol) = map.symbol_index() {
-            self.by_symbol.insert(symbol, target)?;
+            self.by_symbol
+                .insert(symbol, symbol_target(descriptor, map))?;
         }
         self.by_section.insert(map.section_index(), target)?;
         Ok(())
@@ -202,6 +219,7 @@ pub fn map_edit(
 /// A relocation of a function refers to the map of its symbol, else to that of the symbol's section. A slot that
 /// refers to a map without data gets source 1 and the descriptor. One that refers to a map with data gets source 2
 /// and the descriptor, and the slot after it the place in the data: the slot's immediate plus the symbol's address.
+/// The own symbol of an arena (type 33) refers to the map, as one without data does.
 /// Calls of functions, symbols without section and those of `text_sections` are passed over. All else stays.
 ///
 /// # Errors

@@ -2,6 +2,7 @@
 
 ghost use Rattle.ebpf_reloc.specs.Maps.{OffsetsAddUp};
 ghost use Rattle.ebpf_reloc.specs.Relocated.{PassesKeepShapes};
+ghost use Rattle.ebpf_reloc.specs.SlotOutcomes.{EditsAsSaid, FirstRefusedOutcome};
 
 /// The offset in a map's data that a slot is found with, slot by slot: where the slot before it is relocated to a map with
 /// data, it is the immediate that this one is found with plus the address of its symbol, and else the slot's own. So the
@@ -15,4 +16,16 @@ pub fn offsets_add_up()
 #[tactic(auto, using(crate::proofs::Runs::shapes_stay))]
 pub fn passes_keep_shapes()
     ensures { PassesKeepShapes }
+{}
+
+/// A pass refuses the functions exactly where an outcome of a relocation is a refusal, and then with the error of the first.
+#[tactic(auto, using(crate::proofs::SlotOutcomes::first_refused))]
+pub fn first_refused_outcome()
+    ensures { FirstRefusedOutcome }
+{}
+
+/// A pass makes of each slot, as it is found, what the slot's outcome says, and nothing of a slot without an outcome.
+#[tactic(auto, using(crate::proofs::SlotOutcomes::edits_as_said))]
+pub fn edits_as_said()
+    ensures { EditsAsSaid }
 {}

@@ -86,10 +86,10 @@ pub fn write_slots(
 }
 
 /// A slot's place, and the immediate that the edit of the slot before it leaves there.
-type Pending = Option<(usize, i32)>;
+pub(crate) type Pending = Option<(usize, i32)>;
 
 /// A slot as it is found.
-fn pending_slot(pending: Pending, at: usize, slot: bpf_insn) -> bpf_insn
+pub(crate) fn pending_slot(pending: Pending, at: usize, slot: bpf_insn) -> bpf_insn
     ensures { result ≡ pending_slot pending at slot }
 {
     match pending {
@@ -99,7 +99,7 @@ fn pending_slot(pending: Pending, at: usize, slot: bpf_insn) -> bpf_insn
 }
 
 /// What the edit of a slot leaves to be found.
-fn pending_of(at: usize, edit: Edit) -> Pending
+pub(crate) fn pending_of(at: usize, edit: Edit) -> Pending
     requires { at < 2 ^ 63 }
     ensures { result ≡ pending_of at edit }
 {
