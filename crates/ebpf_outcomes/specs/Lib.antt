@@ -1,2 +1,4 @@
 pub mod OneResult
 pub mod PassOutcomes
+pub mod SlotOutcomes
+pub mod CallOutcomes

@@ -1,6 +1,8 @@
 //! What holds of the results of preparing.
 
+ghost use Rattle.ebpf_outcomes.specs.CallOutcomes.{CallsRefuseByOutcomes};
 ghost use Rattle.ebpf_outcomes.specs.OneResult.{PreparingHasOneResult, StagingHasOneResult};
+ghost use Rattle.ebpf_outcomes.specs.SlotOutcomes.{ExternsRefuseByOutcomes, MapsRefuseByOutcomes};
 
 /// What `prepare` promises leaves one result where the bytes of the kernel's symbols are known, those of a `SymbolText` or
 /// those of a reader: from one file and the same steps it gives one object, or one refusal and no object. Exceptions are
@@ -10,4 +12,18 @@ ghost use Rattle.ebpf_outcomes.specs.OneResult.{PreparingHasOneResult, StagingHa
 pub fn preparing_has_one_result_by_source()
     ensures object { StagingHasOneResult }
     ensures file { PreparingHasOneResult }
+{}
+
+/// Writing descriptors, and writing externs, refuses an object exactly where an outcome of the pass is a refusal, and then
+/// with the error of the first.
+#[tactic(auto, using(crate::proofs::SlotOutcomes::maps_refuse, crate::proofs::SlotOutcomes::externs_refuse))]
+pub fn passes_refuse_by_outcomes()
+    ensures maps { MapsRefuseByOutcomes }
+    ensures externs { ExternsRefuseByOutcomes }
+{}
+
+/// Linking refuses programs exactly where an outcome is a refusal, and then with the first.
+#[tactic(auto, using(crate::proofs::CallOutcomes::calls_refuse))]
+pub fn linking_refuses_by_outcomes()
+    ensures { CallsRefuseByOutcomes }
 {}
