@@ -1,0 +1,4 @@
+pub mod Memory
+pub mod Pinnings
+pub mod Arenas
+pub mod Laws
