@@ -22,6 +22,17 @@ found_more f found next xs i x below here is =
     ∙ or_else-assoc found (f x) (first_some f (drop (i + 1) xs))
     ∙ ap (λ l. or_else found (first_some f l)) (sym (rest_more xs i x below here))
 
+-- an item that has nothing
+pub passed_over : {X Y : Type 0} (f : X → Option Y) (found : Option Y) (xs : List X) (i : ℕ) (x : X) → drop i xs ≡ x ∷ drop (i + 1) xs → f x ≡ None
+    → or_else found (first_some f (drop (i + 1) xs)) ≡ or_else found (first_some f (drop i xs))
+passed_over f found xs i x here none =
+    ap (λ o. or_else found (or_else o (first_some f (drop (i + 1) xs)))) (sym none)
+    ∙ ap (λ l. or_else found (first_some f l)) (sym here)
+
+pub found_already : {Y : Type 0} (found rest : Option Y) → is_some found ≡ true → found ≡ or_else found rest
+found_already (Some y) rest is = refl
+found_already None rest is = cc
+
 -- one passes a test where a first one does
 pub any_found : {X : Type 0} (p : X → Bool) (xs : List X) → list_any p xs ≡ is_some (find p xs)
 any_found p [] = refl

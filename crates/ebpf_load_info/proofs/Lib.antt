@@ -1,2 +1,5 @@
+pub mod FirstBytes
 pub mod FirstFound
+pub mod Heads
 pub mod Targets
+pub mod Wanted

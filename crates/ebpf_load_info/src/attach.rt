@@ -1,10 +1,10 @@
 //! The kernel types to which programs are attached.
 
-ghost use Rattle.std.specs.Prelude.{◌≡◌, ◌==◌, ◌++◌, IfOk, string_bytes};
+ghost use Rattle.std.specs.Prelude.{◌≡◌, ◌==◌, ◌++◌, IfOk};
 ghost use Rattle.std.specs.List.{after_first};
 ghost use Rattle.ebpf_parts.specs.ProgramTypes.{lookup_piece, without_mark, first_piece};
-ghost use Rattle.ebpf_load_info.specs.AttachTargets.{kind_of_target, prefix_of, targets, attach_target, in_kernel, target_in, type_named};
-ghost use Rattle.ebpf_btf.specs.Strings.{id_of_name};
+ghost use Rattle.ebpf_load_info.specs.AttachTargets.{kind_of_target, prefix_of, targets, attach_target, in_kernel};
+ghost use Rattle.ebpf_load_info.specs.PrivateContracts.{attached, id_wanted, wanted_in, wanted_type};
 
 use crate::texts::{id_of_name, without_prefix};
 use ebpf_base::Text;
@@ -86,6 +86,22 @@ pub enum AttachTarget {
     },
 }
 
+/// The type to which programs are attached.
+#[derive(Drop)]
+pub enum WantedType {
+    /// The programs are loaded without the id of a type.
+    Other,
+    /// The section's name holds no name of a target.
+    Nameless,
+    /// A type with a kind and a name.
+    Named {
+        /// The kind.
+        kind: BtfKind,
+        /// The name.
+        name: Text,
+    },
+}
+
 /// The name of a section without a leading `?`.
 fn without_mark(section_name: &str) -> &str
     ensures { result.now ≡ without_mark section_name.now }
@@ -124,40 +140,64 @@ fn in_kernel(name: &str) -> &str
 }
 
 /// The name of a target's type.
-fn type_name(alloc: Global, target: TargetKind, name: &str) -> Result<String, AllocError>
-    ensures { IfOk result (λ full. string_bytes full ≡ prefix_of target ++ name.now) }
+fn type_name(alloc: Global, target: TargetKind, name: &str) -> Result<Text, AllocError>
+    ensures { IfOk result (λ full. full ≡ prefix_of target ++ name.now) }
 {
     let mut full = String::from_str(alloc, target.prefix())?;
     full.push_str(name)?;
-    Ok(full)
-}
-
-/// The first type of a name and a kind.
-fn type_named(name: String, kind: BtfKind, types: &Btf) -> AttachTarget
-    ensures { result ≡ type_named (string_bytes name) kind types.now }
-{
-    match id_of_name(types, name.as_str(), kind) {
-        Some(type_id) => AttachTarget::Found { type_id },
-        None => AttachTarget::NotFound {
-            name: Text::from_string(name),
-        },
-    }
+    Ok(Text::from_string(full))
 }
 
 /// The type of a target, where it has a name.
-fn target_in(
-    alloc: Global,
-    types: &Btf,
-    target: TargetKind,
-    name: &str,
-) -> Result<AttachTarget, AllocError>
-    ensures { IfOk result (λ found. found ≡ target_in types.now target name.now) }
+fn wanted_in(alloc: Global, target: TargetKind, name: &str) -> Result<WantedType, AllocError>
+    ensures { IfOk result (λ wanted. wanted ≡ wanted_in target name.now) }
 {
     if name.is_empty() {
-        return Ok(AttachTarget::Unnamed);
+        return Ok(WantedType::Nameless);
     }
     let name = type_name(alloc, target, name)?;
-    Ok(type_named(name, target.kind(), types))
+    Ok(WantedType::Named {
+        kind: target.kind(),
+        name,
+    })
+}
+
+/// The type to which the programs of a section are attached, before it is looked up.
+pub fn wanted_type(alloc: Global, section_name: &str) -> Result<WantedType, AllocError>
+    ensures { IfOk result (λ wanted. wanted ≡ wanted_type section_name.now) }
+{
+    let name = without_mark(section_name);
+    let Some(target) = target_by(before_slash(name)) else {
+        return Ok(WantedType::Other);
+    };
+    wanted_in(alloc, target, in_kernel(behind_slash(name)))
+}
+
+/// The id of a type that is wanted.
+fn id_wanted(types: &Btf, wanted: &WantedType) -> Option<u32>
+    ensures { result ≡ id_wanted types.now wanted.now }
+{
+    match wanted {
+        WantedType::Named { kind, name } => id_of_name(types, name.as_str(), *kind),
+        WantedType::Nameless => None,
+        WantedType::Other => None,
+    }
+}
+
+impl WantedType {
+    /// Returns the target, by the id of its type.
+    pub fn attached(self, found: Option<u32>) -> AttachTarget
+        ensures { result ≡ attached self found }
+    {
+        match self {
+            WantedType::Other => AttachTarget::NotWanted,
+            WantedType::Nameless => AttachTarget::Unnamed,
+            WantedType::Named { name, .. } => match found {
+                Some(type_id) => AttachTarget::Found { type_id },
+                None => AttachTarget::NotFound { name },
+            },
+        }
+    }
 }
 
 /// Returns the target of the programs of a section, as a type.
@@ -184,7 +224,7 @@ fn target_in(
 /// # Errors
 ///
 /// - `AllocError`: an allocation for the name of the type failed.
-#[tactic(auto, unfolding(crate::specs::AttachTargets::attach_target))]
+#[tactic(auto, using(crate::proofs::Wanted::attached_as_wanted))]
 pub fn attach_target(
     alloc: Global,
     section_name: &str,
@@ -192,9 +232,7 @@ pub fn attach_target(
 ) -> Result<AttachTarget, AllocError>
     ensures { IfOk result (λ target. target ≡ attach_target section_name.now types.now) }
 {
-    let name = without_mark(section_name);
-    let Some(target) = target_by(before_slash(name)) else {
-        return Ok(AttachTarget::NotWanted);
-    };
-    target_in(alloc, types, target, in_kernel(behind_slash(name)))
+    let wanted = wanted_type(alloc, section_name)?;
+    let found = id_wanted(types, &wanted);
+    Ok(wanted.attached(found))
 }

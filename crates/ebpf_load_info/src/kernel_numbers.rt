@@ -5,6 +5,7 @@ ghost use Rattle.std.specs.List.{list_any};
 ghost use Rattle.std.specs.Option.{option_copied};
 ghost use Rattle.ebpf_base.specs.Faults.{or_else};
 ghost use Rattle.ebpf_load_info.specs.KernelNumbers.{enumeration, enumerators_of, has_number, helper_name, helpers, knows_helper, knows_map_type, map_type_numbering, name_by, named_enumerators};
+ghost use Rattle.ebpf_load_info.specs.PrivateContracts.{is_enum_at};
 
 use crate::texts::{as_text, is_named, without_prefix};
 use ebpf_btf::strings::is_text_at;
@@ -47,7 +48,18 @@ fn found_or<'a>(
     None
 }
 
-/// Both enumerations, by one pass over the types.
+/// Whether the type with an id is an ENUM, by its head.
+#[tactic(auto, unfolding(ebpf_btf::specs::Types::kind_number))]
+fn is_enum(types: &Btf, id: usize) -> bool
+    ensures { result ≡ is_enum_at types.now id }
+{
+    match types.head(id) {
+        Some(head) => head.kind == BtfKind::Enum,
+        None => false,
+    }
+}
+
+/// Both enumerations, by one pass over the types, up to the second one.
 fn enumerations_in(types: &Btf) -> Enumerations<'_>
     ensures helpers { result.helpers ≡ enumeration types.now helpers.enumeration }
     ensures map_types { result.map_types ≡ enumeration types.now map_type_numbering.enumeration }
@@ -55,9 +67,15 @@ fn enumerations_in(types: &Btf) -> Enumerations<'_>
     let mut helpers = None;
     let mut map_types = None;
     for id in 0..types.len() {
+        if !is_enum(types, id) {
+            continue;
+        }
         let ty = types.at(id);
         helpers = found_or(helpers, types, "bpf_func_id", &ty);
         map_types = found_or(map_types, types, "bpf_map_type", &ty);
+        if helpers.is_some() && map_types.is_some() {
+            return Enumerations { helpers, map_types };
+        }
     }
     Enumerations { helpers, map_types }
 }

@@ -20,6 +20,9 @@ found_target (attach.NotFound name) = NotFound name
 found_target attach.NotWanted = NotAsked
 found_target attach.Unnamed = NotAsked
 
+-- the target of the programs of a section, by the type that was looked up
+abbrev pub target_by : List ℕ → AttachTarget → KernelTarget
+target_by section found = if replaces section then Replaces else found_target found
+
 unfoldable pub target_of : List ℕ → TypeInfo → KernelTarget
-target_of section kernel =
-    if replaces section then Replaces else found_target (attach_target section kernel)
+target_of section kernel = target_by section (attach_target section kernel)

@@ -14,5 +14,5 @@ pub use cause::Cause;
 pub use externs::LackingExtern;
 pub use programs::{JudgedProgram, ProgramCode, ProgramVerdict};
 pub use reasons::SlotReason;
-pub use targets::{KernelTarget, find_target};
+pub use targets::{KernelTarget, find_target, kernel_target};
 pub use verdict::{Verdict, judge};

@@ -4,7 +4,7 @@ ghost use Rattle.std.specs.Prelude.{◌≡◌, IfOk, codes, nat_eq};
 ghost use Rattle.std.specs.List.{starts_with};
 ghost use Rattle.ebpf_load_info.specs.AttachTargets.{attach_target};
 ghost use Rattle.ebpf_parts.specs.ProgramTypes.{without_mark};
-ghost use Rattle.ebpf_verdict.specs.Targets.{found_target, replaces, target_of};
+ghost use Rattle.ebpf_verdict.specs.Targets.{found_target, replaces, target_by, target_of};
 
 use ebpf_base::Text;
 use ebpf_btf::Btf;
@@ -60,6 +60,17 @@ fn found_target(found: AttachTarget) -> KernelTarget
     }
 }
 
+/// The attach target of the programs of a section, by the type that `ebpf_load_info::attach_targets` found for it in a kernel's
+/// types.
+pub fn kernel_target(section: &str, found: AttachTarget) -> KernelTarget
+    ensures { result ≡ target_by section.now found }
+{
+    if replaces(section) {
+        return KernelTarget::Replaces;
+    }
+    found_target(found)
+}
+
 /// The attach target of the programs of a section in a kernel with these types, as `ebpf_load_info::attach_target` looks it
 /// up. A program without a target isn't said to break: its target may be in a module, whose types aren't given.
 ///
@@ -70,9 +81,6 @@ fn found_target(found: AttachTarget) -> KernelTarget
 pub fn find_target(alloc: Global, section: &str, kernel: &Btf) -> Result<KernelTarget, AllocError>
     ensures { IfOk result (λ target. target ≡ target_of section.now kernel.now) }
 {
-    if replaces(section) {
-        return Ok(KernelTarget::Replaces);
-    }
     let found = attach_target(alloc, section, kernel)?;
-    Ok(found_target(found))
+    Ok(kernel_target(section, found))
 }
