@@ -1,4 +1,4 @@
--- What C reads of the CO-RE records of an object: what each comes to over a kernel's types.
+-- What C reads of the CO-RE records of an object: the outcome of each over a kernel's types.
 use Rattle.std.specs.Prelude.{◌≡◌, ℕ, List, [], ◌∷◌, length, is_some, Option, Some, None, Result}
 use Rattle.std.specs.Prelude.{Ok, Err, unwrap_or, map}
 use Rattle.capi_rows.specs.Answers.{Listed}

@@ -141,7 +141,7 @@ pub fn parse_refusal(error: ParseError) -> Refusal
 }
 
 /// The number of a fault of slots, the first of which has the number `first`, and the numbers that it states.
-fn slot_fault(first: u32, error: &RelocationError) -> (u32, Details)
+pub fn slot_fault(first: u32, error: &RelocationError) -> (u32, Details)
     requires small { first ≤ 1000 }
     requires positive { 0 < first }
     ensures fault { result ≡ slot_fault first error.now }

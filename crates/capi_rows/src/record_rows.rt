@@ -1,4 +1,4 @@
-//! What CO-RE records come to, as C reads it.
+//! The outcomes of CO-RE records, as C reads them.
 
 ghost use Rattle.std.specs.Prelude.{◌≡◌, ◌∷◌, [], IfOk};
 ghost use Rattle.capi_rows.specs.Listings.{zero_terminated};
@@ -13,7 +13,7 @@ use ebpf_core_relo::{Absence, RecordOutcome, RecordResult, RecordSlot};
 use ebpf_reloc::{CodeCopy, PlacedReference};
 use std::alloc::{AllocError, Global};
 
-/// What a CO-RE record comes to over a kernel's types.
+/// The outcome of a CO-RE record over a kernel's types.
 #[repr(C)]
 #[derive(Clone, Copy)]
 pub struct ebpf_record_outcome {
@@ -87,7 +87,7 @@ fn absence_of_result(outcome: &RecordResult) -> u32
 }
 
 /// The number by which a pass refuses such a record, 0 where it is not refused.
-fn fault_of_result(outcome: &RecordResult) -> u32
+pub fn fault_of_result(outcome: &RecordResult) -> u32
     ensures { result ≡ fault_of_result outcome.now }
 {
     match outcome {
@@ -97,7 +97,7 @@ fn fault_of_result(outcome: &RecordResult) -> u32
 }
 
 /// The slot of a record; zeros where no function has it.
-fn slot_or_zeros(slot: Option<RecordSlot>) -> RecordSlot
+pub fn slot_or_zeros(slot: Option<RecordSlot>) -> RecordSlot
     ensures { result ≡ slot_or_zeros slot }
 {
     match slot {

@@ -137,6 +137,25 @@ pub fn ksyms_refusal(error: KsymsError) -> Refusal
     }
 }
 
+/// The number of the refusal for an error of finding externs.
+pub fn ksyms_number(error: &KsymsError) -> u32
+    ensures { result ≡ (ksyms_refusal error.now).number }
+{
+    match error {
+        KsymsError::TypedKsymRequiresKernelBtf => 400,
+        KsymsError::VariableNotFound { .. } => 401,
+        KsymsError::IncompatibleFunctionSignature { .. } => 402,
+        KsymsError::IncompatibleVariableType { .. } => 403,
+        KsymsError::InvalidExternType { .. } => 404,
+        KsymsError::AmbiguousResolution { .. } => 405,
+        KsymsError::KallsymsAccessError(_) => 406,
+        KsymsError::KallsymsParseError(_) => 407,
+        KsymsError::FunctionNotFound { .. } => 408,
+        KsymsError::BtfError(error) => type_fault(420, error).0,
+        KsymsError::OutOfMemory => MEMORY,
+    }
+}
+
 /// The refusal for an error of the stages.
 pub fn prepare_refusal(error: PrepareError) -> Refusal
     ensures refusal { result ≡ prepare_refusal error }
