@@ -1,12 +1,12 @@
 //! The kernels of a command line, and the files of their least types.
 
+use cli_common::folders::{files_in, is_folder};
 use cli_common::names::last_part;
-use cli_common::refusal::{FileRefusal, READING};
+use cli_common::refusal::{FileRefusal, reading_refusal, system_refusal};
 use cli_common::refuse::{Stop, refused};
 use ebpf_base::{Items, Text};
 use std::alloc::{AllocError, Global};
 use std::fs;
-use std::io::{self, ErrorKind};
 
 /// A kernel's file, and the file of its least types.
 #[derive(Drop)]
@@ -15,57 +15,6 @@ pub struct KernelPair {
     pub kernel: Text,
     /// The path of the file that is written.
     pub output: Text,
-}
-
-/// Whether a path leads to a folder.
-pub fn is_folder(rt: &HostRuntime, path: &str) -> bool {
-    match fs::metadata(rt, path) {
-        Ok(metadata) => metadata.is_dir(),
-        Err(_) => false,
-    }
-}
-
-/// Returns the paths of a folder's files in byte order of their names, without folders in it.
-fn files_in(rt: &HostRuntime, folder: &str) -> io::Result<Vec<Text>> {
-    let mut paths = Vec::new(rt.alloc());
-    for entry in fs::read_dir(rt, folder)? {
-        let entry = entry?;
-        let path = entry.path();
-        let path = path.as_str();
-        if is_folder(rt, path) {
-            continue;
-        }
-        paths.push(Text::from_str(rt.alloc(), path)?)?;
-    }
-    paths.sort_by(|left, right| left.as_str().cmp(right.as_str()))?;
-    Ok(paths)
-}
-
-/// The refusal of a file or folder by the system.
-pub fn system_refusal(
-    alloc: Global,
-    variant: &'static str,
-    error: &io::Error,
-) -> Result<FileRefusal, AllocError> {
-    if matches!(error.kind(), ErrorKind::OutOfMemory) {
-        return Err(AllocError);
-    }
-    Ok(FileRefusal {
-        stage: READING,
-        variant,
-        text: format!(in alloc; "{error}")?,
-        help: None,
-    })
-}
-
-/// The refusal of a folder without a file.
-fn empty_refusal(alloc: Global) -> Result<FileRefusal, AllocError> {
-    Ok(FileRefusal {
-        stage: READING,
-        variant: "CannotRead",
-        text: String::from_str(alloc, "no file in it")?,
-        help: None,
-    })
 }
 
 /// Returns each file of a folder with the file of the same name in another folder.
@@ -90,11 +39,9 @@ fn folder_pairs(
     folder: &str,
     output: &str,
 ) -> Result<Result<Items<KernelPair>, FileRefusal>, AllocError> {
-    let alloc = rt.alloc();
-    match files_in(rt, folder) {
-        Ok(paths) if !paths.is_empty() => Ok(Ok(pairs_of(alloc, paths, output)?)),
-        Ok(_) => Ok(Err(empty_refusal(alloc)?)),
-        Err(error) => Ok(Err(system_refusal(alloc, "CannotRead", &error)?)),
+    match files_in(rt, folder)? {
+        Ok(paths) => Ok(Ok(pairs_of(rt.alloc(), paths, output)?)),
+        Err(words) => Ok(Err(reading_refusal("CannotRead", words))),
     }
 }
 

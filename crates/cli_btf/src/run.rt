@@ -2,11 +2,11 @@
 
 use crate::json::write_json;
 use crate::kernel_ids::{NeededId, id_refusal, needed_ids};
-use crate::kernels::{KernelPair, kernel_pairs, system_refusal};
+use crate::kernels::{KernelPair, kernel_pairs};
 use crate::least_file::{LeastFailure, LeastFile, least_file, least_file_despite_ids};
 use crate::objects::NamedObjects;
 use crate::printing::{write_kernel, write_lacking};
-use cli_common::refusal::FileRefusal;
+use cli_common::refusal::{FileRefusal, system_refusal};
 use cli_common::refuse::{Stop, refused, tell};
 use cli_common::variants::variant_of_types;
 use cli_common::vmlinux_btf::read_kernel;

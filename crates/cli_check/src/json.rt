@@ -79,9 +79,9 @@ fn write_place<W: Write>(
         json.member("function", function.as_str())?;
         json.member("function_slot", *slot)?;
     }
-    if let Some((file, line)) = &place.line {
-        json.member("file", file.as_str())?;
-        json.member("line", *line)?;
+    if let Some(line) = &place.line {
+        json.member("file", line.file.as_str())?;
+        json.member("line", line.number)?;
     }
     write_names(json, session, &place.kernels)
 }

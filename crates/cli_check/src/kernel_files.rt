@@ -1,10 +1,9 @@
 //! The kernels of a command line: files, and folders of files.
 
+use cli_common::folders::{files_in, is_folder};
 use ebpf_base::{Items, Text};
-use std::alloc::{AllocError, Global};
+use std::alloc::AllocError;
 use std::cmp::Ordering;
-use std::fs;
-use std::io::{self, ErrorKind};
 
 /// A kernel of the command line.
 #[derive(Drop)]
@@ -84,45 +83,13 @@ fn compare_names(left: &str, right: &str) -> Ordering {
     left.cmp(right)
 }
 
-/// Whether a path leads to a folder. One that can't be looked at is none, and can't be read either.
-fn is_folder(rt: &HostRuntime, path: &str) -> bool {
-    match fs::metadata(rt, path) {
-        Ok(metadata) => metadata.is_dir(),
-        Err(_) => false,
-    }
-}
-
-/// The paths of a folder's files, in the order of their names; folders in it are passed over.
-fn files_in(rt: &HostRuntime, folder: &str) -> io::Result<Vec<Text>> {
-    let mut paths = Vec::new(rt.alloc());
-    for entry in fs::read_dir(rt, folder)? {
-        let entry = entry?;
-        let path = entry.path();
-        let path = path.as_str();
-        if is_folder(rt, path) {
-            continue;
-        }
-        paths.push(Text::from_str(rt.alloc(), path)?)?;
-    }
+/// Adds kernels by the paths of their files, in the order of their names.
+fn add_files(all: &mut Items<KernelFile>, mut paths: Vec<Text>) -> Result<(), AllocError> {
     paths.sort_by(|left, right| compare_names(left.as_str(), right.as_str()))?;
-    Ok(paths)
-}
-
-/// Adds kernels by the paths of their files.
-fn add_files(all: &mut Items<KernelFile>, paths: Vec<Text>) -> Result<(), AllocError> {
     for path in paths {
         all.push(KernelFile { path, fault: None })?;
     }
     Ok(())
-}
-
-/// The sentence on a folder that can't be listed.
-fn fault_words(alloc: Global, error: &io::Error) -> Result<Text, AllocError> {
-    if matches!(error.kind(), ErrorKind::OutOfMemory) {
-        return Err(AllocError);
-    }
-    let sentence = format!(in alloc; "{error}")?;
-    Ok(Text::from_string(sentence))
 }
 
 /// Adds the files of a folder; the folder itself where it can't be listed or has none.
@@ -131,14 +98,12 @@ fn add_folder(
     all: &mut Items<KernelFile>,
     folder: &str,
 ) -> Result<(), AllocError> {
-    let alloc = rt.alloc();
-    let fault = match files_in(rt, folder) {
-        Ok(paths) if !paths.is_empty() => return add_files(all, paths),
-        Ok(_) => Text::from_str(alloc, "no file in it")?,
-        Err(error) => fault_words(alloc, &error)?,
+    let fault = match files_in(rt, folder)? {
+        Ok(paths) => return add_files(all, paths),
+        Err(words) => Text::from_string(words),
     };
     all.push(KernelFile {
-        path: Text::from_str(alloc, folder)?,
+        path: Text::from_str(rt.alloc(), folder)?,
         fault: Some(fault),
     })?;
     Ok(())

@@ -3,7 +3,8 @@
 use crate::session::{Judgement, KernelAnswer, Session};
 use crate::verdict::Fate;
 use crate::verdict::findings::{Finding, FindingKey, Severity, SourceLocation};
-use cli_pages::matrix::{CellVerdict, Matrix, MatrixKernel, Reason, ReasonLocation};
+use cli_common::source_lines::SourceLine;
+use cli_pages::matrix::{CellVerdict, Matrix, MatrixKernel, Reason, ReasonLine, ReasonLocation};
 use ebpf_base::Text;
 use std::alloc::{AllocError, Global};
 
@@ -42,11 +43,20 @@ fn kernel_of(alloc: Global, kernel: &KernelAnswer) -> Result<MatrixKernel<'_>, A
     }
 }
 
-/// A text with its number, where there is one.
-fn numbered<N: Copy>(numbered: &Option<(Text, N)>) -> Option<(&str, N)> {
-    match numbered {
-        Some((text, number)) => Some((text.as_str(), *number)),
+/// A function with a slot in it, where there is one.
+fn within_of(within: &Option<(Text, usize)>) -> Option<(&str, usize)> {
+    match within {
+        Some((name, slot)) => Some((name.as_str(), *slot)),
         None => None,
+    }
+}
+
+/// A source line, as pages and reports show it.
+fn line_of(line: &SourceLine) -> ReasonLine<'_> {
+    ReasonLine {
+        file: line.file.as_str(),
+        number: line.number,
+        text: line.text.as_str(),
     }
 }
 
@@ -59,8 +69,11 @@ fn location_of(location: &SourceLocation) -> ReasonLocation<'_> {
             Some(text) => Some(text.as_str()),
             None => None,
         },
-        within: numbered(&location.within),
-        line: numbered(&location.line),
+        within: within_of(&location.within),
+        line: match &location.line {
+            Some(line) => Some(line_of(line)),
+            None => None,
+        },
         kernels: &location.kernels,
     }
 }

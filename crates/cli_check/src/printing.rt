@@ -123,9 +123,10 @@ fn write_place<W: Write>(
 ) -> io::Result<()> {
     write!(out, "    ")?;
     write_slot(out, session, place)?;
-    if let Some((file, line)) = &place.line {
-        let file = EscapedName(last_part(file.as_str()));
-        write!(out, "  {file}:{line}")?;
+    if let Some(line) = &place.line {
+        let file = EscapedName(last_part(line.file.as_str()));
+        let number = line.number;
+        write!(out, "  {file}:{number}")?;
     }
     if place.kernels.len() < kernels.len() {
         write!(out, "  (")?;

@@ -8,3 +8,4 @@ pub mod EmbeddedObjects
 pub mod DefaultPasses
 pub mod SlotText
 pub mod TypeLabels
+pub mod CompletedObjects

@@ -14,6 +14,7 @@ kind_of relocation_kinds.FieldRShift64 = kinds.RightShift
 kind_of relocation_kinds.TypeIdLocal = kinds.LocalTypeId
 kind_of relocation_kinds.TypeIdTarget = kinds.TargetTypeId
 kind_of relocation_kinds.TypeExists = kinds.TypeExists
+kind_of relocation_kinds.TypeMatches = kinds.TypeMatches
 kind_of relocation_kinds.TypeSize = kinds.TypeSize
 kind_of relocation_kinds.EnumVariantExists = kinds.EnumeratorExists
 kind_of relocation_kinds.EnumVariantValue = kinds.EnumeratorValue

@@ -2,7 +2,7 @@
 
 ghost use Rattle.std.specs.Iterator.{IsFinite};
 
-use crate::names::speaks;
+use crate::visible::speaks;
 use std::io::{self, Write};
 use std::{fmt, str};
 

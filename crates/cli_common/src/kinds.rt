@@ -26,6 +26,8 @@ pub enum Kind {
     TargetTypeId,
     /// Whether a type is there.
     TypeExists,
+    /// Whether a type matches.
+    TypeMatches,
     /// The size of a type.
     TypeSize,
     /// Whether an enumerator is there.
@@ -60,6 +62,7 @@ impl Kind {
             RelocationKind::TypeIdLocal => Kind::LocalTypeId,
             RelocationKind::TypeIdTarget => Kind::TargetTypeId,
             RelocationKind::TypeExists => Kind::TypeExists,
+            RelocationKind::TypeMatches => Kind::TypeMatches,
             RelocationKind::TypeSize => Kind::TypeSize,
             RelocationKind::EnumVariantExists => Kind::EnumeratorExists,
             RelocationKind::EnumVariantValue => Kind::EnumeratorValue,
@@ -91,6 +94,7 @@ impl Kind {
             Kind::LocalTypeId => "local_type_id",
             Kind::TargetTypeId => "target_type_id",
             Kind::TypeExists => "type_exists",
+            Kind::TypeMatches => "type_matches",
             Kind::TypeSize => "type_size",
             Kind::EnumeratorExists => "enumval_exists",
             Kind::EnumeratorValue => "enumval_value",

@@ -3,6 +3,7 @@
 
 pub mod compressed;
 pub mod embedded;
+pub mod folders;
 pub mod helper_calls;
 pub mod json;
 pub mod kconfig_externs;
@@ -24,4 +25,5 @@ pub mod table;
 pub mod types;
 pub mod unknown_externs;
 pub mod variants;
+pub mod visible;
 pub mod vmlinux_btf;

@@ -1,13 +1,16 @@
 //! The object of a file: the file itself, or one that a program for another machine holds.
 
-ghost use Rattle.std.specs.Prelude.{IfOk};
+ghost use Rattle.std.specs.Prelude.{◌≡◌, IfOk, OnOk, None};
+ghost use Rattle.ebpf_btf_maps.specs.Arenas.{completion_fault};
+ghost use Rattle.cli_common.specs.CompletedObjects.{IsCompleted, page_size, with_completed_maps};
 ghost use Rattle.ebpf_object.specs.Prepared.{IsParsed};
 ghost use Rattle.ebpf_parts.specs.declared.parse_mode.ParseMode.TheVariants.{Lenient};
 
 use crate::embedded::{ObjectRange, embedded_objects};
 use crate::machines::{machine_name, other_machine};
 use crate::refusal::{FileRefusal, READING};
-use crate::refuse::{Stop, read_given, refuse_parsing, refused};
+use crate::refuse::{Stop, read_given, refuse_maps, refuse_parsing, refused};
+use ebpf_btf_maps::complete_maps;
 use ebpf_object::Object;
 use ebpf_parts::{ParseError, ParseMode};
 use std::alloc::{AllocError, Global};
@@ -144,7 +147,7 @@ fn parsed(alloc: Global, file: &[u8]) -> Result<Object, ParseError>
 }
 
 /// The object of a file's bytes, read broadly; one that can't be parsed is told.
-pub fn parsed_object(rt: &HostRuntime, json: bool, path: &str, file: &[u8]) -> Result<Object, Stop>
+fn parsed_alone(rt: &HostRuntime, json: bool, path: &str, file: &[u8]) -> Result<Object, Stop>
     ensures { IfOk result (IsParsed Lenient file.now) }
 {
     match parsed(rt.alloc(), file) {
@@ -152,6 +155,45 @@ pub fn parsed_object(rt: &HostRuntime, json: bool, path: &str, file: &[u8]) -> R
         Err(error) => {
             let stop = refuse_parsing(rt, json, path, file, &error);
             drop(error);
+            Err(stop)
+        }
+    }
+}
+
+/// The number of bytes of a page, by which the room of an arena is counted.
+const PAGE_SIZE: u32 = 4096;
+
+/// Completes the maps of an object; a refusal is told.
+fn complete(
+    rt: &HostRuntime,
+    json: bool,
+    path: &str,
+    file: &[u8],
+    object: &mut Object,
+) -> Result<(), Stop>
+    ensures completed { OnOk result
+        (object.new ≡ with_completed_maps file.now object.old) }
+    ensures sound { OnOk result (completion_fault file.now page_size object.old ≡ None) }
+{
+    match complete_maps(object, file, PAGE_SIZE) {
+        Ok(()) => Ok(()),
+        Err(error) => {
+            let stop = refuse_maps(rt, json, path, &error);
+            drop(error);
+            Err(stop)
+        }
+    }
+}
+
+/// The object of a file's bytes, read broadly, with its maps completed; one that can't be parsed is told.
+pub fn parsed_object(rt: &HostRuntime, json: bool, path: &str, file: &[u8]) -> Result<Object, Stop>
+    ensures { IfOk result (IsCompleted file.now) }
+{
+    let mut object = parsed_alone(rt, json, path, file)?;
+    match complete(rt, json, path, file, &mut object) {
+        Ok(()) => Ok(object),
+        Err(stop) => {
+            drop(object);
             Err(stop)
         }
     }

@@ -39,7 +39,7 @@ fn add_access(name: &mut String, local: &Btf, relocation: &Relocation) -> Result
 /// Adds what a record asks of its type: the field or the enumerator.
 fn add_path(alloc: Global, name: &mut String, path: &NamedPath) -> Result<(), AllocError> {
     match path {
-        NamedPath::WholeType => Ok(()),
+        NamedPath::WholeType | NamedPath::MatchedType => Ok(()),
         NamedPath::Variant { name: variant } => {
             name.push_str(".")?;
             name.push_str(variant.as_str())

@@ -4,7 +4,7 @@ use crate::json::write_document;
 use crate::names::EscapedName;
 use std::alloc::{AllocError, Global};
 use std::fmt;
-use std::io::{self, Write};
+use std::io::{self, ErrorKind, Write};
 
 /// The stage of reading files and choosing among their parts.
 pub const READING: &str = "file";
@@ -20,6 +20,33 @@ pub struct FileRefusal {
     pub text: String,
     /// The remedy, if one is known.
     pub help: Option<String>,
+}
+
+/// Returns the refusal of a file or folder that is read or written, by a sentence.
+pub fn reading_refusal(variant: &'static str, text: String) -> FileRefusal {
+    FileRefusal {
+        stage: READING,
+        variant,
+        text,
+        help: None,
+    }
+}
+
+/// Returns the sentence of an error of the system, unless it is out of memory.
+pub fn system_words(alloc: Global, error: &io::Error) -> Result<String, AllocError> {
+    if matches!(error.kind(), ErrorKind::OutOfMemory) {
+        return Err(AllocError);
+    }
+    format!(in alloc; "{error}")
+}
+
+/// Returns the refusal of a file or folder by the system, unless it is out of memory.
+pub fn system_refusal(
+    alloc: Global,
+    variant: &'static str,
+    error: &io::Error,
+) -> Result<FileRefusal, AllocError> {
+    Ok(reading_refusal(variant, system_words(alloc, error)?))
 }
 
 /// A copy of a known help text.

@@ -4,9 +4,10 @@ use crate::compressed::Compression;
 use crate::object_file::read_file;
 use crate::parse_help::parse_help;
 use crate::programs::{ObjectProgram, object_programs};
-use crate::refusal::{FileRefusal, READING, RefusalLines, help_of, write_refusal};
+use crate::refusal::{FileRefusal, READING, RefusalLines, help_of, system_refusal, write_refusal};
 use crate::variants::variant_of_parsing;
 use ebpf_base::Text;
+use ebpf_btf_maps::BtfMapError;
 use ebpf_object::Object;
 use ebpf_object::obj::ExplainedParse;
 use ebpf_parts::ParseError;
@@ -44,19 +45,6 @@ pub fn refused(
     }
 }
 
-/// The refusal of a file that the system can't read.
-fn unreadable_refusal(alloc: Global, error: &io::Error) -> Result<FileRefusal, AllocError> {
-    if matches!(error.kind(), ErrorKind::OutOfMemory) {
-        return Err(AllocError);
-    }
-    Ok(FileRefusal {
-        stage: READING,
-        variant: "CannotRead",
-        text: format!(in alloc; "{error}")?,
-        help: None,
-    })
-}
-
 /// The refusal of a compressed file.
 fn compressed_refusal(
     alloc: Global,
@@ -84,7 +72,7 @@ pub fn read_plain(
     let alloc = rt.alloc();
     let bytes = match read_file(rt, path) {
         Ok(bytes) => bytes,
-        Err(error) => return Ok(Err(unreadable_refusal(alloc, &error)?)),
+        Err(error) => return Ok(Err(system_refusal(alloc, "CannotRead", &error)?)),
     };
     match Compression::of(&bytes) {
         Some(by) => Ok(Err(compressed_refusal(alloc, path, by)?)),
@@ -127,6 +115,40 @@ pub fn refuse_parsing(
         return Stop::Memory;
     }
     match parse_refusal(rt.alloc(), file, error) {
+        Ok(refusal) => refused(rt, json, path, &refusal, 1),
+        Err(_) => Stop::Memory,
+    }
+}
+
+/// The help on an object whose maps can't be completed.
+fn maps_help(error: &BtfMapError) -> Option<&'static str> {
+    match error {
+        BtfMapError::UnknownPinning { .. } => {
+            Some("write `__uint(pinning, LIBBPF_PIN_BY_NAME)`, or leave it out")
+        }
+        BtfMapError::SecondArena { .. } => Some("declare one map of type BPF_MAP_TYPE_ARENA"),
+        BtfMapError::NoArena => Some("declare a map of type BPF_MAP_TYPE_ARENA in `.maps`"),
+        BtfMapError::ArenaTooSmall { .. } => Some("declare the arena with more `max_entries`"),
+        BtfMapError::ElfError(_) | BtfMapError::OutOfMemory => None,
+    }
+}
+
+/// The refusal of an object whose maps can't be completed.
+fn maps_refusal(alloc: Global, error: &BtfMapError) -> Result<FileRefusal, AllocError> {
+    Ok(FileRefusal {
+        stage: "parse",
+        variant: error.variant_name(),
+        text: format!(in alloc; "{error}")?,
+        help: help_of(alloc, maps_help(error))?,
+    })
+}
+
+/// Reports an error of completing maps.
+pub fn refuse_maps(rt: &HostRuntime, json: bool, path: &str, error: &BtfMapError) -> Stop {
+    if matches!(error, BtfMapError::OutOfMemory) {
+        return Stop::Memory;
+    }
+    match maps_refusal(rt.alloc(), error) {
         Ok(refusal) => refused(rt, json, path, &refusal, 1),
         Err(_) => Stop::Memory,
     }

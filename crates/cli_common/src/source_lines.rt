@@ -28,6 +28,17 @@ pub struct LineNumber {
     pub number: u32,
 }
 
+/// A source line, by the strings of the types.
+#[derive(Drop)]
+pub struct SourceLine {
+    /// The file's name.
+    pub file: Text,
+    /// The number.
+    pub number: u32,
+    /// The text; empty where the object has none.
+    pub text: Text,
+}
+
 /// The source lines of the slots of a linked program.
 #[derive(Drop)]
 pub struct Lines<'a> {
@@ -51,6 +62,14 @@ fn note_records(begins: &mut [usize], records: &[bpf_line_info]) {
         if let Some(place) = begins.get_mut(record.insn_off as usize) {
             *place = number;
         }
+    }
+}
+
+/// The text at an offset of the strings; empty where it can't be read.
+fn text_of(alloc: Global, local: &Btf, offset: u32) -> Result<Text, AllocError> {
+    match local.string_at(offset) {
+        Ok(text) => Text::from_str(alloc, text.as_str()),
+        Err(_) => Text::from_str(alloc, ""),
     }
 }
 
@@ -114,13 +133,13 @@ impl<'a> Lines<'a> {
         self.last_in(span.begin, span.slot.saturating_add(1))
     }
 
-    /// The file and the number of the line of a slot, where they are told and can be read.
+    /// The line of a slot, where it has one whose file's name can be read.
     pub fn of(
         &self,
         alloc: Global,
         local: Option<&Btf>,
         span: LineSpan,
-    ) -> Result<Option<(Text, u32)>, AllocError> {
+    ) -> Result<Option<SourceLine>, AllocError> {
         let (Some(local), Some(record)) = (local, self.record(span)) else {
             return Ok(None);
         };
@@ -128,6 +147,10 @@ impl<'a> Lines<'a> {
             return Ok(None);
         };
         let file = Text::from_str(alloc, file.as_str())?;
-        Ok(Some((file, record.line_col >> 10)))
+        Ok(Some(SourceLine {
+            file,
+            number: record.line_col >> 10,
+            text: text_of(alloc, local, record.line_off)?,
+        }))
     }
 }

@@ -13,32 +13,14 @@
 --     a path     %E2%80%AE                %5B      %5D
 use Rattle.std.specs.Prelude.{ℕ, ◌+◌, ◌/◌, ◌%◌, nat_lt, Bool, ◌||◌, ◌==◌, if◌then◌else◌}
 use Rattle.std.specs.Prelude.{List, [], ◌∷◌, ◌++◌, codes}
-use Rattle.std.specs.Char.{digit_char, encode_utf8}
+use Rattle.std.specs.Char.{encode_utf8}
 use Rattle.std.specs.Fmt.{decimal}
 use Rattle.std.specs.List.{flat_map}
 use Rattle.std.specs.Str.{chars}
-use Rattle.cli_common.specs.Shown.{is_within, speaks}
+use Rattle.cli_common.specs.Shown.{is_within, speaks, bytes_behind, visible_char, one_backslash}
 use Rattle.cli_formats.specs.declared.escape.Syntax.{Syntax}
-use Rattle.cli_formats.specs.declared.escape.Syntax.TheVariants.{Html, Json, Sarif, Dot, Mermaid}
-use Rattle.cli_formats.specs.declared.escape.Syntax.TheVariants.{Message, Property, Path}
-
--- a sign, and the two digits of a byte, of base 16
-abbrev pub byte_behind : List ℕ → ℕ → List ℕ
-byte_behind sign b = sign ++ digit_char (b / 16) ∷ digit_char (b % 16) ∷ []
-
--- the bytes of a character's UTF-8, each behind a sign
-abbrev pub bytes_behind : List ℕ → ℕ → List ℕ
-bytes_behind sign c = flat_map (byte_behind sign) (encode_utf8 c)
-
--- a character that a terminal obeys, and a backslash, as the bytes of its UTF-8; each other one as
--- it is
-abbrev pub visible_char : List ℕ → ℕ → List ℕ
-visible_char sign c =
-    if (c == 92) || speaks c then bytes_behind sign c else encode_utf8 c
-
--- `\x`
-abbrev pub one_backslash : List ℕ
-one_backslash = 92 ∷ 120 ∷ []
+use Rattle.cli_formats.specs.declared.escape.Syntax.TheVariants.{Html, Json, Sarif, Source, Dot}
+use Rattle.cli_formats.specs.declared.escape.Syntax.TheVariants.{Mermaid, Message, Property, Path}
 
 -- `\\x`, which a string with escapes reads as `\x`
 abbrev pub two_backslashes : List ℕ
@@ -79,6 +61,13 @@ sarif_char c =
     else if (c == 92) || speaks c then bytes_behind four_backslashes c
     else json_char c
 
+-- In a string of JSON that is a line of a program's source: a backslash and a tab are themselves.
+abbrev pub source_char : ℕ → List ℕ
+source_char c =
+    if c == 92 then codes "\\\\"
+    else if c == 9 then codes "\\t"
+    else json_char c
+
 -- in a label in quotes of Graphviz, which reads escapes and HTML's character references
 abbrev pub dot_char : ℕ → List ℕ
 dot_char c =
@@ -98,10 +87,12 @@ is_read_by_mermaid c =
     || is_within 93 96 c
     || is_within 123 126 c
 
--- in a label in quotes of Mermaid: `#N;` is the character of the number N
+-- In a label in quotes of Mermaid: `#N;` is the character of the number N. A colon is a byte, since
+-- Mermaid makes icons of `fa:fa-bug` behind the reading of `#58;`.
 abbrev pub mermaid_char : ℕ → List ℕ
 mermaid_char c =
-    if is_read_by_mermaid c then 35 ∷ decimal c ++ 59 ∷ []
+    if c == 58 then bytes_behind (codes "#92;x") c
+    else if is_read_by_mermaid c then 35 ∷ decimal c ++ 59 ∷ []
     else visible_char (codes "#92;x") c
 
 -- in the message of an annotation of GitHub, which decodes `%25`
@@ -146,6 +137,7 @@ abbrev pub char_in : Syntax → ℕ → List ℕ
 char_in Html c = html_char c
 char_in Json c = json_char c
 char_in Sarif c = sarif_char c
+char_in Source c = source_char c
 char_in Dot c = dot_char c
 char_in Mermaid c = mermaid_char c
 char_in Message c = message_char c

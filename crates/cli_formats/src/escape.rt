@@ -1,16 +1,15 @@
 //! Texts from files in the syntax of each format.
 
 ghost use Rattle.std.specs.Prelude.{◌≡◌, ◌<◌};
-ghost use Rattle.std.specs.Char.{digit_char};
 ghost use Rattle.std.specs.Fmt.{WritesOnOk};
 ghost use Rattle.std.specs.List.{flat_map};
-ghost use Rattle.cli_formats.specs.Escapes.{byte_behind, bytes_behind, char_in, dot_char};
-ghost use Rattle.cli_formats.specs.Escapes.{html_char, is_plain_in_paths, is_read_by_mermaid};
-ghost use Rattle.cli_formats.specs.Escapes.{json_char, mermaid_char, message_char, path_char};
-ghost use Rattle.cli_formats.specs.Escapes.{percent_byte, percent_bytes, property_char};
-ghost use Rattle.cli_formats.specs.Escapes.{sarif_char, text_in, upper_digit, visible_char};
+ghost use Rattle.cli_formats.specs.Escapes.{char_in, dot_char, html_char, is_plain_in_paths};
+ghost use Rattle.cli_formats.specs.Escapes.{is_read_by_mermaid, json_char, mermaid_char};
+ghost use Rattle.cli_formats.specs.Escapes.{message_char, path_char, percent_byte, percent_bytes};
+ghost use Rattle.cli_formats.specs.Escapes.{property_char, sarif_char, source_char, text_in};
+ghost use Rattle.cli_formats.specs.Escapes.{upper_digit};
 
-use cli_common::names::speaks;
+use cli_common::visible::{speaks, write_coded, write_visible};
 use std::fmt;
 
 /// The syntax of what is around a text.
@@ -22,6 +21,8 @@ pub enum Syntax {
     Json,
     /// A message of SARIF, in a string of JSON.
     Sarif,
+    /// A line of a program's source, in a string of JSON.
+    Source,
     /// A label in quotes of Graphviz.
     Dot,
     /// A label in quotes of Mermaid.
@@ -35,7 +36,8 @@ pub enum Syntax {
 }
 
 /// A text as it is written in a syntax. A control character, a backslash and a character that turns the direction of a
-/// line are written as the bytes of their UTF-8, `\xNN` each (in a path `%NN`).
+/// line are written as the bytes of their UTF-8, `\xNN` each (in a path `%NN`), and so is a colon in a label of Mermaid. In
+/// a line of source a backslash and a tab are themselves.
 #[derive(Clone, Copy)]
 pub struct Escaped<'a> {
     /// The syntax.
@@ -61,18 +63,6 @@ fn is_plain_in_paths(c: char) -> bool
     matches!(c, '-'..='9' | 'A'..='Z' | '_' | 'a'..='z' | '~')
 }
 
-/// The character of a digit below 16.
-fn hex_digit(value: u8) -> char
-    requires { value < 16 }
-    ensures { result ≡ digit_char value }
-{
-    if value < 10 {
-        char::from(b'0' + value)
-    } else {
-        char::from(b'a' + (value - 10))
-    }
-}
-
 /// The character of a digit below 16, with upper-case letters.
 fn upper_digit(value: u8) -> char
     requires { value < 16 }
@@ -83,34 +73,6 @@ fn upper_digit(value: u8) -> char
     } else {
         char::from(b'A' + (value - 10))
     }
-}
-
-/// Writes a byte as two digits behind a sign.
-fn write_byte<W: fmt::Write>(f: &mut fmt::Formatter<W>, sign: &str, byte: u8) -> fmt::Result
-    ensures { WritesOnOk W.write_str_gives f.old result (byte_behind sign.now byte) f.new }
-{
-    f.write_str(sign)?;
-    f.write_char(hex_digit(byte / 16))?;
-    f.write_char(hex_digit(byte % 16))
-}
-
-/// Writes bytes as two digits each, behind a sign.
-fn write_bytes<W: fmt::Write>(f: &mut fmt::Formatter<W>, sign: &str, bytes: &[u8]) -> fmt::Result
-    ensures { WritesOnOk W.write_str_gives f.old result (flat_map (byte_behind sign.now) bytes.now)
-        f.new }
-{
-    for byte in bytes {
-        write_byte(f, sign, *byte)?;
-    }
-    Ok(())
-}
-
-/// Writes the bytes of a character's UTF-8, each behind a sign.
-fn write_coded<W: fmt::Write>(f: &mut fmt::Formatter<W>, sign: &str, c: char) -> fmt::Result
-    ensures { WritesOnOk W.write_str_gives f.old result (bytes_behind sign.now c) f.new }
-{
-    let mut bytes = [0; 4];
-    write_bytes(f, sign, c.encode_utf8(&mut bytes).as_bytes())
 }
 
 /// Writes a byte as `%NN`.
@@ -138,16 +100,6 @@ fn write_percent_coded<W: fmt::Write>(f: &mut fmt::Formatter<W>, c: char) -> fmt
 {
     let mut bytes = [0; 4];
     write_percent_bytes(f, c.encode_utf8(&mut bytes).as_bytes())
-}
-
-/// Writes a character, or its bytes behind a sign where a terminal obeys it or it is a backslash.
-fn write_visible<W: fmt::Write>(f: &mut fmt::Formatter<W>, sign: &str, c: char) -> fmt::Result
-    ensures { WritesOnOk W.write_str_gives f.old result (visible_char sign.now c) f.new }
-{
-    if c != '\\' && !speaks(c) {
-        return f.write_char(c);
-    }
-    write_coded(f, sign, c)
 }
 
 /// Writes a character in HTML.
@@ -191,6 +143,17 @@ fn write_sarif<W: fmt::Write>(f: &mut fmt::Formatter<W>, c: char) -> fmt::Result
     }
 }
 
+/// Writes a character of a line of source.
+fn write_source<W: fmt::Write>(f: &mut fmt::Formatter<W>, c: char) -> fmt::Result
+    ensures { WritesOnOk W.write_str_gives f.old result (source_char c) f.new }
+{
+    match c {
+        '\\' => f.write_str("\\\\"),
+        '\t' => f.write_str("\\t"),
+        _ => write_json(f, c),
+    }
+}
+
 /// Writes a character in a label of Graphviz.
 fn write_dot<W: fmt::Write>(f: &mut fmt::Formatter<W>, c: char) -> fmt::Result
     ensures { WritesOnOk W.write_str_gives f.old result (dot_char c) f.new }
@@ -204,10 +167,13 @@ fn write_dot<W: fmt::Write>(f: &mut fmt::Formatter<W>, c: char) -> fmt::Result
     }
 }
 
-/// Writes a character in a label of Mermaid.
+/// Writes a character in a label of Mermaid. A colon is a byte: `fa:fa-bug` is an icon also where it is an entity.
 fn write_mermaid<W: fmt::Write>(f: &mut fmt::Formatter<W>, c: char) -> fmt::Result
     ensures { WritesOnOk W.write_str_gives f.old result (mermaid_char c) f.new }
 {
+    if c == ':' {
+        return write_coded(f, "#92;x", c);
+    }
     if is_read_by_mermaid(c) {
         let code = u32::from(c);
         return write!(f, "#{code};");
@@ -254,6 +220,7 @@ fn write_char_in<W: fmt::Write>(f: &mut fmt::Formatter<W>, syntax: Syntax, c: ch
         Syntax::Html => write_html(f, c),
         Syntax::Json => write_json(f, c),
         Syntax::Sarif => write_sarif(f, c),
+        Syntax::Source => write_source(f, c),
         Syntax::Dot => write_dot(f, c),
         Syntax::Mermaid => write_mermaid(f, c),
         Syntax::Message => write_message(f, c),

@@ -77,144 +77,130 @@ impl EdgeKind {
     }
 }
 
-/// A label of Graphviz.
-fn dot_label(text: &str) -> Escaped<'_> {
-    Escaped {
-        syntax: Syntax::Dot,
-        text,
+impl GraphLanguage {
+    /// A label in the language.
+    fn label(self, text: &str) -> Escaped<'_> {
+        let syntax = match self {
+            GraphLanguage::Dot => Syntax::Dot,
+            GraphLanguage::Mermaid => Syntax::Mermaid,
+        };
+        Escaped { syntax, text }
     }
 }
 
-/// A label of Mermaid.
-fn mermaid_label(text: &str) -> Escaped<'_> {
-    Escaped {
-        syntax: Syntax::Mermaid,
-        text,
-    }
-}
-
-/// Writes the nodes of a program, the one of a number, for Graphviz.
-fn write_dot_nodes<W: Write>(
+/// Writes the node of a copy, by the number of the program and its own.
+fn write_function<W: Write>(
     out: &mut W,
+    language: GraphLanguage,
+    number: usize,
+    copy: usize,
+    function: FunctionNode<'_>,
+) -> io::Result<()> {
+    let name = language.label(function.name);
+    let slots = function.slots;
+    write!(out, "    p{number}f{copy}")?;
+    match language {
+        GraphLanguage::Dot => writeln!(out, " [shape=box label=\"{name}\\n{slots} slots\"];"),
+        GraphLanguage::Mermaid => writeln!(out, "[\"{name}<br/>{slots} slots\"]"),
+    }
+}
+
+/// Writes the node of a map, by the number of the program and its own.
+fn write_map<W: Write>(
+    out: &mut W,
+    language: GraphLanguage,
+    number: usize,
+    map: usize,
+    name: &str,
+) -> io::Result<()> {
+    let name = language.label(name);
+    write!(out, "    p{number}m{map}")?;
+    match language {
+        GraphLanguage::Dot => writeln!(out, " [shape=cylinder label=\"{name}\\nmap\"];"),
+        GraphLanguage::Mermaid => writeln!(out, "[(\"{name}<br/>map\")]"),
+    }
+}
+
+/// Writes the edge between two copies of a program.
+fn write_edge<W: Write>(
+    out: &mut W,
+    language: GraphLanguage,
+    number: usize,
+    edge: FunctionEdge,
+) -> io::Result<()> {
+    let FunctionEdge { from, to, kind } = edge;
+    let word = kind.word();
+    write!(out, "    p{number}f{from} ")?;
+    match language {
+        GraphLanguage::Dot => writeln!(out, "-> p{number}f{to} [label={word}];"),
+        GraphLanguage::Mermaid => writeln!(out, "-->|{word}| p{number}f{to}"),
+    }
+}
+
+/// Writes the edge from a copy of a program to a map.
+fn write_use<W: Write>(
+    out: &mut W,
+    language: GraphLanguage,
+    number: usize,
+    edge: MapEdge,
+) -> io::Result<()> {
+    let MapEdge { from, map } = edge;
+    write!(out, "    p{number}f{from} ")?;
+    match language {
+        GraphLanguage::Dot => writeln!(out, "-> p{number}m{map} [style=dashed];"),
+        GraphLanguage::Mermaid => writeln!(out, "-.-> p{number}m{map}"),
+    }
+}
+
+/// Writes the start of a program, the one of a number: its title.
+fn write_title<W: Write>(
+    out: &mut W,
+    language: GraphLanguage,
     number: usize,
     graph: &ProgramGraph<'_>,
 ) -> io::Result<()> {
-    for (copy, function) in graph.functions.iter().enumerate() {
-        let name = dot_label(function.name);
-        let slots = function.slots;
-        writeln!(
-            out,
-            "    p{number}f{copy} [shape=box label=\"{name}\\n{slots} slots\"];"
-        )?;
-    }
-    for (map, name) in graph.maps.iter().enumerate() {
-        let name = dot_label(name);
-        writeln!(
-            out,
-            "    p{number}m{map} [shape=cylinder label=\"{name}\\nmap\"];"
-        )?;
-    }
-    Ok(())
-}
-
-/// Writes the edges of a program, the one of a number, for Graphviz.
-fn write_dot_edges<W: Write>(
-    out: &mut W,
-    number: usize,
-    graph: &ProgramGraph<'_>,
-) -> io::Result<()> {
-    for FunctionEdge { from, to, kind } in graph.edges.iter().copied() {
-        let word = kind.word();
-        write!(out, "    p{number}f{from} -> p{number}f{to}")?;
-        writeln!(out, " [label={word}];")?;
-    }
-    for MapEdge { from, map } in graph.uses.iter().copied() {
-        writeln!(
-            out,
-            "    p{number}f{from} -> p{number}m{map} [style=dashed];"
-        )?;
-    }
-    Ok(())
-}
-
-/// Writes a program, the one of a number, as a cluster of Graphviz.
-fn write_dot_program<W: Write>(
-    out: &mut W,
-    number: usize,
-    graph: &ProgramGraph<'_>,
-) -> io::Result<()> {
-    let name = dot_label(graph.name);
+    let name = language.label(graph.name);
     let slots = graph.slots;
-    writeln!(out, "  subgraph cluster_{number} {{")?;
-    writeln!(out, "    label=\"{name}: {slots} slots\";")?;
-    write_dot_nodes(out, number, graph)?;
-    write_dot_edges(out, number, graph)?;
-    writeln!(out, "  }}")
-}
-
-/// Writes programs as a graph of Graphviz.
-fn write_dot<W: Write>(out: &mut W, graphs: &[ProgramGraph<'_>]) -> io::Result<()> {
-    writeln!(out, "digraph programs {{")?;
-    writeln!(out, "  rankdir=LR;")?;
-    for (number, graph) in graphs.iter().enumerate() {
-        write_dot_program(out, number, graph)?;
+    write!(out, "  subgraph ")?;
+    match language {
+        GraphLanguage::Dot => {
+            writeln!(
+                out,
+                "cluster_{number} {{\n    label=\"{name}: {slots} slots\";"
+            )
+        }
+        GraphLanguage::Mermaid => writeln!(out, "p{number}[\"{name}: {slots} slots\"]"),
     }
-    writeln!(out, "}}")
 }
 
-/// Writes the nodes of a program, the one of a number, for Mermaid.
-fn write_mermaid_nodes<W: Write>(
+/// Writes the nodes of a program, the one of a number.
+fn write_nodes<W: Write>(
     out: &mut W,
+    language: GraphLanguage,
     number: usize,
     graph: &ProgramGraph<'_>,
 ) -> io::Result<()> {
-    for (copy, function) in graph.functions.iter().enumerate() {
-        let name = mermaid_label(function.name);
-        let slots = function.slots;
-        writeln!(out, "    p{number}f{copy}[\"{name}<br/>{slots} slots\"]")?;
+    for (copy, function) in graph.functions.iter().copied().enumerate() {
+        write_function(out, language, number, copy, function)?;
     }
-    for (map, name) in graph.maps.iter().enumerate() {
-        let name = mermaid_label(name);
-        writeln!(out, "    p{number}m{map}[(\"{name}<br/>map\")]")?;
+    for (map, name) in graph.maps.iter().copied().enumerate() {
+        write_map(out, language, number, map, name)?;
     }
     Ok(())
 }
 
-/// Writes the edges of a program, the one of a number, for Mermaid.
-fn write_mermaid_edges<W: Write>(
+/// Writes the edges of a program, the one of a number.
+fn write_edges<W: Write>(
     out: &mut W,
+    language: GraphLanguage,
     number: usize,
     graph: &ProgramGraph<'_>,
 ) -> io::Result<()> {
-    for FunctionEdge { from, to, kind } in graph.edges.iter().copied() {
-        let word = kind.word();
-        writeln!(out, "    p{number}f{from} -->|{word}| p{number}f{to}")?;
+    for edge in graph.edges.iter().copied() {
+        write_edge(out, language, number, edge)?;
     }
-    for MapEdge { from, map } in graph.uses.iter().copied() {
-        writeln!(out, "    p{number}f{from} -.-> p{number}m{map}")?;
-    }
-    Ok(())
-}
-
-/// Writes a program, the one of a number, as a subgraph of Mermaid.
-fn write_mermaid_program<W: Write>(
-    out: &mut W,
-    number: usize,
-    graph: &ProgramGraph<'_>,
-) -> io::Result<()> {
-    let name = mermaid_label(graph.name);
-    let slots = graph.slots;
-    writeln!(out, "  subgraph p{number}[\"{name}: {slots} slots\"]")?;
-    write_mermaid_nodes(out, number, graph)?;
-    write_mermaid_edges(out, number, graph)?;
-    writeln!(out, "  end")
-}
-
-/// Writes programs as a flowchart of Mermaid.
-fn write_mermaid<W: Write>(out: &mut W, graphs: &[ProgramGraph<'_>]) -> io::Result<()> {
-    writeln!(out, "flowchart LR")?;
-    for (number, graph) in graphs.iter().enumerate() {
-        write_mermaid_program(out, number, graph)?;
+    for edge in graph.uses.iter().copied() {
+        write_use(out, language, number, edge)?;
     }
     Ok(())
 }
@@ -226,8 +212,16 @@ pub fn write_graphs<W: Write>(
     language: GraphLanguage,
     graphs: &[ProgramGraph<'_>],
 ) -> io::Result<()> {
-    match language {
-        GraphLanguage::Dot => write_dot(out, graphs),
-        GraphLanguage::Mermaid => write_mermaid(out, graphs),
+    let (start, program_end, end) = match language {
+        GraphLanguage::Dot => ("digraph programs {\n  rankdir=LR;\n", "  }\n", "}\n"),
+        GraphLanguage::Mermaid => ("flowchart LR\n", "  end\n", ""),
+    };
+    write!(out, "{start}")?;
+    for (number, graph) in graphs.iter().enumerate() {
+        write_title(out, language, number, graph)?;
+        write_nodes(out, language, number, graph)?;
+        write_edges(out, language, number, graph)?;
+        write!(out, "{program_end}")?;
     }
+    write!(out, "{end}")
 }

@@ -4,6 +4,7 @@ use Rattle.std.specs.Io.KnownBytes.{Appends}
 use Rattle.std.specs.List.{flat_map}
 use Rattle.cli_common.specs.DefaultPasses.{default_passes}
 use Rattle.cli_common.specs.SlotText.{program_text}
+use Rattle.ebpf_btf_maps.specs.Arenas.{arena_section}
 use Rattle.ebpf_object.specs.LinkedPrograms.{function_of_named_program}
 use Rattle.ebpf_kconfig.specs.KconfigMaps.{passes_made}
 use Rattle.ebpf_ksyms.specs.Sources.{Source, Text}
@@ -57,8 +58,9 @@ pub record WritesFinished (steps : Chosen) (lines : Source) (parsed : Object)
       → Headline steps lines Lenient file object
   pub text : Appends before now (shown_programs object names)
 
--- The same of the object of a file, in lenient parsing, with its kconfig externs defined by the
--- values of a kernel. Where the file has no kconfig externs, the headline holds of the file.
+-- The same of the object of a file, in lenient parsing, with its maps completed and its kconfig
+-- externs defined by the values of a kernel. Where the file has no kconfig externs and no variables
+-- in an arena, the headline holds of the file.
 pub record HasWritten (file : List ℕ) (kernel : Kernel) (names : List (List ℕ))
     (before now : Option (List ℕ))
     : Type 0 where
@@ -67,5 +69,6 @@ pub record HasWritten (file : List ℕ) (kernel : Kernel) (names : List (List �
   pub written : WritesFinished (default_passes kernel.types opened.maps)
       (Text kernel.symbols.items) opened names before now
   pub headline : externs_of (object_as Lenient file) ≡ []
+      → arena_section file ≡ None
       → Headline (default_passes kernel.types opened.maps) (Text kernel.symbols.items) Lenient file
       written.object

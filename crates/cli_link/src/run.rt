@@ -12,7 +12,6 @@ use cli_common::refuse::Stop;
 use cli_output::palette::{ColorChoice, Palette, TextStyle};
 use cli_prepare::{Opened, PrepareWords, Prepared, open_file, prepare_file, refuse_preparing};
 use ebpf_model::Function;
-use ebpf_object::Object;
 use std::alloc::Global;
 use std::io::{self, BufWriter, Write};
 
@@ -102,10 +101,10 @@ fn link_as_instructions(rt: &HostRuntime, words: &LinkWords) -> Result<(), Stop>
 }
 
 /// The reason to stop where programs aren't written as bytes; the refusal of a pass is reported.
-fn stop_of(rt: &HostRuntime, words: &PrepareWords, parsed: &Object, failure: BytesFailure) -> Stop {
+fn stop_of(rt: &HostRuntime, words: &PrepareWords, opened: &Opened, failure: BytesFailure) -> Stop {
     match failure {
         BytesFailure::Preparing(error) => {
-            let stop = refuse_preparing(rt, words, parsed, &error);
+            let stop = refuse_preparing(rt, words, opened, &error);
             drop(error);
             stop
         }
@@ -125,7 +124,7 @@ fn write_opened(rt: &HostRuntime, words: &PrepareWords, opened: &Opened) -> Resu
         &mut out,
     ) {
         Ok(()) => {}
-        Err(failure) => return Err(stop_of(rt, words, &opened.parsed, failure)),
+        Err(failure) => return Err(stop_of(rt, words, opened, failure)),
     }
     out.flush()?;
     Ok(())

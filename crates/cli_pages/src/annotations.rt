@@ -1,18 +1,18 @@
 //! The reasons for which programs break, as annotations of GitHub's workflows.
 
-use crate::matrix::{Matrix, Reason, ReasonLocation};
+use crate::matrix::{Matrix, Reason, ReasonLine, ReasonLocation};
 use crate::message::{write_message, write_unread};
 use crate::source_path::write_source_path;
 use cli_formats::escape::Syntax;
 use std::io::{self, Write};
 
 /// Writes the start of an annotation: the source line, where one is known, and the title.
-fn write_start<W: Write>(out: &mut W, line: Option<(&str, u32)>) -> io::Result<()> {
+fn write_start<W: Write>(out: &mut W, line: Option<ReasonLine<'_>>) -> io::Result<()> {
     write!(out, "::error ")?;
-    if let Some((file, line)) = line {
+    if let Some(ReasonLine { file, number, .. }) = line {
         write!(out, "file=")?;
         write_source_path(out, Syntax::Property, "/", file)?;
-        write!(out, ",line={line},")?;
+        write!(out, ",line={number},")?;
     }
     write!(out, "title=ebpf check::")
 }

@@ -1,11 +1,18 @@
 //! The data of a page, as JSON: each reason is written once, and kernels are numbers.
 
-use crate::matrix::{CellVerdict, Matrix, MatrixKernel, Reason, ReasonLocation};
+ghost use Rattle.std.specs.Prelude.{◌≡◌, OnOk};
+ghost use Rattle.std.specs.Io.KnownBytes.{Appends};
+ghost use Rattle.cli_pages.specs.Parts.{comma_before, json_string, source_string, verdict_letter};
+
+use crate::matrix::{CellVerdict, Matrix, MatrixKernel, Reason, ReasonLine, ReasonLocation};
 use cli_formats::escape::{Escaped, Syntax};
 use std::io::{self, Write};
 
 /// Writes the comma between an item and the one before it.
-pub fn write_comma<W: Write>(out: &mut W, number: usize) -> io::Result<()> {
+pub fn write_comma<W: Write>(out: &mut W, number: usize) -> io::Result<()>
+    ensures { OnOk result
+        (Appends (W.contents out.old) (W.contents out.new) (comma_before number)) }
+{
     if number > 0 {
         return write!(out, ",");
     }
@@ -13,7 +20,10 @@ pub fn write_comma<W: Write>(out: &mut W, number: usize) -> io::Result<()> {
 }
 
 /// Writes a string.
-pub fn write_string<W: Write>(out: &mut W, text: &str) -> io::Result<()> {
+pub fn write_string<W: Write>(out: &mut W, text: &str) -> io::Result<()>
+    ensures { OnOk result
+        (Appends (W.contents out.old) (W.contents out.new) (json_string text.now)) }
+{
     let text = Escaped {
         syntax: Syntax::Json,
         text,
@@ -50,7 +60,9 @@ fn write_runs<W: Write>(out: &mut W, numbers: &[usize]) -> io::Result<()> {
 }
 
 /// The letter for a verdict.
-fn verdict_letter(verdict: CellVerdict) -> &'static str {
+fn verdict_letter(verdict: CellVerdict) -> &'static str
+    ensures { result.now ≡ verdict_letter verdict }
+{
     match verdict {
         CellVerdict::Runs => "o",
         CellVerdict::Breaks => "b",
@@ -83,18 +95,41 @@ fn write_kernel<W: Write>(out: &mut W, kernel: &MatrixKernel<'_>) -> io::Result<
     write!(out, "]")
 }
 
-/// Writes a text and a number, or that there are none.
-fn write_numbered<W: Write>(out: &mut W, numbered: Option<(&str, u64)>) -> io::Result<()> {
-    match numbered {
-        Some((text, number)) => {
-            write_string(out, text)?;
-            write!(out, ",{number},")
+/// Writes a line of source as a string.
+pub fn write_source<W: Write>(out: &mut W, text: &str) -> io::Result<()>
+    ensures { OnOk result
+        (Appends (W.contents out.old) (W.contents out.new) (source_string text.now)) }
+{
+    let text = Escaped {
+        syntax: Syntax::Source,
+        text,
+    };
+    write!(out, "\"{text}\"")
+}
+
+/// Writes the function that a slot was copied from, and the slot in it, or that there are none.
+fn write_within<W: Write>(out: &mut W, within: Option<(&str, usize)>) -> io::Result<()> {
+    match within {
+        Some((name, slot)) => {
+            write_string(out, name)?;
+            write!(out, ",{slot},")
         }
         None => write!(out, "null,0,"),
     }
 }
 
-/// Writes a location: program, slot, instruction, function and its slot, file and line, kernels.
+/// Writes the file, the number and the text of a source line, or that there are none.
+fn write_line<W: Write>(out: &mut W, line: Option<ReasonLine<'_>>) -> io::Result<()> {
+    let Some(ReasonLine { file, number, text }) = line else {
+        return write!(out, "null,0,\"\",");
+    };
+    write_string(out, file)?;
+    write!(out, ",{number},")?;
+    write_source(out, text)?;
+    write!(out, ",")
+}
+
+/// Writes a location: program, slot, instruction, function and its slot, file, line and its text, kernels.
 fn write_location<W: Write>(out: &mut W, location: &ReasonLocation<'_>) -> io::Result<()> {
     let program = location.program;
     write!(out, "[{program},")?;
@@ -107,10 +142,8 @@ fn write_location<W: Write>(out: &mut W, location: &ReasonLocation<'_>) -> io::R
         None => write!(out, "null")?,
     }
     write!(out, ",")?;
-    let within = location.within.map(|(name, slot)| (name, slot as u64));
-    write_numbered(out, within)?;
-    let line = location.line.map(|(file, line)| (file, u64::from(line)));
-    write_numbered(out, line)?;
+    write_within(out, location.within)?;
+    write_line(out, location.line)?;
     write_runs(out, location.kernels)?;
     write!(out, "]")
 }

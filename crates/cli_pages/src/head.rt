@@ -1,5 +1,10 @@
 //! The head of a page, which loads nothing.
 
+ghost use Rattle.std.specs.Prelude.{OnOk};
+ghost use Rattle.std.specs.Io.KnownBytes.{Appends};
+ghost use Rattle.cli_formats.specs.Escapes.{text_in};
+ghost use Rattle.cli_formats.specs.declared.escape.Syntax.TheVariants.{Html};
+
 use crate::page_style::STYLE;
 use cli_formats::escape::{Escaped, Syntax};
 use std::io::{self, Write};
@@ -16,7 +21,10 @@ const HEAD: &str = "<!DOCTYPE html>
 const SCRIPT_POLICY: &str = "; script-src &#39;unsafe-inline&#39;";
 
 /// Writes a text.
-pub fn write_text<W: Write>(out: &mut W, text: &str) -> io::Result<()> {
+pub fn write_text<W: Write>(out: &mut W, text: &str) -> io::Result<()>
+    ensures { OnOk result
+        (Appends (W.contents out.old) (W.contents out.new) (text_in Html text.now)) }
+{
     let text = Escaped {
         syntax: Syntax::Html,
         text,

@@ -22,6 +22,17 @@ pub struct MatrixKernel<'a> {
     pub verdicts: Vec<CellVerdict>,
 }
 
+/// A source line.
+#[derive(Clone, Copy)]
+pub struct ReasonLine<'a> {
+    /// The file's name, as the compiler gave it.
+    pub file: &'a str,
+    /// The number.
+    pub number: u32,
+    /// The text; empty where the object has none.
+    pub text: &'a str,
+}
+
 /// The location of a reason in a linked program.
 #[derive(Clone, Copy)]
 pub struct ReasonLocation<'a> {
@@ -34,7 +45,7 @@ pub struct ReasonLocation<'a> {
     /// The function that the slot was copied from, and the slot in it, where it is not the program's own.
     pub within: Option<(&'a str, usize)>,
     /// The source line.
-    pub line: Option<(&'a str, u32)>,
+    pub line: Option<ReasonLine<'a>>,
     /// The numbers of the kernels, in ascending order.
     pub kernels: &'a [usize],
 }

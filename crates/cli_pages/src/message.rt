@@ -1,5 +1,9 @@
 //! The message of a reason, for reports that have a line for each.
 
+ghost use Rattle.std.specs.Prelude.{OnOk};
+ghost use Rattle.std.specs.Io.KnownBytes.{Appends};
+ghost use Rattle.cli_pages.specs.Parts.{unread_message};
+
 use crate::matrix::{Matrix, Reason, ReasonLocation};
 use cli_formats::escape::{Escaped, Syntax};
 use std::io::{self, Write};
@@ -120,7 +124,11 @@ pub fn write_unread<W: Write>(
     syntax: Syntax,
     name: &str,
     fault: &str,
-) -> io::Result<()> {
+) -> io::Result<()>
+    ensures { OnOk result
+        (Appends (W.contents out.old) (W.contents out.new)
+        (unread_message syntax name.now fault.now)) }
+{
     let name = Escaped { syntax, text: name };
     let fault = Escaped {
         syntax,

@@ -32,13 +32,17 @@ const locationText = ([program, slot, instruction, within, start, file, line]) =
 ].filter(Boolean).join('  ');
 const reasonsOf = (kernel, program) => reasons
   .filter(reason => has(reason[4], kernel))
-  .map(reason => [reason, reason[5].filter(location => location[0] === program && has(location[7], kernel))])
+  .map(reason => [reason, reason[5].filter(location => location[0] === program && has(location[8], kernel))])
   .filter(([reason, locations]) => locations.length || !reason[5].length);
 const reasonItem = (reason, locations, more) => {
   const item = make('li');
   item.append(make('code', title(reason)), more);
   const list = make('ul');
-  for (const location of locations) list.append(make('li', locationText(location)));
+  for (const location of locations) {
+    const place = make('li', locationText(location));
+    if (location[7]) place.append(make('code', location[7], 'source'));
+    list.append(place);
+  }
   if (locations.length) item.append(list);
   return item;
 };

@@ -35,6 +35,7 @@ tbody th { font-weight: 400; }
 #cell, #reasons { max-width: 70rem; overflow-wrap: anywhere; }
 #cell { border-left: 4px solid var(--line); padding-left: .8rem; min-height: 4rem; }
 code { font: .93em ui-monospace, monospace; }
+.source { display: block; }
 @media print {
   #filters label, #cell, #keys { display: none; }
   #frame { max-height: none; overflow: visible; border: 0; }

@@ -1,7 +1,11 @@
 //! The reasons for which programs break, in the format of code scanning (SARIF 2.1.0).
 
-use crate::data::write_comma;
-use crate::matrix::{Matrix, Reason, ReasonLocation};
+ghost use Rattle.std.specs.Prelude.{OnOk};
+ghost use Rattle.std.specs.Io.KnownBytes.{Appends};
+ghost use Rattle.cli_pages.specs.Parts.{notification};
+
+use crate::data::{write_comma, write_source};
+use crate::matrix::{Matrix, Reason, ReasonLine, ReasonLocation};
 use crate::message::{write_message, write_unread};
 use crate::source_path::write_source_path;
 use cli_formats::escape::{Escaped, Syntax};
@@ -35,7 +39,10 @@ fn write_start<W: Write>(out: &mut W, matrix: &Matrix<'_>) -> io::Result<()> {
 }
 
 /// Writes a notification on a kernel whose types can't be read.
-fn write_notification<W: Write>(out: &mut W, name: &str, fault: &str) -> io::Result<()> {
+fn write_notification<W: Write>(out: &mut W, name: &str, fault: &str) -> io::Result<()>
+    ensures { OnOk result
+        (Appends (W.contents out.old) (W.contents out.new) (notification name.now fault.now)) }
+{
     write!(out, "{{\"level\":\"error\",\"message\":{{\"text\":\"")?;
     write_unread(out, Syntax::Sarif, name, fault)?;
     write!(out, "\"}}}}")
@@ -66,17 +73,34 @@ fn write_invocation<W: Write>(out: &mut W, matrix: &Matrix<'_>) -> io::Result<()
     writeln!(out, "]}}],\n\"results\":[")
 }
 
+/// Writes the text of a region, where there is one, and the end of the region.
+fn write_snippet<W: Write>(out: &mut W, text: &str) -> io::Result<()> {
+    if text.is_empty() {
+        return write!(out, "}}");
+    }
+    write!(out, ",\"snippet\":{{\"text\":")?;
+    write_source(out, text)?;
+    write!(out, "}}}}")
+}
+
+/// Writes the region of a line: its number, which isn't 0, and its text, where there is one.
+fn write_region<W: Write>(out: &mut W, number: u32, text: &str) -> io::Result<()> {
+    if number == 0 {
+        return Ok(());
+    }
+    write!(out, ",\"region\":{{\"startLine\":{number}")?;
+    write_snippet(out, text)
+}
+
 /// Writes the location of a source line; line 0 is none.
-fn write_location<W: Write>(out: &mut W, file: &str, line: u32) -> io::Result<()> {
+fn write_location<W: Write>(out: &mut W, line: ReasonLine<'_>) -> io::Result<()> {
     write!(
         out,
         "\"locations\":[{{\"physicalLocation\":{{\"artifactLocation\":{{\"uri\":\""
     )?;
-    write_source_path(out, Syntax::Path, "file:///", file)?;
+    write_source_path(out, Syntax::Path, "file:///", line.file)?;
     write!(out, "\"}}")?;
-    if line > 0 {
-        write!(out, ",\"region\":{{\"startLine\":{line}}}")?;
-    }
+    write_region(out, line.number, line.text)?;
     write!(out, "}}}}]")
 }
 
@@ -98,8 +122,12 @@ fn write_result<W: Write>(
         Some(location) => location.line,
         None => None,
     };
-    let (file, line) = line.unwrap_or((matrix.file, 0));
-    write_location(out, file, line)?;
+    let whole_file = ReasonLine {
+        file: matrix.file,
+        number: 0,
+        text: "",
+    };
+    write_location(out, line.unwrap_or(whole_file))?;
     write!(out, "}}")
 }
 

@@ -5,6 +5,8 @@ use Rattle.std.specs.FinMap.{FinMap, empty, entries, get, get-empty}
 use Rattle.std.specs.List.{flat_map}
 use Rattle.std.specs.Option.{option_and_then, option_map_or}
 use Rattle.std.specs.Ordering.{nat_cmp}
+use Rattle.cli_common.specs.CompletedObjects.{IsCompleted, page_size, with_completed_maps}
+use Rattle.ebpf_btf_maps.proofs.Completed.{maps_stay}
 use Rattle.ebpf_base.proofs.Lists.{rest_more}
 use Rattle.ebpf_base.proofs.Mapped.{map_values-identity, map_values-same_at, put_all-flat_map}
 use Rattle.ebpf_base.proofs.Maps.{entries-empty}
@@ -19,7 +21,6 @@ use Rattle.ebpf_kconfig.specs.declared.externs.KconfigExtern.{KconfigExtern}
 use Rattle.ebpf_model.specs.Symbols.{is_extern}
 use Rattle.ebpf_model.specs.declared.symbol.Symbol.{Symbol}
 use Rattle.ebpf_object.specs.Objects.{object_as}
-use Rattle.ebpf_object.specs.Prepared.{IsParsed}
 use Rattle.ebpf_object.specs.declared.object.Object.{Object}
 use Rattle.ebpf_parts.specs.declared.maps.either.Map.{Map}
 use Rattle.ebpf_parts.specs.declared.parse_mode.ParseMode.TheVariants.{Lenient}
@@ -101,18 +102,23 @@ defined values externs o after others maps symbols =
     ∙ ap (λ (m : FinMap text_cmp Map). record o { maps = m; symbol_table = after.symbol_table }) maps
     ∙ ap (λ (s : FinMap nat_cmp Symbol). record o { maps = with_kconfig_map values externs o.maps; symbol_table = s }) symbols
 
-pub opened : (file : List ℕ) (kernel : Kernel) (o after : Object) → IsParsed Lenient file o → after ≡ with_kconfig kernel o → IsDefined file kernel after
-opened file kernel o after parsed defined =
+pub opened : (file : List ℕ) (kernel : Kernel) (o after : Object) → IsCompleted file o → after ≡ with_kconfig kernel o → IsDefined file kernel after
+opened file kernel o after completed defined =
     let object : Object = object_as Lenient file in
-    let is : after ≡ with_kconfig kernel object = subst (λ (x : Object). after ≡ with_kconfig kernel x) parsed.is defined in
+    let with_maps : Object = with_completed_maps file object in
+    let is : after ≡ with_kconfig kernel with_maps = subst (λ (x : Object). after ≡ with_kconfig kernel x) completed.is defined in
     record {
-      parsed = record { sound = parsed.sound; is = refl };
+      parsed = record { sound = completed.sound; is = refl };
+      complete = completed.complete;
       defined = is;
-      same = λ none. record { sound = parsed.sound; is = is ∙ sym (without_externs kernel object none) };
+      same = λ none no_section. record {
+        sound = completed.sound;
+        is = is ∙ sym (without_externs kernel with_maps none) ∙ ap (λ (m : FinMap text_cmp Map). record object { maps = m }) (maps_stay file page_size object.maps no_section);
+      };
     }
 
 pub opened_as : (o : Opened) (file : List ℕ) (kernel : Kernel) (parsed after : Object) → o.file.items ≡ file → o.kernel ≡ kernel → o.parsed ≡ after
-    → IsParsed Lenient file parsed → after ≡ with_kconfig kernel parsed → IsOpened o
+    → IsCompleted file parsed → after ≡ with_kconfig kernel parsed → IsOpened o
 opened_as o file kernel parsed after file_is kernel_is parsed_is sound defined =
     subst (λ (bytes : List ℕ). IsDefined bytes o.kernel o.parsed) (sym file_is)
     (subst (λ (k : Kernel). IsDefined file k o.parsed) (sym kernel_is)

@@ -108,7 +108,7 @@ fn pass_opened(
     match pass_all(rt.alloc(), parsed, &opened.kernel) {
         Ok(passed) => Ok(passed),
         Err(error) => {
-            let stop = refuse_preparing(rt, words, parsed, &error);
+            let stop = refuse_preparing(rt, words, opened, &error);
             drop(error);
             Err(stop)
         }

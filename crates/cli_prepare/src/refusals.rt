@@ -1,5 +1,6 @@
 //! The refusals of passes, in words.
 
+use crate::opened::Opened;
 use crate::pass_help::{GivenFiles, pass_help};
 use crate::prepared::PrepareWords;
 use crate::refused_slots::refused_slot;
@@ -9,7 +10,6 @@ use cli_common::refuse::{Stop, refused};
 use ebpf_core_relo::RelocationError as CoreError;
 use ebpf_ksyms::KsymsError;
 use ebpf_model::RelocationError;
-use ebpf_object::Object;
 use ebpf_object::prepare::PrepareError::{
     self, Calls, Externs, Ksyms, Maps, MissingDescriptor, OutOfMemory, Parse, Types, UnknownMap,
     UnwrittenExtern,
@@ -32,13 +32,19 @@ fn is_memory(error: &PrepareError) -> bool {
 }
 
 /// The function and the slot of an error, where they are known.
-fn place_of<'a>(object: &Object, error: &'a PrepareError) -> Option<(&'a str, usize)> {
-    match error {
-        Maps(refusal) | Externs(refusal) | Calls(refusal) => {
-            let slot = refused_slot(object, refusal)?;
-            Some((refusal.function.as_str(), slot))
-        }
-        _ => None,
+fn place_of<'a>(
+    alloc: Global,
+    opened: &Opened,
+    error: &'a PrepareError,
+) -> Result<Option<(&'a str, usize)>, AllocError> {
+    let function = match error {
+        Maps(refusal) | Externs(refusal) => refusal.function.as_str(),
+        _ => return Ok(None),
+    };
+    match refused_slot(alloc, &opened.parsed, &opened.kernel, error) {
+        Ok(Some(slot)) => Ok(Some((function, slot))),
+        Ok(None) => Ok(None),
+        Err(_) => Err(AllocError),
     }
 }
 
@@ -69,20 +75,20 @@ fn without_pass<'a>(sentence: &'a str, pass: &str) -> &'a str {
 /// The sentence of an error, without the name of its pass.
 fn sentence_of(
     alloc: Global,
-    object: &Object,
+    opened: &Opened,
     error: &PrepareError,
     pass: &str,
 ) -> Result<String, AllocError> {
-    let explained = object.explain(error);
+    let explained = opened.parsed.explain(error);
     let sentence = format!(in alloc; "{explained}")?;
     let bare = without_pass(sentence.as_str(), pass);
-    with_slot(alloc, bare, place_of(object, error))
+    with_slot(alloc, bare, place_of(alloc, opened, error)?)
 }
 
 /// The refusal of a pass.
 fn refusal_of(
     alloc: Global,
-    object: &Object,
+    opened: &Opened,
     error: &PrepareError,
     given: GivenFiles,
 ) -> Result<FileRefusal, AllocError> {
@@ -94,16 +100,16 @@ fn refusal_of(
             pass
         },
         variant,
-        text: sentence_of(alloc, object, error, pass)?,
-        help: help_of(alloc, pass_help(object, error, given))?,
+        text: sentence_of(alloc, opened, error, pass)?,
+        help: help_of(alloc, pass_help(&opened.parsed, error, given))?,
     })
 }
 
-/// Reports the refusal of a pass, with the object as it was before the pass; gives the reason to stop.
+/// Reports the refusal of a pass over an opened object; gives the reason to stop.
 pub fn refuse_preparing(
     rt: &HostRuntime,
     words: &PrepareWords,
-    object: &Object,
+    opened: &Opened,
     error: &PrepareError,
 ) -> Stop {
     if is_memory(error) {
@@ -113,7 +119,7 @@ pub fn refuse_preparing(
         types: words.btf.is_some(),
         symbols: words.kallsyms.is_some(),
     };
-    match refusal_of(rt.alloc(), object, error, given) {
+    match refusal_of(rt.alloc(), opened, error, given) {
         Ok(refusal) => refused(rt, words.json, words.file.as_str(), &refusal, 1),
         Err(_) => Stop::Memory,
     }

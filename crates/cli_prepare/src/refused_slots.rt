@@ -1,84 +1,62 @@
-//! The slots at which passes refuse functions.
+//! The slots at which passes refuse functions, by the outcomes of the passes.
 
-use ebpf_model::{EbpfRelocationError, Function, RelocationError, Symbol};
+use crate::kernel::Kernel;
 use ebpf_object::Object;
-use ebpf_parts::insn::bpf_insn;
+use ebpf_object::prepare::{PrepareError, Steps, SymbolText, numbered_descriptors};
+use ebpf_outcomes::{MapOutcome, SlotOutcome, extern_outcomes_with, map_outcomes_with};
+use std::alloc::Global;
 
-/// The target of a refused relocation.
-#[derive(Clone, Copy)]
-enum RefusedTarget<'a> {
-    /// The symbol of an index.
-    Symbol(usize),
-    /// An extern of a name.
-    Extern(&'a str),
-}
-
-/// The function of a name, where one alone has it.
-fn function_named<'a>(object: &'a Object, name: &str) -> Option<&'a Function> {
-    let mut found = None;
-    for (_, function) in object.functions.iter() {
-        if !function.name.is(name) {
-            continue;
-        }
-        if found.is_some() {
-            return None;
-        }
-        found = Some(function);
-    }
-    found
-}
-
-/// The slot at an offset into a function's section; none outside the function.
-fn slot_at(function: &Function, offset: u64) -> Option<usize> {
-    let within = offset.checked_sub(function.section_offset as u64)?;
-    let slot = (within / bpf_insn::SIZE as u64) as usize;
-    if slot < function.instructions.len() {
-        Some(slot)
-    } else {
-        None
-    }
-}
-
-impl RefusedTarget<'_> {
-    /// Whether the target is a symbol.
-    fn is(self, symbol: &Symbol) -> bool {
-        match self {
-            RefusedTarget::Symbol(index) => symbol.index == index,
-            RefusedTarget::Extern(wanted) => match &symbol.name {
-                Some(name) => symbol.is_extern() && name.is(wanted),
-                None => false,
-            },
-        }
-    }
-}
-
-/// The first slot of a function that refers to a target.
-fn first_slot(object: &Object, function: &Function, target: RefusedTarget<'_>) -> Option<usize> {
-    let relocations = object.relocations.get(function.section_index.0 as u64)?;
-    for (offset, relocation) in relocations.from_number(function.section_offset as u64) {
-        let slot = slot_at(function, *offset)?;
-        let Some(symbol) = object.symbol_table.get(relocation.symbol_index) else {
-            continue;
-        };
-        if target.is(symbol) {
-            return Some(slot);
+/// The slot of the first refusal of the pass over maps.
+fn first_of_maps(outcomes: &[MapOutcome]) -> Option<usize> {
+    for outcome in outcomes {
+        if outcome.slot.result.is_err() {
+            return Some(outcome.slot.slot);
         }
     }
     None
 }
 
-/// The slot of its function at which a pass refuses an object, where it is known.
-pub fn refused_slot(object: &Object, refusal: &EbpfRelocationError) -> Option<usize> {
-    let function = function_named(object, refusal.function.as_str())?;
-    match &refusal.error {
-        RelocationError::SectionNotFound { symbol_index, .. } => {
-            first_slot(object, function, RefusedTarget::Symbol(*symbol_index))
+/// The slot of the first refusal of the pass that writes externs.
+fn first_of_externs(outcomes: &[SlotOutcome]) -> Option<usize> {
+    for outcome in outcomes {
+        if outcome.result.is_err() {
+            return Some(outcome.slot);
         }
-        RelocationError::ExternNotFound { name } | RelocationError::UnresolvableSymbol { name } => {
-            first_slot(object, function, RefusedTarget::Extern(name.as_str()))
-        }
-        RelocationError::InvalidRelocationOffset { offset, .. }
-        | RelocationError::MapAddressOverflow { offset } => slot_at(function, *offset),
-        _ => None,
     }
+    None
+}
+
+/// The slot at which one of these steps refuses a function.
+fn slot_with(
+    alloc: Global,
+    object: &Object,
+    steps: &Steps<'_>,
+    symbols: SymbolText<'_>,
+    error: &PrepareError,
+) -> Result<Option<usize>, PrepareError> {
+    match error {
+        PrepareError::Maps(_) => {
+            let outcomes = map_outcomes_with(alloc, object, steps)?;
+            Ok(first_of_maps(outcomes.as_slice()))
+        }
+        PrepareError::Externs(_) => {
+            let outcomes = extern_outcomes_with(alloc, object, steps, symbols)?;
+            Ok(first_of_externs(outcomes.as_slice()))
+        }
+        _ => Ok(None),
+    }
+}
+
+/// The slot of its function at which all passes, as `finished_object` makes them, refuse an object with this error; none
+/// where the error is not that of a slot.
+pub fn refused_slot(
+    alloc: Global,
+    object: &Object,
+    kernel: &Kernel,
+    error: &PrepareError,
+) -> Result<Option<usize>, PrepareError> {
+    let names = object.map_names(alloc)?;
+    let descriptors = numbered_descriptors(alloc, names.as_slice())?;
+    let steps = Steps::all_with(kernel.types.as_ref(), &descriptors);
+    slot_with(alloc, object, &steps, SymbolText(&kernel.symbols), error)
 }

@@ -1,6 +1,7 @@
 //! Findings over kernels, grouped by what each is about.
 
 use cli_common::kinds::Kind;
+use cli_common::source_lines::SourceLine;
 use ebpf_base::Text;
 use std::alloc::{AllocError, Global};
 use std::collections::{BTreeMap, BTreeSet};
@@ -72,7 +73,7 @@ pub struct SourceLocation {
     /// The function that the slot was copied from, and the slot in it, where it is not the program's own.
     pub within: Option<(Text, usize)>,
     /// The source line.
-    pub line: Option<(Text, u32)>,
+    pub line: Option<SourceLine>,
     /// The kernels, by their numbers.
     pub kernels: Vec<usize>,
 }

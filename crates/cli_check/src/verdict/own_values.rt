@@ -55,6 +55,7 @@ fn is_reported(local: &Btf, relocation: &Relocation, path: &NamedPath, all: bool
         | RelocationKind::TypeIdTarget
         | RelocationKind::FieldExists
         | RelocationKind::TypeExists
+        | RelocationKind::TypeMatches
         | RelocationKind::EnumVariantExists => false,
         _ => all || asks_scalar_size(local, relocation, path),
     }

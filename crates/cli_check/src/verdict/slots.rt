@@ -45,7 +45,7 @@ fn record_key(
     reason: String,
 ) -> Result<FindingKey, AllocError> {
     let (file, line) = match &place.line {
-        Some((file, line)) => (String::from_str(alloc, file.as_str())?, *line),
+        Some(line) => (String::from_str(alloc, line.file.as_str())?, line.number),
         None => (String::new(alloc), 0),
     };
     Ok(FindingKey {

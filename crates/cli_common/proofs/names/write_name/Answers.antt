@@ -10,7 +10,7 @@ pub loop-c-preserved : goal.loop-c-preserved
 loop-c-preserved g c = λ plain.
     let so_far = c.loop-c.invariant plain in
     let more = flat_map-append shown_char c.loop-c.yielded (c.in-Some.c ∷ []) ∙ ap (λ l. flat_map shown_char c.loop-c.yielded ++ l) (append-nil (shown_char c.in-Some.c)) in
-    put_two _ _ _ _ _ _ _ so_far (c.write_shown.ensures so_far.plain (search rules)) (sym more)
+    put_two _ _ _ _ _ _ _ so_far (c.write_visible.ensures so_far.plain (search rules)) (sym more)
 
 pub returns : goal.returns
 returns g c = λ plain ok.
