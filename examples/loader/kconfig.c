@@ -44,7 +44,7 @@ static const char *wrapped_call(void)
 }
 
 /* Whether a loader knows the value of an extern by the kernel's version and types alone. */
-static int is_known(const struct loading *of, const char *name, uint64_t *value)
+static int is_known(struct loading *of, const char *name, uint64_t *value)
 {
 	uint32_t running = running_version();
 
@@ -90,7 +90,7 @@ static struct bytes read_config(const char *given)
 }
 
 /* The value of an extern, or NULL where none is known. */
-static const uint8_t *value_of(const struct loading *of, const char *name, struct bytes config, size_t *len)
+static const uint8_t *value_of(struct loading *of, const char *name, struct bytes config, size_t *len)
 {
 	const uint8_t *value;
 	uint64_t known;

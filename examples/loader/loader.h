@@ -19,7 +19,7 @@ struct bytes {
 struct loading {
 	struct ebpf_handle *object;
 	struct bytes file;
-	struct ebpf_btf *kernel_types;
+	struct ebpf_btf *kernel_types; /* NULL until they are asked for */
 	struct bytes kernel_symbols;
 	struct bytes types; /* the object's types as the library writes them for the kernel; kept until it changes */
 	int own_types; /* the descriptor of the object's types; -1 where it has none, or the kernel doesn't take them */
@@ -47,10 +47,10 @@ uint32_t running_version(void);
 void define_kconfig(struct loading *of, const char *config_path);
 
 /* types.c */
-void read_kernel_types(struct loading *of);
+const struct ebpf_btf *wanted_types(struct loading *of);
 void load_types(struct loading *of);
 uint32_t target_of(struct loading *of, size_t program);
-int has_function(const struct loading *of, const char *name);
+int has_function(struct loading *of, const char *name);
 void print_targets(struct loading *of);
 
 /* shared.c */

@@ -69,7 +69,6 @@ static void open_object(struct loading *of, const char *path, const struct optio
 	of->file = read_file(path);
 	check(of, path, ebpf_open(of->file.at, of->file.len, NULL, &of->object));
 	check(of, path, ebpf_leave_out(of->object, options->without, options->without_count));
-	read_kernel_types(of);
 }
 
 /* Runs all passes over the object. */
@@ -85,7 +84,7 @@ static void prepare(struct loading *of, const char *path)
 		rows[at].name_len = map.name_len;
 		rows[at].descriptor = of->maps[at];
 	}
-	inputs.btf = of->kernel_types;
+	inputs.btf = wanted_types(of);
 	inputs.descriptors = rows;
 	inputs.descriptors_len = count;
 	inputs.symbols = of->kernel_symbols.at;

@@ -1,15 +1,29 @@
 /* The object's types in the kernel, and the kernel's types that programs are attached to. */
 #include "loader.h"
 
-/* Reads the kernel's types, once for all calls that are given them. */
-void read_kernel_types(struct loading *of)
+/* The kernel's types, read where they are first asked for, once for all calls that are given them. */
+static const struct ebpf_btf *kernel_types(struct loading *of)
 {
-	struct bytes types = read_file("/sys/kernel/btf/vmlinux");
-	uint32_t number = ebpf_btf_open(types.at, types.len, &of->kernel_types);
+	struct bytes types;
+	uint32_t number;
 
+	if (of->kernel_types)
+		return of->kernel_types;
+	types = read_file("/sys/kernel/btf/vmlinux");
+	number = ebpf_btf_open(types.at, types.len, &of->kernel_types);
 	free(types.at);
 	if (number != EBPF_DONE) /* of no handle */
 		errx(1, "the kernel's types: the library refuses: %s (%u)", ebpf_strerror(number), number);
+	return of->kernel_types;
+}
+
+/* The kernel's types where the passes compare the object's with them, else NULL: they are megabytes. */
+const struct ebpf_btf *wanted_types(struct loading *of)
+{
+	struct ebpf_object_info info = { 0 };
+
+	check(of, "types", ebpf_info(of->object, &info));
+	return info.has_relocations || info.has_typed_externs ? kernel_types(of) : NULL;
 }
 
 /*
@@ -39,10 +53,10 @@ void load_types(struct loading *of)
 }
 
 /* What programs of a section are attached to, as the id of a type of the kernel. */
-static uint32_t look_up_target(const struct loading *of, const char *section, uint32_t *answer)
+static uint32_t look_up_target(struct loading *of, const char *section, uint32_t *answer)
 {
 	uint32_t type_id = 0;
-	uint32_t number = ebpf_attach_target_with(section, strlen(section), of->kernel_types, answer, &type_id);
+	uint32_t number = ebpf_attach_target_with(section, strlen(section), kernel_types(of), answer, &type_id);
 
 	if (number != EBPF_DONE) /* of no handle */
 		errx(1, "%s: the library refuses: %s (%u)", section, ebpf_strerror(number), number);
@@ -64,7 +78,7 @@ uint32_t target_of(struct loading *of, size_t program)
 }
 
 /* Whether the kernel's types have a function. */
-int has_function(const struct loading *of, const char *name)
+int has_function(struct loading *of, const char *name)
 {
 	char section[64] = "fentry/";
 	uint32_t answer = 0;
