@@ -22,6 +22,7 @@ from rows import (
     btf_ext_faults,
     btf_fits,
     btf_kinds,
+    btf_matches,
     btf_one_int,
     compiled,
     core_bit_fields,
@@ -67,7 +68,7 @@ OBJECTS = [small_object, programs, texts, license_and_version, order, maps, btf_
 OBJECTS += [fds_written, externs_written, resolved, prepared, printed, values, names, loaded_names, compiled, references, big_endian, broad]
 OBJECTS += [kallsyms]
 
-TYPES = [btf_one_int, btf_kinds, btf_added, btf_candidates, btf_fits, btf_ext, btf_ext_faults]
+TYPES = [btf_one_int, btf_kinds, btf_added, btf_candidates, btf_fits, btf_matches, btf_ext, btf_ext_faults]
 
 # Relocations by types; their limits take long.
 CORE = [core_places, core_paths, core_candidates, core_matches, core_fields, core_values, core_bit_fields]

@@ -20,6 +20,14 @@ OPERATORS = [{"→"}, {"↔"}, {"then", "else"}, {"×"}, {"||"}, {"&&"}, {"≡",
 FILLED = {"→", "∷", "++"}
 SHORT = 40
 OPENING, CLOSING = "({⟨", ")}⟩"
+# Files with lines that are broken once their crates change: breaking one proves each crate above anew.
+AWAITED = {
+    "crates/ebpf_btf_ext/specs/ExtReading.antt",
+    "crates/ebpf_core_candidates/specs/TypeMatches.antt",
+    "crates/ebpf_core_candidates/src/type_match.rt",
+    "crates/ebpf_core_relo/specs/PrivateContracts.antt",
+    "crates/ebpf_load_info/specs/PrivateContracts.antt",
+}
 CLAUSE = re.compile(r"( *)((?:ensures|requires|ghost)\*?(?: [\w*]+:?)?(?: =)?) \{ (.*) \}(;|,|)$")
 
 
@@ -327,7 +335,7 @@ def main():
     for path, is_spec in held:
         for number, line in enumerate(path.read_text().split("\n"), 1):
             if is_limited(line, is_spec):
-                is_long = len(line) > COLUMNS
+                is_long = len(line) > COLUMNS and str(path.relative_to(TOP)) not in AWAITED
                 failed, passed = failed + is_long, passed + (not is_long)
                 if is_long and failed <= 20:
                     print(f"{path.relative_to(TOP)}:{number}: {len(line)} columns")

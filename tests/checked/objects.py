@@ -119,7 +119,7 @@ class Parts:
 
 def type_parts(types, records, lines):
     """`.BTF` with types, and `.BTF.ext` with records by sections, and with lines of the section `kprobe/p`, each a place in
-    bytes, a file and a number."""
+    bytes, a file, a number, and its text where it has one."""
     strings = Strings()
     numbers = type_words(types, strings)
     asked = [16]
@@ -127,7 +127,8 @@ def type_parts(types, records, lines):
         asked += [strings.offset(section), len(entries)]
         asked += [word for at, kind, held, access in entries for word in (at, held, strings.offset(access), kind)]
     lined = [16, strings.offset("kprobe/p"), len(lines)] if lines else []
-    lined += [word for at, file, line in lines for word in (at, strings.offset(file), 0, line << 10)]
+    for at, file, line, *text in lines:
+        lined += [at, strings.offset(file), strings.offset(text[0]) if text else 0, line << 10]
     return with_strings(numbers, strings.data), ext(lines=lined, relocations=asked)
 
 

@@ -307,8 +307,8 @@ def unusual_files(rows):
     rows.write("big", File(BIG).code("kprobe/p", EXIT).symbol("p", FUNCTION, 3, 0, 8).bytes())
     said = "ebpf: big: the file is big-endian and has code (parse: BigEndianCode)"
     rows.row("an object of the other byte order", ["check", "big", "kernel"], 1, "", said)
-    rows.write("matches", object_of([program(Asks(MOVE, 12, 2, "0"), EXIT)]))
-    said = "ebpf: matches: a CO-RE relocation has kind 12, and the known ones are 0 to 11 (parse: BtfError)"
+    rows.write("matches", object_of([program(Asks(MOVE, 13, 2, "0"), EXIT)]))
+    said = "ebpf: matches: a CO-RE relocation has kind 13, and the known ones are 0 to 11 (parse: BtfError)"
     rows.row("an object with a record of no kind", ["check", "matches", "kernel"], 1, "", said)
     (rows.folder / "empty_folder").mkdir()
     said = "ebpf: empty_folder: Is a directory (os error 21)"

@@ -1,7 +1,7 @@
 """Files as they are read as stated, and broadly: every section of code is a program's, whatever its name."""
-from rows.btf import ENUM, ENUM64, array, btf, datasec, pointer, prototype, struct_of, ty, typedef, variable, words
+from rows.btf import ENUM, ENUM64, INT, array, btf, datasec, pointer, prototype, struct_of, ty, typedef, variable, words
 from rows.case import Case
-from rows.core_sides import MOVE, TYPE_SIZE, moved, shown, type_parts
+from rows.core_sides import MOVE, TYPE_MATCHES, TYPE_SIZE, moved, one_of, shown, type_parts
 from rows.btf_defined_maps import NUMBERS, declaring, named, unexpected
 from rows.elf import BIG, EXIT, FUNCTION, OBJECT, PROGBITS, SECTION, File, changed
 from rows.loaded_names import ROWS
@@ -104,6 +104,32 @@ def said_of_programs():
             {"object": relocated(), "kernel": kernel},
             {"types_relocated kernel": refused("tc"), "broadly types_relocated kernel": f"Ok {shown([moved(24)])}"},
         ),
+    ]
+
+
+INT_32 = ty("", INT, 4, 0x01000020)
+
+
+def matched(name, kernel, value):
+    """The program `p` with a relocation that asks whether `struct s { int a; }` matches: by strict reading the object is
+    none, whatever the kernel."""
+    data = one_of([INT_32, struct_of("s", 4, ("a", 1, 0))], TYPE_MATCHES, 2, "0")
+    fault = "BtfError(InvalidRelocationKind { kind: 12 })"
+    gives = {"types_relocated kernel": fault, "broadly types_relocated kernel": f"Ok {shown([moved(value)])}"}
+    return Case(name, {"object": data, "kernel": btf(*kernel)}, gives)
+
+
+def type_matches():
+    unsigned = ty("", INT, 4, 32)
+    of_int, of_unsigned = struct_of("s___one", 8, ("b", 1, 0), ("a", 1, 32)), struct_of("s", 4, ("a", 2, 0))
+    past = one_of([INT_32, struct_of("s", 4, ("a", 1, 0))], 13, 2, "0")
+    none = "BtfError(InvalidRelocationKind { kind: 13 })"
+    return [
+        matched("a type that matches", [INT_32, of_int], 1),
+        matched("a type that matches one of two", [INT_32, unsigned, of_unsigned, of_int], 1),
+        matched("a type that matches none of its name", [INT_32, unsigned, of_unsigned], 0),
+        matched("a type of no name to match", [INT_32], 0),
+        both("a relocation behind type matches", past, "programs", none, none),
     ]
 
 
@@ -215,4 +241,4 @@ def machines():
 
 
 def cases():
-    return [*named_programs(), *sections(), *said_of_programs(), *maps(), *extras(), *licenses(), *orders(), *machines()]
+    return [*named_programs(), *sections(), *said_of_programs(), *type_matches(), *maps(), *extras(), *licenses(), *orders(), *machines()]

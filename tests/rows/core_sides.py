@@ -6,6 +6,7 @@ from rows.elf import CALL_CODE, FUNCTION, NOTHING, File, slot
 # What a relocation asks of a field, of a type, of a variant.
 OFFSET, SIZE, EXISTS, SIGNED, LEFT_SHIFT, RIGHT_SHIFT = range(6)
 LOCAL_ID, TARGET_ID, TYPE_EXISTS, TYPE_SIZE, VARIANT_EXISTS, VARIANT_VALUE = range(6, 12)
+TYPE_MATCHES = 12
 
 # What is asked of a field that has to have a size.
 QUESTIONS = [

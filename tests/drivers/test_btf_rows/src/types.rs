@@ -41,7 +41,7 @@ fn of_types(
     match action.name {
         "added" => added(alloc, btf, action.words.as_slice()),
         "candidates" => candidates(alloc, btf, action),
-        "fields" | "types" | "all_fields" | "all_types" => fits(alloc, files, btf, action),
+        "fields" | "types" | "all_fields" | "all_types" | "match" | "all_match" => fits(alloc, files, btf, action),
         "ext_prefixes" => ext_prefixes(alloc, files, btf, action),
         "ext" | "funcs" | "lines" | "relocations" => on_ext(alloc, files, btf, action),
         _ => both_answers(alloc, btf, action),

@@ -2,6 +2,7 @@
 //! is made of these lines. The command line names an object file, whose names some of them show.
 #![tactic(auto)]
 
+mod btf_maps;
 mod chosen;
 mod explained;
 mod externs;
@@ -32,6 +33,7 @@ fn show_all(lines: &mut Lines, file: &[u8]) {
     slots::show_all(lines);
     externs::show_all(lines);
     settings::show_all(lines);
+    btf_maps::show_all(lines);
     initial_slots::show_all(lines);
     chosen::show_all(lines);
     kernel_types::show_all(lines);

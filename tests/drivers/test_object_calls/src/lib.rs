@@ -1,7 +1,9 @@
-//! Tests of calls over whole files: limits, the initial values of maps, variables, and what the programs say; each by what the call gives.
+//! Tests of calls over whole files: limits, arenas, the initial values of maps, variables, and what the programs say; each by what the call gives.
 //! Nothing is promised here.
 #![tactic(auto)]
 
+#[cfg(test)]
+mod arenas;
 #[cfg(test)]
 mod chosen;
 #[cfg(test)]
@@ -12,5 +14,8 @@ mod hex;
 mod initial_slots;
 #[cfg(test)]
 mod limits;
+#[cfg(test)]
+mod slot_outcomes;
+#[cfg(test)]
 #[cfg(test)]
 mod variables;

@@ -26,7 +26,7 @@ const OBJECT: [&str; 14] = [
 ];
 
 /// The object.
-fn object(alloc: Global) -> Result<Object, ParseError> {
+pub fn object(alloc: Global) -> Result<Object, ParseError> {
     let bytes = bytes_of(alloc, &OBJECT)?;
     Object::parse(alloc, &bytes)
 }
