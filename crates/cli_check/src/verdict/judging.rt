@@ -9,10 +9,11 @@ use ebpf_base::{ByKey, Items};
 use ebpf_btf::{Btf, BtfError};
 use ebpf_core_relo::RecordOutcome;
 use ebpf_ksyms::KsymsError;
+use ebpf_load_info::{AttachTarget, attach_targets};
 use ebpf_object::prepare::PrepareError;
 use ebpf_verdict::{
-    JudgedProgram, KernelTarget, LackingExtern, ProgramCode, ProgramVerdict, Verdict, find_target,
-    judge,
+    JudgedProgram, KernelTarget, LackingExtern, ProgramCode, ProgramVerdict, Verdict, judge,
+    kernel_target,
 };
 use std::alloc::{AllocError, Global};
 
@@ -107,6 +108,19 @@ fn verdict_on(alloc: Global, loaded: &Loaded, kernel: &Btf) -> Result<Verdict, A
     judge(alloc, &loaded.object, kernel)
 }
 
+/// The attach targets of programs in a kernel with these types.
+fn targets_of(
+    alloc: Global,
+    programs: &[ObjectProgram],
+    types: &Btf,
+) -> Result<Items<AttachTarget>, AllocError> {
+    let mut sections = Vec::with_capacity(alloc, programs.len())?;
+    for program in programs {
+        sections.push(program.section.as_str())?;
+    }
+    attach_targets(alloc, &sections, types)
+}
+
 /// The position of the verdict on the program of a name.
 fn verdict_of<'a>(verdict: &'a Verdict, name: &str) -> Option<&'a ProgramVerdict> {
     for program in verdict.programs.iter() {
@@ -157,10 +171,14 @@ impl Judge<'_> {
     }
 
     /// Judges the attach target of a program: whether the kernel has no type for it, which is noted.
-    fn judge_target(&mut self, number: usize, section: &str) -> Result<bool, AllocError> {
+    fn judge_target(
+        &mut self,
+        number: usize,
+        section: &str,
+        found: AttachTarget,
+    ) -> Result<bool, AllocError> {
         let alloc = self.alloc;
-        let target = find_target(alloc, section, self.answers.types)?;
-        let KernelTarget::NotFound { name } = target else {
+        let KernelTarget::NotFound { name } = kernel_target(section, found) else {
             return Ok(false);
         };
         let section = String::from_str(alloc, section)?;
@@ -226,9 +244,14 @@ impl Judge<'_> {
         }
     }
 
-    /// The fate of the program of a number.
-    fn fate_of(&mut self, number: usize, program: &ObjectProgram) -> Result<Fate, AllocError> {
-        let is_untargeted = self.judge_target(number, program.section.as_str())?;
+    /// The fate of the program of a number, by the type that was found for its attach target.
+    fn fate_of(
+        &mut self,
+        number: usize,
+        program: &ObjectProgram,
+        found: AttachTarget,
+    ) -> Result<Fate, AllocError> {
+        let is_untargeted = self.judge_target(number, program.section.as_str(), found)?;
         let breaks = self.note_program(number, program.name.as_str())?;
         if breaks {
             return Ok(Fate::Breaks);
@@ -243,9 +266,11 @@ impl Judge<'_> {
     fn fates(&mut self, is_refused: bool) -> Result<Vec<Fate>, AllocError> {
         let answers = self.answers;
         let programs = &answers.loaded.needs.programs;
+        let found = targets_of(self.alloc, programs, answers.types)?;
         let mut all = Vec::with_capacity(self.alloc, programs.len())?;
-        for (number, program) in programs.iter().enumerate() {
-            let fate = self.fate_of(number, program)?;
+        let targets = found.into_vec().into_iter();
+        for ((number, program), found) in programs.iter().enumerate().zip(targets) {
+            let fate = self.fate_of(number, program, found)?;
             all.push(if is_refused { Fate::Breaks } else { fate })?;
         }
         Ok(all)
