@@ -17,6 +17,7 @@ mod records;
 mod settings;
 mod slots;
 mod small_object;
+mod struct_ops;
 mod types;
 
 use crate::lines::Lines;
@@ -35,6 +36,7 @@ fn show_all(lines: &mut Lines, file: &[u8]) {
     settings::show_all(lines);
     btf_maps::show_all(lines);
     initial_slots::show_all(lines);
+    struct_ops::show_all(lines);
     chosen::show_all(lines);
     kernel_types::show_all(lines);
     least_types::show_all(lines);

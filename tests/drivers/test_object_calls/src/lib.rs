@@ -17,5 +17,6 @@ mod limits;
 #[cfg(test)]
 mod slot_outcomes;
 #[cfg(test)]
+mod struct_ops;
 #[cfg(test)]
 mod variables;

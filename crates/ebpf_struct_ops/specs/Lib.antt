@@ -1,0 +1,11 @@
+pub mod TypeFacts
+pub mod KernelStructs
+pub mod Placements
+pub mod Values
+pub mod StructOpsMaps
+pub mod Uses
+pub mod Sections
+pub mod Variables
+pub mod Relocations
+pub mod ObjectVariables
+pub mod CreatedMaps
