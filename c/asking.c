@@ -21,6 +21,8 @@ size_t ebpf_layer_row(enum ebpf_kept_kind kind)
 		return sizeof(struct ebpf_initial_slot);
 	case EBPF_KEPT_OUTCOMES:
 		return sizeof(struct ebpf_record_outcome);
+	case EBPF_KEPT_REASONS:
+		return sizeof(struct ebpf_reason);
 	case EBPF_KEPT_COPIES:
 		return sizeof(struct ebpf_code_copy);
 	case EBPF_KEPT_WITHOUT_DESCRIPTORS:
@@ -63,6 +65,8 @@ static uint32_t ask_list(struct exact_handle *exact, struct ebpf_asked *asked, s
 	case EBPF_KEPT_OUTCOMES:
 		return asked->btf ? exact_ebpf_record_outcomes_with(exact, asked->btf, LISTED, EBPF_TOLD(*told)) :
 				    exact_ebpf_record_outcomes(exact, FILE_BYTES, LISTED, EBPF_TOLD(*told));
+	case EBPF_KEPT_REASONS:
+		return exact_ebpf_check(exact, asked->btf, LISTED, asked->summary, EBPF_TOLD(*told));
 	case EBPF_KEPT_WITHOUT_DESCRIPTORS:
 		return exact_ebpf_maps_without_descriptors(exact, asked->descriptors, asked->descriptors_len, FILE_BYTES,
 							   LISTED);

@@ -33,6 +33,9 @@ uint32_t exact_ebpf_attach_target_with(const void *section_name, size_t section_
 		uint32_t *answer, uint32_t *type_id);
 void exact_ebpf_btf_close(struct exact_btf *kernel);
 uint32_t exact_ebpf_btf_open(const void *types, size_t types_len, struct exact_btf *kernel);
+uint32_t exact_ebpf_check(struct exact_handle *handle, struct exact_btf *kernel, struct ebpf_reason *rows,
+		size_t rows_len, void *text, size_t text_len, struct ebpf_counts *counts,
+		struct ebpf_verdict_summary *summary, void *about, size_t about_len, struct ebpf_refusal *report);
 uint32_t exact_ebpf_clone(struct exact_handle *handle, struct exact_handle *copy);
 void exact_ebpf_close(struct exact_handle *handle);
 uint32_t exact_ebpf_define_kconfig(struct exact_handle *handle, const struct exact_value *rows, size_t rows_len,

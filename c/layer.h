@@ -74,6 +74,7 @@ enum ebpf_kept_kind {
 	EBPF_KEPT_VARIABLES,
 	EBPF_KEPT_INITIAL_SLOTS,
 	EBPF_KEPT_OUTCOMES,
+	EBPF_KEPT_REASONS,
 	EBPF_KEPT_COPIES,
 	EBPF_KEPT_WITHOUT_DESCRIPTORS,
 	EBPF_KEPT_SLOTS,
@@ -109,6 +110,7 @@ struct ebpf_asked {
 	const char *config;
 	size_t config_len;
 	uint64_t number;
+	struct ebpf_verdict_summary *summary;
 	uint32_t is_found; /* 0: the configuration has no value */
 };
 

@@ -26,6 +26,11 @@ struct places {
 	size_t name_at, name_len, other_at;
 };
 
+static int has_two_names(enum ebpf_kept_kind kind)
+{
+	return kind == EBPF_KEPT_VARIABLES || kind == EBPF_KEPT_INITIAL_SLOTS || kind == EBPF_KEPT_REASONS;
+}
+
 /* The name of a row, and the row, which then points into that. */
 static const char *row_of(const struct ebpf_handle *handle, const struct ebpf_kept *list, size_t index, void *row)
 {
@@ -43,7 +48,7 @@ static const char *row_of(const struct ebpf_handle *handle, const struct ebpf_ke
 	if (row) {
 		memcpy(row, from, size);
 		memset(row, 0, sizeof(size_t));
-		if (list->kind == EBPF_KEPT_VARIABLES || list->kind == EBPF_KEPT_INITIAL_SLOTS) {
+		if (has_two_names(list->kind)) {
 			places.other_at -= places.name_at;
 			memcpy((size_t *)row + 2, &places.other_at, sizeof(size_t));
 		}
@@ -170,6 +175,23 @@ uint32_t ebpf_record_outcomes_with(const struct ebpf_handle *handle, const struc
 const char *ebpf_record_outcome_at(const struct ebpf_handle *handle, size_t index, struct ebpf_record_outcome *row)
 {
 	return taken_at(handle, EBPF_KEPT_OUTCOMES, index, row);
+}
+
+uint32_t ebpf_check(const struct ebpf_handle *handle, const struct ebpf_btf *btf, struct ebpf_verdict_summary *summary)
+{
+	struct ebpf_verdict_summary written = { 0 };
+	struct exact_btf no_types = { NULL };
+	struct ebpf_asked asked = { .kind = EBPF_KEPT_REASONS, .btf = EBPF_TYPES(btf), .summary = &written };
+	uint32_t number = ebpf_layer_taken(handle, &asked, NULL);
+
+	if (number == EBPF_DONE && summary)
+		*summary = written;
+	return number;
+}
+
+const char *ebpf_reason_at(const struct ebpf_handle *handle, size_t index, struct ebpf_reason *row)
+{
+	return taken_at(handle, EBPF_KEPT_REASONS, index, row);
 }
 
 uint32_t ebpf_link_map(const struct ebpf_handle *handle, const char *name, size_t name_len, size_t *count)

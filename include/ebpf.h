@@ -1108,6 +1108,70 @@ EBPF_CHECKED uint32_t ebpf_record_outcomes_with(const struct ebpf_handle *handle
 			size_t *count);
 const char *ebpf_record_outcome_at(const struct ebpf_handle *handle, size_t index, struct ebpf_record_outcome *row);
 
+/* whether an object runs on a kernel, by the types of both */
+enum ebpf_verdict {
+	EBPF_VERDICT_OK = 0,	 /* all passes succeed, and no program has a reason to break */
+	EBPF_VERDICT_BREAKS = 1, /* there is such a reason */
+};
+
+/* why programs break on a kernel */
+enum ebpf_reason_kind {
+	/* all programs break: the row names no program */
+	EBPF_REASON_EMPTY_SECTION = 1, /* a section of CO-RE relocations has none */
+	EBPF_REASON_EXTERN = 2,	       /* the kernel lacks the extern `subject`, or has another of the name: `fault` */
+	EBPF_REASON_PASS = 3,	       /* a pass before linking refuses the object by the number `fault`, about `subject` */
+
+	/* all programs where the row names none, else one program */
+	EBPF_REASON_RELOCATION = 4, /* the CO-RE relocation `relocation` is refused by the number `fault` */
+
+	/* one program */
+	EBPF_REASON_LINKING = 5,  /* it can't be linked: the number `fault`, about the function `subject` */
+	EBPF_REASON_POISONED = 6, /* it reaches the slot, and the kernel lacks what `relocation` asks for */
+	EBPF_REASON_HELPER = 7,	  /* it reaches the slot, and the kernel lacks the helper of `number` (enum bpf_func_id) */
+	EBPF_REASON_FUNCTION = 8, /* it reaches the slot, and the kernel lacks the weak extern `subject` that is called */
+	EBPF_REASON_MAP_TYPE = 9, /* the kernel lacks the type `number` of the map `subject` that the slot refers to */
+	EBPF_REASON_TARGET = 10,  /* the types have no `subject` that it is attached to; it doesn't break by this alone */
+};
+
+struct ebpf_reason {
+	size_t name_at, name_len;	/* the place of the program's name in the text; length 0: all programs break */
+	size_t subject_at, subject_len; /* the place of the name of what is lacking or refused; length 0: it has none */
+	size_t slot;			/* the number of the slot in the linked program */
+	size_t section;			/* the index of the section of the function that is copied there */
+	uint64_t address;		/* the function's address there, in bytes */
+	size_t function_slot;		/* the number of the slot in the function */
+	size_t relocation;		/* the index of its row, as ebpf_record_outcome_at takes it */
+	uint64_t number;		/* of the helper, of the map type, or the index of the extern's symbol; else 0 */
+	uint32_t kind;			/* enum ebpf_reason_kind */
+	uint32_t fault;			/* of enum ebpf_number; 0 where nothing is refused */
+	uint32_t has_slot;		/* 1 or 0: whether `slot` to `function_slot` say something; else these are 0 */
+	uint32_t has_relocation;	/* 1 or 0: whether `relocation` says something; else it is 0 */
+};
+
+struct ebpf_verdict_summary {
+	size_t programs_ok;		/* how many have no reason to break */
+	size_t programs_break;		/* how many break */
+	size_t programs_without_target; /* how many have no other reason than EBPF_REASON_TARGET */
+	size_t reasons;			/* how many rows ebpf_reason_at has */
+	uint32_t verdict;		/* enum ebpf_verdict */
+};
+
+/*
+ * Judges the object by a kernel's types, as `ebpf check` does, and takes the list of the reasons for which programs break:
+ * first those of all programs, then those of each program, by their names in byte order. The number is 0 whatever the
+ * verdict is. `ebpf_reason_at` returns the name of the row's program, and that of its subject follows.
+ *  - With EBPF_VERDICT_OK all passes succeed, given these types and a descriptor of each map. Each program then reaches no
+ *    poisoned slot and no call of what the kernel lacks. The kernel's verifier is not asked.
+ *  - Externs without a type and kconfig externs count as found. Helpers and map types are known where the types have
+ *    enum bpf_func_id and enum bpf_map_type. Modules, and targets of freplace, are not looked at.
+ *  - Sections with `?` are judged too: leave out what is not loaded (ebpf_leave_out).
+ *  - Call it before the passes. The object is unchanged.
+ * Numbers: 2, 3.
+ */
+EBPF_CHECKED uint32_t ebpf_check(const struct ebpf_handle *handle, const struct ebpf_btf *btf,
+			struct ebpf_verdict_summary *summary);
+const char *ebpf_reason_at(const struct ebpf_handle *handle, size_t index, struct ebpf_reason *row);
+
 /* A slot that refers to a map. */
 struct ebpf_map_slot {
 	size_t name_at, name_len; /* the place of the map's name in the text */

@@ -138,6 +138,17 @@ class _RecordOutcome(c.Structure):
     _fields_ += [(name, _u32) for name in ("has_slot", "result", "absence", "fault")]
 
 
+class _Reason(c.Structure):
+    _fields_ = [("name_at", _size), ("name_len", _size), ("subject_at", _size), ("subject_len", _size), ("slot", _size)]
+    _fields_ += [("section", _size), ("address", _u64), ("function_slot", _size), ("relocation", _size), ("number", _u64)]
+    _fields_ += [(name, _u32) for name in ("kind", "fault", "has_slot", "has_relocation")]
+
+
+class _VerdictSummary(c.Structure):
+    _names = ("programs_ok", "programs_break", "programs_without_target", "reasons")
+    _fields_ = [*((name, _size) for name in _names), ("verdict", _u32)]
+
+
 class _CodeCopy(c.Structure):
     _fields_ = [("name_at", _size), ("name_len", _size), ("base", _size), ("slots", _size), ("section", _size), ("address", _u64)]
 
@@ -224,6 +235,8 @@ CALLS = {
     "ebpf_record_outcomes": (_handle, *_bytes, _p(_size)),
     "ebpf_record_outcomes_with": (_handle, _handle, _p(_size)),
     "ebpf_record_outcome_at": (_handle, _size, _p(_RecordOutcome)),
+    "ebpf_check": (_handle, _handle, _p(_VerdictSummary)),
+    "ebpf_reason_at": (_handle, _size, _p(_Reason)),
     "ebpf_maps_without_descriptors": (_handle, _p(_Descriptor), _size, _p(_size)),
     "ebpf_map_without_descriptor_at": (_handle, _size, _p(_MapSlot)),
     "ebpf_relocate_maps": (_handle, _p(_Descriptor), _size),
@@ -472,6 +485,35 @@ class Outcome:
     fault: int | None
 
 
+@dataclasses.dataclass(frozen=True)
+class Reason:
+    """A reason for which programs break on a kernel: `kind` is of `enum ebpf_reason_kind`. `program` is empty where all programs
+    break, `subject` where nothing has a name. `slot` is that of the linked program, and comes from `function_slot` of the function
+    at `address` of a section. `relocation` is an index of what `outcomes` returns. What a reason has not is None."""
+
+    kind: int
+    program: str
+    subject: str
+    slot: int | None
+    section: int | None
+    address: int | None
+    function_slot: int | None
+    relocation: int | None
+    number: int
+    fault: int | None
+
+
+@dataclasses.dataclass(frozen=True)
+class Verdict:
+    """The verdict of a kernel on an object: how many programs run there, and the reasons of the others."""
+
+    is_ok: bool
+    programs_ok: int
+    programs_break: int
+    programs_without_target: int
+    reasons: list
+
+
 def _program(row, name):
     flags = {name: bool(row.flags >> bit & 1) for bit, name in enumerate(("is_sleepable", "is_multi", "has_frags", "wants_target", "is_optional"))}
     attach_type = None if row.attach_type == 0xFFFFFFFF else row.attach_type
@@ -498,6 +540,13 @@ def _result(row, name):
     numbers = [row.value, row.absence, row.fault]
     given = [number if row.result == place else None for place, number in enumerate(numbers)]
     return Outcome(name, row.number, row.section, row.address, row.slot if row.has_slot else None, *given)
+
+
+def _reason(row, name, place):
+    subject = c.string_at(place + row.subject_at, row.subject_len).decode("utf-8", "replace")
+    numbers = row.slot, row.section, row.address, row.function_slot
+    slots = numbers if row.has_slot else (None,) * 4
+    return Reason(row.kind, name, subject, *slots, row.relocation if row.has_relocation else None, row.number, row.fault or None)
 
 
 class Types:
@@ -813,6 +862,15 @@ class Object(_Linkable):
         self._made(_over("ebpf_record_outcomes", types, self._handle, c.byref(count)))
         rows = self._rows(_RecordOutcome, library.ebpf_record_outcome_at, count)
         return [_result(row, name) for row, name, _ in rows]
+
+    def check(self, types):
+        """The verdict of a kernel (`Types`) on the object, as a `Verdict`. Externs without a type and kconfig externs count as
+        found; programs of sections with `?` are judged too."""
+        summary = _VerdictSummary()
+        self._made(library.ebpf_check(self._handle, types._handle, c.byref(summary)))
+        rows = self._rows(_Reason, library.ebpf_reason_at, _size(summary.reasons))
+        counts = summary.programs_ok, summary.programs_break, summary.programs_without_target
+        return Verdict(summary.verdict == 0, *counts, [_reason(*row) for row in rows])
 
     def least_types(self, types):
         """The types of a kernel (`Types`) that the CO-RE relocations ask for, as bytes with ids of their own. Each relocation has

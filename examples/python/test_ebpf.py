@@ -233,6 +233,19 @@ class Passes(unittest.TestCase):
         with self.assertRaises(ValueError):
             ebpf.attach_target("xdp", types)
 
+    def test_verdicts(self):
+        with ebpf.open(COUNTER) as object, ebpf.Types(object.kernel_types(COUNTER)) as own, ebpf.Types(NO_TYPES) as none:
+            verdict = object.check(own)
+            self.assertEqual((verdict.is_ok, verdict.programs_ok, verdict.programs_break, verdict.reasons), (True, 2, 0, []))
+            verdict, outcomes = object.check(none), object.outcomes(none)
+            self.assertFalse(verdict.is_ok)
+            self.assertEqual(verdict.programs_ok + verdict.programs_break, 2)
+            for reason in verdict.reasons:
+                of = outcomes[reason.relocation]
+                self.assertEqual((reason.kind, reason.subject, reason.fault), (6, "", None))
+                self.assertEqual((reason.section, reason.address, reason.function_slot), (of.section, of.address, of.slot))
+                self.assertIn(reason.program, {program.name for program in object.programs()})
+
     def test_what_is_wanted(self):
         with ebpf.open(COUNTER) as object:
             self.assertFalse(object.wants_symbols())

@@ -1,4 +1,4 @@
-/* One thing by its name, link maps, and what records come to. */
+/* One thing by its name, link maps, what records come to, and verdicts. */
 #include "checked.h"
 #include "told.h"
 
@@ -170,9 +170,53 @@ static void check_outcomes(const struct guarded *file, const struct guarded *typ
 	release(&about);
 }
 
+/* ---- the verdict of a kernel */
+
+static struct ebpf_btf *read_types;
+static struct ebpf_verdict_summary summary;
+
+static uint32_t reasons_of(struct ebpf_handle *of, void *rows, size_t room, char *text, size_t text_room,
+			   struct ebpf_counts *counts, char *about, size_t about_room, struct ebpf_refusal *refusal)
+{
+	return exact_ebpf_check(EXACT(of), (struct exact_btf *)read_types, rows, room, text, text_room, counts, &summary, about,
+				about_room, refusal);
+}
+
+static const struct told_list reasons = { "ebpf_check", reasons_of, sizeof(struct ebpf_reason), 2 };
+
+static void check_verdict(const struct guarded *file, const struct guarded *types)
+{
+	struct ebpf_handle *object = opened(file);
+	struct guarded none = guarded(0), about = guarded(8), told = guarded(sizeof(summary));
+	struct ebpf_counts counts = { 77, 78 };
+	struct ebpf_refusal refusal = unwritten();
+	struct exact_btf no_types = { NULL };
+
+	CHECK("ebpf_check", ebpf_btf_open(types->at, types->size, &read_types) == EBPF_DONE);
+	check_told_list(&reasons, object);
+	CHECK("ebpf_check", exact_ebpf_check(EXACT(object), &no_types, (void *)none.at, 0, none.at, 0, &counts, (void *)told.at,
+					     about.at, 8, &refusal) == EBPF_CLOSED);
+	CHECK("ebpf_check", is_told(&refusal, EBPF_CLOSED, 0) && counts.rows == 77 && counts.text == 78);
+	CHECK("ebpf_check", is_untouched(&about, 0) && is_untouched(&told, 0));
+	refusal = unwritten();
+	/* the summary is written where rows have no room */
+	CHECK("ebpf_check", exact_ebpf_check(EXACT(object), (struct exact_btf *)read_types, (void *)none.at, 0, none.at, 0,
+					     &counts, (void *)told.at, about.at, 8, &refusal) == EBPF_ROOM);
+	CHECK("ebpf_check", is_told(&refusal, EBPF_ROOM, 0) && is_untouched(&about, 0) && is_untouched(&told, sizeof(summary)));
+	memcpy(&summary, told.at, sizeof(summary));
+	CHECK("ebpf_check", summary.reasons == counts.rows && summary.verdict == EBPF_VERDICT_BREAKS);
+	CHECK("ebpf_check", summary.programs_break > 0 && summary.programs_without_target == 0);
+	ebpf_btf_close(read_types);
+	ebpf_close(object);
+	release(&none);
+	release(&about);
+	release(&told);
+}
+
 void check_found_calls(const struct guarded *small, const struct guarded *counter, const struct guarded *types)
 {
 	check_found(counter, "on_packet", "counts");
 	check_link_maps(small);
 	check_outcomes(counter, types);
+	check_verdict(counter, types);
 }

@@ -10,7 +10,7 @@
  *	                                     change what the handle holds, and print `NAME NUMBER ABOUT {DETAIL N ..}`
  *	programs named listed declared sections info slots records     list what it holds
  *	kernel_types target=SECTION settings config=NAME number=NAME:N define=NAME:DIGITS,.. initial variables read=NAME
- *	data=MAP:DIGITS find_map=NAME find_program=NAME link_map=NAME link_references=NAME outcomes
+ *	data=MAP:DIGITS find_map=NAME find_program=NAME link_map=NAME link_references=NAME outcomes check
  *	                                     the calls for loaders, which list what they find and print their numbers; a
  *	                                     configuration's text stands in the place of SYMBOLS
  *	ask=CALL ask=CALL:NAME               asks one of the calls that list, with ample room, and prints its number
@@ -18,6 +18,7 @@
  * With -m the last action stands between the lines "== begin" and "== end" and its answer behind them; what the handle
  * holds stands before, and behind where the number is not 0.
  */
+#include "check_calls.h"
 #include "found_calls.h"
 #include "listed.h"
 #include "record_calls.h"
@@ -178,6 +179,8 @@ static uint32_t change(const char *name, char *rest, int counted)
 		number = found_call(&on, name, rest);
 	if (number < 0)
 		number = record_call(&on, name);
+	if (number < 0)
+		number = check_call(&on, name);
 	if (number >= 0)
 		return (uint32_t)number;
 	if (!strcmp(name, "calls") && !counted)
@@ -243,6 +246,8 @@ static uint32_t ask(char *rest)
 		of_loader = ask_found_call(&on, call, name, &room);
 	if (of_loader < 0)
 		of_loader = ask_record_call(&on, call);
+	if (of_loader < 0)
+		of_loader = ask_check_call(&on, call);
 	if (of_loader >= 0) {
 		number = (uint32_t)of_loader;
 		counts = room.counts;

@@ -4,7 +4,7 @@ import sys
 from pathlib import Path
 
 TOP = Path(__file__).parents[2]
-ROWS = TOP / "crates/capi_rows/src"
+CRATES = TOP / "crates"
 sys.path.append(str(TOP / "tools"))
 
 import c_layer  # noqa: E402
@@ -62,7 +62,7 @@ def fields_in_c():
 def fields_in_rattle():
     """The types of the fields of each struct that C reads or writes."""
     form = r"#\[repr\(C\)\]\s*(?:#\[[^\]]*\]\s*)*pub struct (ebpf_\w+) \{(.*?)^\}"
-    for path in sorted(ROWS.glob("*.rt")):
+    for path in sorted(CRATES.glob("capi_*/src/*.rt")):
         for name, body in re.findall(form, path.read_text(), re.MULTILINE | re.DOTALL):
             kinds = re.findall(r"^\s*pub \w+: (\w+),", body, re.MULTILINE)
             yield c_layer.NAMES.get(name, name), [c_layer.named(kind) for kind in kinds]

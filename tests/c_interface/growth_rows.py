@@ -21,7 +21,8 @@ class GrowthRow(Row):
         self.answer = answer
         if answer is None:
             self.endings = ("",)
-        self.may_do_without = actions[-1].split("=")[0] in ("open", "open_broad", "open_within", "prepare", "prepare_handle")
+        parses = actions[-1].split("=")[0] in ("open", "open_broad", "open_within", "prepare", "prepare_handle")
+        self.may_do_without = parses or actions[-1] == "ask=check"
 
     def ample_fault(self, ample):
         parts = Parts(ample.out)
@@ -105,6 +106,11 @@ def rows(program):
         GrowthRow(program, "ebpf_record_outcomes", (core, types, b""), "open", "ask=outcomes"),
         GrowthRow(program, "ebpf_record_outcomes, counter.o", (COUNTER, TASKS, b""), "open", "ask=outcomes"),
         GrowthRow(program, "ebpf_record_outcomes, no types", (COUNTER, b"types", b""), "open", "ask=outcomes", answer="200"),
+        GrowthRow(program, "ebpf_check", (core, types, b""), "open", "ask=check"),
+        GrowthRow(program, "ebpf_check, counter.o", (COUNTER, KERNEL, b""), "open", "ask=check"),
+        GrowthRow(program, "ebpf_check, references.o", ALL, "open", "ask=check"),
+        GrowthRow(program, "ebpf_least_types", (core, types, b""), "open", "ask=least_types"),
+        GrowthRow(program, "ebpf_least_types, counter.o", (COUNTER, TASKS, b""), "open", "ask=least_types"),
     ]
     for count in range(3, 1 + len(passes)):
         found.append(GrowthRow(program, f"{passes[count - 1]}, references.o", ALL, *passes[:count]))

@@ -87,6 +87,7 @@ static void give_uninitialised(struct counted *of)
 	struct ebpf_map_slot slot;
 	struct ebpf_program program;
 	struct ebpf_program *rows;
+	struct ebpf_verdict_summary verdict;
 	uint32_t answer, id, wants;
 	size_t count;
 	char *text;
@@ -106,6 +107,7 @@ static void give_uninitialised(struct counted *of)
 	CHECK(of, ebpf_btf_open(of->given->types.at, 5, &none) == EBPF_TYPES_READ_INVALID_HEADER && !none);
 	CHECK(of, ebpf_attach_target_with("xdp", 3, btf, &answer, &id) == EBPF_DONE && answer == EBPF_TARGET_NOT_WANTED && !id);
 	CHECK(of, ebpf_record_outcomes_with(handle, btf, &count) == EBPF_DONE && count);
+	CHECK(of, ebpf_check(handle, btf, &verdict) == EBPF_DONE && verdict.programs_ok + verdict.programs_break);
 	CHECK(of, ebpf_maps_without_descriptors(handle, NULL, 0, &count) == EBPF_DONE && count);
 	CHECK(of, ebpf_map_without_descriptor_at(handle, count - 1, &slot) && slot.name_len);
 	CHECK(of, ebpf_wants_symbols(handle, &wants) == EBPF_DONE && wants <= 1);

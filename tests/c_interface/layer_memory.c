@@ -138,6 +138,13 @@ static uint32_t take_least(struct ebpf_handle **of)
 	return kept(*of, ebpf_least_types(*of, types_read, NULL));
 }
 
+static uint32_t take_verdict(struct ebpf_handle **of)
+{
+	struct ebpf_verdict_summary summary;
+
+	return ebpf_check(*of, types_read, &summary);
+}
+
 static uint32_t relocate_with(struct ebpf_handle **of)
 {
 	return ebpf_relocate_types_with(*of, types_read);
@@ -277,6 +284,7 @@ static const struct {
 	{ "ebpf_maps_without_descriptors", take_missing, 1, EBPF_DONE },
 	{ "ebpf_record_outcomes_with", take_outcomes_with, 1, EBPF_DONE },
 	{ "ebpf_least_types", take_least, 1, EBPF_DONE },
+	{ "ebpf_check", take_verdict, 1, EBPF_DONE },
 	{ "ebpf_relocate_types_with", relocate_with, 1, EBPF_DONE },
 	{ "ebpf_prepare_handle, with types", prepare_held_with, 1, EBPF_DONE },
 	{ "ebpf_set_values", set_values, 1, EBPF_DONE },

@@ -186,6 +186,40 @@ static void check_least(const struct bytes *file, const struct bytes *types, con
 	ebpf_close(of);
 }
 
+static void check_verdict(const struct bytes *file, const struct ebpf_btf *btf)
+{
+	struct ebpf_handle *of = object_of(file), *other = object_of(file), *closed = NULL;
+	struct ebpf_verdict_summary summary, again = { 77, 78, 79, 80, 81 };
+	struct ebpf_reason row;
+	const char *name;
+	size_t breaking = 0, at = 0;
+
+	CHECK("a verdict", !ebpf_reason_at(of, 0, &row) && is_last(of, EBPF_NO_ROW));
+	CHECK("a verdict", ebpf_check(of, btf, &summary) == EBPF_DONE && is_last(of, EBPF_DONE));
+	CHECK("a verdict", summary.programs_ok + summary.programs_break + summary.programs_without_target ==
+				   ebpf_program_count(of));
+	for (; (name = ebpf_reason_at(of, at, &row)); at++) {
+		CHECK("a verdict", strlen(name) == row.name_len && !row.name_at);
+		CHECK("a verdict", strlen(name + row.subject_at) == row.subject_len);
+		CHECK("a verdict", !row.name_len || !ebpf_find_program(of, name, row.name_len, NULL));
+		CHECK("a verdict", row.kind >= EBPF_REASON_EMPTY_SECTION && row.kind <= EBPF_REASON_TARGET);
+		breaking += row.kind != EBPF_REASON_TARGET;
+	}
+	CHECK("a verdict", at == summary.reasons && is_last(of, EBPF_NO_ROW));
+	CHECK("a verdict", (summary.verdict == EBPF_VERDICT_OK) == !breaking && !breaking == !summary.programs_break);
+	CHECK("a verdict", same_objects(of, other) && ebpf_check(of, btf, NULL) == EBPF_DONE);
+	CHECK("a verdict", ebpf_check(of, NULL, &again) == EBPF_CLOSED && is_last(of, EBPF_CLOSED));
+	CHECK("a verdict", ebpf_check(NULL, btf, &again) == EBPF_CLOSED && !ebpf_reason_at(NULL, 0, NULL));
+	CHECK("ebpf_open", ebpf_open(NULL, 0, NULL, &closed) == EBPF_PARSE_TOO_SHORT);
+	CHECK("a verdict", ebpf_check(closed, btf, &again) == EBPF_CLOSED && is_last(closed, EBPF_CLOSED));
+	CHECK("a verdict", again.programs_ok == 77 && again.reasons == 80 && again.verdict == 81);
+	/* a call that takes the handle without const drops the list */
+	CHECK("a verdict", ebpf_sanitize(of, 1) == EBPF_DONE && !ebpf_reason_at(of, 0, NULL) && is_last(of, EBPF_NO_ROW));
+	ebpf_close(closed);
+	ebpf_close(other);
+	ebpf_close(of);
+}
+
 /* Null types, null handles, and types that can't be read. */
 static void check_closed(const struct bytes *file, const struct bytes *types, const struct ebpf_btf *btf)
 {
@@ -252,6 +286,9 @@ void check_types(const struct layer_files *files)
 	check_targets(&files->types, btf);
 	check_least(&files->counter, &files->types, btf);
 	check_least(&files->small, &files->types, btf);
+	check_verdict(&files->counter, btf);
+	check_verdict(&files->small, btf);
+	check_verdict(&files->loaded, btf);
 	check_closed(&files->counter, &files->types, btf);
 	check_older_inputs(&files->counter, &files->types, btf);
 	ebpf_btf_close(btf);

@@ -7,5 +7,6 @@ pub mod LeavingOut
 pub mod Passes
 pub mod KernelPasses
 pub mod LeastTypes
+pub mod Checks
 pub mod PassSequences
 pub mod WantedSymbols

@@ -54,7 +54,7 @@ fn rows_of_held(
     found
 }
 
-/// Lists what each CO-RE record of an object comes to over a kernel's types: as `ebpf_record_outcomes` over the bytes that
+/// Lists the outcome of each CO-RE record of an object over a kernel's types: as `ebpf_record_outcomes` over the bytes that
 /// they were read from.
 ///
 /// # Answers

@@ -1,6 +1,7 @@
 //! What C calls.
 #![tactic(auto)]
 
+mod check_calls;
 mod handle;
 mod held;
 mod kconfig;

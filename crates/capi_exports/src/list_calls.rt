@@ -295,7 +295,7 @@ fn rows_over_bytes(
     Ok(rows_over(alloc, object, &target)?)
 }
 
-/// Lists what each CO-RE record of an object comes to over a kernel's types, which are raw BTF in the byte order that
+/// Lists the outcome of each CO-RE record of an object over a kernel's types, which are raw BTF in the byte order that
 /// its magic number tells: a row each, section by section and in order, also behind one that is refused; and the names
 /// of their sections in `text`, a zero byte behind each. The object stays. Without types or records of its own it has
 /// no rows.

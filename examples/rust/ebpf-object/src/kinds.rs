@@ -151,3 +151,29 @@ kinds! {
         Value = EBPF_ABSENT_VALUE,
     }
 }
+
+kinds! {
+    /// Why programs break on a kernel.
+    ReasonKind {
+        /// All programs: a section of CO-RE relocations has none.
+        EmptySection = EBPF_REASON_EMPTY_SECTION,
+        /// All programs: the kernel lacks an extern, or has another of the name.
+        Extern = EBPF_REASON_EXTERN,
+        /// All programs: a pass before linking refuses the object.
+        Pass = EBPF_REASON_PASS,
+        /// A CO-RE relocation is refused. It is of all programs where it is in none.
+        Relocation = EBPF_REASON_RELOCATION,
+        /// The program can't be linked.
+        Linking = EBPF_REASON_LINKING,
+        /// The program reaches a slot, and the kernel lacks what its CO-RE relocation asks for.
+        Poisoned = EBPF_REASON_POISONED,
+        /// The program reaches a call of a helper that the kernel lacks.
+        Helper = EBPF_REASON_HELPER,
+        /// The program reaches a call of a weak extern that the kernel lacks.
+        Function = EBPF_REASON_FUNCTION,
+        /// A slot refers to a map whose type the kernel lacks.
+        MapType = EBPF_REASON_MAP_TYPE,
+        /// The types have no target that the program is attached to. It doesn't break by this alone.
+        Target = EBPF_REASON_TARGET,
+    }
+}

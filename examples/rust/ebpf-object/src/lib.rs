@@ -8,7 +8,7 @@
 //!
 //! | Type | What may be done |
 //! |---|---|
-//! | [`Object`] | values and sizes are set, link maps and outcomes are asked |
+//! | [`Object`] | values and sizes are set, link maps, outcomes and verdicts are asked |
 //! | [`Steps`] | passes are made one by one, each at most once and in order |
 //! | [`Prepared`] | programs are read as `BPF_PROG_LOAD` takes them |
 //! | [`Types`] | a kernel's types, read once: the calls `_with` take them in place of bytes |
@@ -47,13 +47,14 @@ mod outcomes;
 mod prepared;
 mod rows;
 mod steps;
+mod verdict;
 
 pub use code::{FuncInfo, Insn, LineInfo};
 pub use contents::Contents;
 pub use ebpf_sys as sys;
 pub use error::{Details, Error, Failed, Refusal};
 pub use kernel::{attach_target, attach_target_with, library_version, AttachTarget, Kernel, Types};
-pub use kinds::{Absence, KconfigKind, ProgramKind, SectionKind};
+pub use kinds::{Absence, KconfigKind, ProgramKind, ReasonKind, SectionKind};
 pub use object::{Object, OpenOptions, PrepareFailed, Setting};
 pub use outcomes::{Outcome, OutcomeResult, OutcomeSlot};
 pub use prepared::Prepared;
@@ -62,3 +63,4 @@ pub use rows::{
     Variable,
 };
 pub use steps::{ExternsRelocated, ExternsResolved, MapsRelocated, Opened, Steps, TypesRelocated};
+pub use verdict::{Reason, ReasonSlot, Verdict};

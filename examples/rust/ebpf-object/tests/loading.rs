@@ -1,6 +1,7 @@
 //! What a loader asks for beside the passes.
 use ebpf_object::{
-    attach_target, attach_target_with, AttachTarget, Error, KconfigKind, Kernel, Object, OpenOptions, Types,
+    attach_target, attach_target_with, Absence, AttachTarget, Error, KconfigKind, Kernel, Object, OpenOptions,
+    OutcomeResult, ReasonKind, Types,
 };
 use std::path::Path;
 
@@ -92,6 +93,27 @@ fn types_are_read_once() {
         assert_eq!(with.slots(program), prepared.slots(program));
         assert_eq!(linked.slots(program), prepared.slots(program));
     }
+}
+
+/// The kernel of `counter.o` itself has all but its helpers and map types; one without types lacks what is asked of tasks.
+#[test]
+fn verdicts_have_reasons() {
+    let bytes = file("counter.o");
+    let object = Object::open(&bytes, OpenOptions::lenient()).expect("an object");
+    let own = Types::read(&object.kernel_types(&bytes).expect("types")).expect("the same types");
+    let verdict = object.check(&own).expect("a verdict");
+    assert!(verdict.is_ok && verdict.reasons.is_empty(), "{verdict:?}");
+    assert_eq!((verdict.programs_ok, verdict.programs_break, verdict.programs_without_target), (2, 0, 0));
+    let mut empty = vec![0x9f, 0xeb, 1, 0, 24, 0, 0, 0];
+    empty.extend([0, 0, 0, 0, 0, 0, 0, 0, 0, 0, 0, 0, 1, 0, 0, 0, 0]);
+    let types = Types::read(&empty).expect("no types");
+    let verdict = object.check(&types).expect("a verdict");
+    assert!(!verdict.is_ok && verdict.programs_break > 0, "{verdict:?}");
+    let reason = verdict.reasons.iter().find(|it| it.kind == ReasonKind::Poisoned).expect("a poisoned slot");
+    let outcome = &object.outcomes_with(&types).expect("outcomes")[reason.relocation.expect("a relocation")];
+    let (slot, of) = (reason.slot.expect("a slot"), outcome.slot.expect("a slot"));
+    assert_eq!((slot.section, slot.address, slot.function_slot), (of.section, of.address, of.slot));
+    assert_eq!(outcome.result, OutcomeResult::Absent(Absence::Type));
 }
 
 #[test]

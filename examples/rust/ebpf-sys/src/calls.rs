@@ -521,6 +521,24 @@ extern "C" {
         row: *mut ebpf_record_outcome,
     ) -> *const c_char;
 
+    /// Judges the object by a kernel's types, as `ebpf check` does, and takes the list of the reasons for which
+    /// programs break: first those of all programs, then those of each program, by their names in byte order. The
+    /// number is 0 whatever the verdict is. `ebpf_reason_at` returns the name of the row's program, and that of its
+    /// subject follows.
+    ///
+    /// - With EBPF_VERDICT_OK all passes succeed, given these types and a descriptor of each map. Each program then
+    ///   reaches no poisoned slot and no call of what the kernel lacks. The kernel's verifier is not asked.
+    /// - Externs without a type and kconfig externs count as found. Helpers and map types are known where the types
+    ///   have enum bpf_func_id and enum bpf_map_type. Modules, and targets of freplace, are not looked at.
+    /// - Sections with `?` are judged too: leave out what is not loaded (ebpf_leave_out).
+    /// - Call it before the passes. The object is unchanged.
+    ///
+    /// Numbers: 2, 3.
+    pub fn ebpf_check(handle: *const ebpf_handle, btf: *const ebpf_btf, summary: *mut ebpf_verdict_summary) -> u32;
+
+    /// `ebpf_reason_at` of the header.
+    pub fn ebpf_reason_at(handle: *const ebpf_handle, index: usize, row: *mut ebpf_reason) -> *const c_char;
+
     /// Takes the list of the slots whose own map has no row here, by their functions' sections and addresses, then by
     /// slot. `*count` is how many rows `ebpf_map_without_descriptor_at` has then: it returns the name of the row's map.
     ///

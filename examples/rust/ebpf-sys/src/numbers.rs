@@ -1018,3 +1018,45 @@ pub const EBPF_ABSENT_ENUMERATOR: u32 = 5;
 
 /// The field is there, and what is asked of it can't be had.
 pub const EBPF_ABSENT_VALUE: u32 = 6;
+
+/// Whether an object runs on a kernel, by the types of both.
+pub type ebpf_verdict = u32;
+
+/// All passes succeed, and no program has a reason to break.
+pub const EBPF_VERDICT_OK: u32 = 0;
+
+/// There is such a reason.
+pub const EBPF_VERDICT_BREAKS: u32 = 1;
+
+/// Why programs break on a kernel.
+pub type ebpf_reason_kind = u32;
+
+/// A section of CO-RE relocations has none.
+pub const EBPF_REASON_EMPTY_SECTION: u32 = 1;
+
+/// The kernel lacks the extern `subject`, or has another of the name: `fault`.
+pub const EBPF_REASON_EXTERN: u32 = 2;
+
+/// A pass before linking refuses the object by the number `fault`, about `subject`.
+pub const EBPF_REASON_PASS: u32 = 3;
+
+/// The CO-RE relocation `relocation` is refused by the number `fault`.
+pub const EBPF_REASON_RELOCATION: u32 = 4;
+
+/// It can't be linked: the number `fault`, about the function `subject`.
+pub const EBPF_REASON_LINKING: u32 = 5;
+
+/// It reaches the slot, and the kernel lacks what `relocation` asks for.
+pub const EBPF_REASON_POISONED: u32 = 6;
+
+/// It reaches the slot, and the kernel lacks the helper of `number` (enum bpf_func_id).
+pub const EBPF_REASON_HELPER: u32 = 7;
+
+/// It reaches the slot, and the kernel lacks the weak extern `subject` that is called.
+pub const EBPF_REASON_FUNCTION: u32 = 8;
+
+/// The kernel lacks the type `number` of the map `subject` that the slot refers to.
+pub const EBPF_REASON_MAP_TYPE: u32 = 9;
+
+/// The types have no `subject` that it is attached to; it doesn't break by this alone.
+pub const EBPF_REASON_TARGET: u32 = 10;

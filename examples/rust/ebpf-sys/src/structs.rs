@@ -377,6 +377,56 @@ pub struct ebpf_record_outcome {
     pub fault: u32,
 }
 
+/// `struct ebpf_reason` of the header.
+#[repr(C)]
+#[derive(Clone, Copy, Debug, Default, PartialEq, Eq)]
+pub struct ebpf_reason {
+    /// The place of the program's name in the text; length 0: all programs break.
+    pub name_at: usize,
+    /// The place of the program's name in the text; length 0: all programs break.
+    pub name_len: usize,
+    /// The place of the name of what is lacking or refused; length 0: it has none.
+    pub subject_at: usize,
+    /// The place of the name of what is lacking or refused; length 0: it has none.
+    pub subject_len: usize,
+    /// The number of the slot in the linked program.
+    pub slot: usize,
+    /// The index of the section of the function that is copied there.
+    pub section: usize,
+    /// The function's address there, in bytes.
+    pub address: u64,
+    /// The number of the slot in the function.
+    pub function_slot: usize,
+    /// The index of its row, as ebpf_record_outcome_at takes it.
+    pub relocation: usize,
+    /// Of the helper, of the map type, or the index of the extern's symbol; else 0.
+    pub number: u64,
+    /// Enum ebpf_reason_kind.
+    pub kind: u32,
+    /// Of enum ebpf_number; 0 where nothing is refused.
+    pub fault: u32,
+    /// 1 or 0: whether `slot` to `function_slot` say something; else these are 0.
+    pub has_slot: u32,
+    /// 1 or 0: whether `relocation` says something; else it is 0.
+    pub has_relocation: u32,
+}
+
+/// `struct ebpf_verdict_summary` of the header.
+#[repr(C)]
+#[derive(Clone, Copy, Debug, Default, PartialEq, Eq)]
+pub struct ebpf_verdict_summary {
+    /// How many have no reason to break.
+    pub programs_ok: usize,
+    /// How many break.
+    pub programs_break: usize,
+    /// How many have no other reason than EBPF_REASON_TARGET.
+    pub programs_without_target: usize,
+    /// How many rows ebpf_reason_at has.
+    pub reasons: usize,
+    /// Enum ebpf_verdict.
+    pub verdict: u32,
+}
+
 /// A slot that refers to a map.
 #[repr(C)]
 #[derive(Clone, Copy, Debug, Default, PartialEq, Eq)]

@@ -39,6 +39,11 @@ pub const LAYOUTS: &[Layout] = &[
         ebpf_record_outcome: name_at, name_len, number, section, address, slot, value, has_slot, result,
         absence, fault
     ),
+    layout!(
+        ebpf_reason: name_at, name_len, subject_at, subject_len, slot, section, address, function_slot,
+        relocation, number, kind, fault, has_slot, has_relocation
+    ),
+    layout!(ebpf_verdict_summary: programs_ok, programs_break, programs_without_target, reasons, verdict),
     layout!(ebpf_map_slot: name_at, name_len, section, address, slot),
     layout!(ebpf_code_copy: name_at, name_len, base, slots, section, address),
     layout!(ebpf_code_reference: slot, base, is_call),
