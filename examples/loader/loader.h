@@ -24,7 +24,7 @@ struct loading {
 	struct bytes types; /* the object's types as the library writes them for the kernel; kept until it changes */
 	int own_types; /* the descriptor of the object's types; -1 where it has none, or the kernel doesn't take them */
 	int *maps;     /* the descriptor of each map, in the order of the library's list */
-	int *programs; /* the descriptor of each program in that order, -1 where it is not loaded */
+	int *programs; /* the descriptor of each program in that order, -1 until it is loaded */
 };
 
 /* files.c: memory, and the bytes of files */
@@ -65,7 +65,7 @@ size_t find_map(const struct loading *of, const char *name);
 void put_initial(const struct loading *of, int are_programs);
 
 /* programs.c */
-void load_programs(struct loading *of, const char *asked);
+void load_programs(struct loading *of);
 size_t find_program(const struct loading *of, const char *name);
 
 /* running.c */

@@ -3,6 +3,7 @@
  * map or a variable holds then; on bpf(2) and libebpf.a alone.
  *
  * usage: loader [--config FILE] [--wait MILLISECONDS] [--without PROGRAM].. FILE PROGRAM [MAP|VARIABLE [BYTES]]
+ *        loader --load FILE
  *        loader --targets FILE
  *
  * BYTES: a file with the bytes that the program runs on; 64 zero bytes if left out.
@@ -10,12 +11,13 @@
  *           /proc/config.gz, which `zcat` unpacks.
  * --wait: how long to wait between the run and the map, or how long a program of tp_btf stays attached.
  * --without: leaves a program out, so that an extern that the kernel lacks stops only this program.
+ * --load: loads the programs and maps of the file, and runs nothing.
  * --targets: prints what the programs are attached to, as ids of the kernel's types, and loads nothing.
  *
- * Programs of a section with `?` are loaded where they are asked for. A program of iter runs as a walk, whose lines are
- * printed; one of tp_btf is attached; the others run once by themselves, where the kernel does that. Each map is made anew,
- * also where it says that it is to be pinned. The status is 0, or 1 with a line on standard error that says whether the
- * library or the kernel refuses, and what, behind the kernel's own log.
+ * Of sections with `?` only PROGRAM is loaded; the others are left out, with what they alone need. A program of iter runs as
+ * a walk, whose lines are printed; one of tp_btf is attached; the others run once by themselves, where the kernel does that.
+ * Each map is made anew, also where it says that it is to be pinned. The status is 0, or 1 with a line on standard error that
+ * says whether the library or the kernel refuses, and what, behind the kernel's own log.
  */
 #include "loader.h"
 
@@ -23,6 +25,7 @@ struct options {
 	const char *config;
 	unsigned milliseconds;
 	int targets;
+	int only_loads;
 	const char **without; /* the names of programs that are left out */
 	size_t without_count;
 	char **words;
@@ -32,6 +35,7 @@ struct options {
 static _Noreturn void usage(void)
 {
 	fputs("usage: loader [--config FILE] [--wait MILLISECONDS] [--without PROGRAM].. FILE PROGRAM [MAP|VARIABLE [BYTES]]\n"
+	      "       loader --load FILE\n"
 	      "       loader --targets FILE\n",
 	      stderr);
 	exit(2);
@@ -46,6 +50,8 @@ static struct options parse(int count, char **word)
 	for (; at < count && !strncmp(word[at], "--", 2); at++) {
 		if (!strcmp(word[at], "--targets"))
 			of.targets = 1;
+		else if (!strcmp(word[at], "--load"))
+			of.only_loads = 1;
 		else if (!strcmp(word[at], "--config") && at + 1 < count)
 			of.config = word[++at];
 		else if (!strcmp(word[at], "--wait") && at + 1 < count)
@@ -57,9 +63,31 @@ static struct options parse(int count, char **word)
 	}
 	of.words = word + at;
 	of.count = count - at;
-	if (of.targets ? of.count != 1 : of.count < 2 || of.count > 4)
+	if (of.targets || of.only_loads ? of.count != 1 : of.count < 2 || of.count > 4)
 		usage();
 	return of;
+}
+
+/* The program that runs; NULL where none does. */
+static const char *asked_program(const struct options *options)
+{
+	return options->targets || options->only_loads ? NULL : options->words[1];
+}
+
+/* Leaves out what is not loaded: the programs of --without, and those of sections with `?` but the one that runs. */
+static void leave_out(struct loading *of, const char *path, const struct options *options)
+{
+	const char *name, *asked = asked_program(options);
+	size_t count = options->without_count;
+	const char **names = zeros(count + ebpf_program_count(of->object), sizeof(*names));
+	struct ebpf_program program;
+
+	memcpy(names, options->without, count * sizeof(*names));
+	for (size_t at = 0; !options->targets && (name = ebpf_program_at(of->object, at, &program)); at++)
+		if (program.flags & EBPF_OPTIONAL && !(asked && !strcmp(asked, name)))
+			names[count++] = name;
+	check(of, path, ebpf_leave_out(of->object, names, count));
+	free(names);
 }
 
 static void open_object(struct loading *of, const char *path, const struct options *options)
@@ -68,7 +96,7 @@ static void open_object(struct loading *of, const char *path, const struct optio
 		errx(1, "the library has the version %u", ebpf_version_number());
 	of->file = read_file(path);
 	check(of, path, ebpf_open(of->file.at, of->file.len, NULL, &of->object));
-	check(of, path, ebpf_leave_out(of->object, options->without, options->without_count));
+	leave_out(of, path, options);
 }
 
 /* Runs all passes over the object. */
@@ -106,7 +134,7 @@ static void load(struct loading *of, const struct options *options)
 	if (wants_symbols) /* they take long to read */
 		of->kernel_symbols = read_file("/proc/kallsyms");
 	prepare(of, options->words[0]);
-	load_programs(of, options->words[1]);
+	load_programs(of);
 	put_initial(of, 1);
 }
 
@@ -146,6 +174,8 @@ int main(int count, char **word)
 	open_object(&of, options.words[0], &options);
 	if (options.targets)
 		print_targets(&of);
+	else if (options.only_loads)
+		load(&of, &options);
 	else
 		load_and_run(&of, &options);
 	free_all(&of);

@@ -96,8 +96,8 @@ static int load_program(struct loading *of, size_t at, const char *name, const s
 	return loaded;
 }
 
-/* Loads each program but those of sections with `?`, of which the one that is asked for alone. */
-void load_programs(struct loading *of, const char *asked)
+/* Loads each program that is not left out. */
+void load_programs(struct loading *of)
 {
 	struct ebpf_program program;
 	const char *name;
@@ -105,6 +105,5 @@ void load_programs(struct loading *of, const char *asked)
 	of->programs = no_descriptors(ebpf_program_count(of->object));
 	check(of, "programs", ebpf_last_error(of->object)->number);
 	for (size_t at = 0; (name = ebpf_program_at(of->object, at, &program)); at++)
-		if (!(program.flags & EBPF_OPTIONAL) || !strcmp(asked, name))
-			of->programs[at] = load_program(of, at, name, &program);
+		of->programs[at] = load_program(of, at, name, &program);
 }

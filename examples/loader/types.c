@@ -22,6 +22,8 @@ const struct ebpf_btf *wanted_types(struct loading *of)
 {
 	struct ebpf_object_info info = { 0 };
 
+	if (!ebpf_program_count(of->object)) /* all are left out */
+		return NULL;
 	check(of, "types", ebpf_info(of->object, &info));
 	return info.has_relocations || info.has_typed_externs ? kernel_types(of) : NULL;
 }
