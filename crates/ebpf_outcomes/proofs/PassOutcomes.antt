@@ -1,90 +1,34 @@
 -- The outcomes of passes beside the stages of preparing: the first pass and the last are made with them.
-use Rattle.std.proofs.Common.{◌≡◌, ◌∙◌, ap, subst, sym, refl, ℕ, zero, suc, ◌+◌, ◌<◌, ◌≤◌, Bool, true, false, List, [], ◌∷◌, ◌++◌, length, map, take, Option, Some, None, Ok, Err, arith}
-use Rattle.std.specs.Prelude.{◌||◌, ◌&&◌, ◌==◌, not, slice_get, slice_index_or, MatchBool, Result, ⊤}
+use Rattle.std.proofs.Common.{◌≡◌, ◌∙◌, ap, subst, sym, refl, ℕ, ◌+◌, ◌<◌, ◌≤◌, false, List, [], ◌∷◌, ◌++◌, length, map, take, Option, Some, None, Ok}
+use Rattle.std.specs.Prelude.{not, slice_index_or, Result}
 use Rattle.std.proofs.lemmas.List.{take_all, take_more}
 use Rattle.std.proofs.lemmas.Option.{slice_get-get_or}
 use Rattle.std.proofs.lemmas.Slice.Zip.{all_zipped_more}
-use Rattle.std.specs.FinMap.{FinMap, empty, get, insert}
-use Rattle.std.specs.List.{AllZip, list_any}
-use Rattle.ebpf_base.specs.Faults.{first_some, or_else}
+use Rattle.std.specs.FinMap.{FinMap, empty, insert}
+use Rattle.std.specs.List.{AllZip}
 use Rattle.ebpf_base.specs.Maps.{key_cmp}
 use Rattle.ebpf_btf.specs.TypeInfo.{TypeInfo}
 use Rattle.ebpf_btf_ext.specs.ExtReading.{ExtInfo}
-use Rattle.ebpf_btf_ext.specs.declared.relocation.Relocation.{Relocation}
-use Rattle.ebpf_core_relo.proofs.FirstRefusal.{first_refusal, same_slots}
-use Rattle.ebpf_core_relo.specs.RecordOutcomes.{HaveRecords, outcome_without_texts, record_slots, refusal, refusal_in, result_without_texts, unless}
-use Rattle.ebpf_core_relo.specs.Records.{RelocationInputs, Written, relocation_inputs_between, with_slots}
+use Rattle.ebpf_core_relo.proofs.FirstRefusal.{same_slots}
+use Rattle.ebpf_core_relo.specs.RecordOutcomes.{refusal}
+use Rattle.ebpf_core_relo.specs.Records.{Written, relocation_inputs_between}
 use Rattle.ebpf_core_relo.specs.declared.error.BtfRelocationError.{BtfRelocationError}
 use Rattle.ebpf_core_relo.specs.declared.outcomes.RecordOutcome.{RecordOutcome}
-use Rattle.ebpf_core_relo.specs.declared.outcomes.RecordOutcomes.{RecordOutcomes}
-use Rattle.ebpf_core_relo.specs.declared.outcomes.RecordResult.{RecordResult}
-use Rattle.ebpf_core_relo.specs.declared.outcomes.RecordResult.TheVariants.{Value, Absent, Refused}
 use Rattle.ebpf_ksyms.specs.Sources.{Source}
-use Rattle.ebpf_model.specs.Symbols.{FunctionKey}
 use Rattle.ebpf_model.specs.declared.function.Function.{Function}
 use Rattle.ebpf_object.proofs.Staging.{other_fault, refused_as}
-use Rattle.ebpf_outcomes.specs.PassOutcomes.{AreLinkMaps, AreLinkMapsIf, AreOutcomes, HasOutcomes, OutcomesLeaveSlots, has_empty_part, has_empty_section, is_refused, is_refused_result}
+use Rattle.ebpf_outcomes.specs.PassOutcomes.{AreLinkMaps, AreLinkMapsIf, AreOutcomes, HasOutcomes, OutcomesLeaveSlots}
 use Rattle.ebpf_object.specs.Prepared.{Stages, before_calls, before_externs, before_resolution, before_maps, IsStageFault, RefusesPreparing, NamesNothing, is_prepare_memory}
 use Rattle.ebpf_object.specs.Stages.{Chosen, Descriptor, RelocatesTypes, LinksPrograms, LinkingFault, Wrapped, fds_fault, given_fault, unwritten_fault}
 use Rattle.ebpf_object.specs.Stages as stage
-use Rattle.ebpf_object.specs.WrittenSlots.{AreRecordOutcomes, outcomes_by, relocated_slots, relocated_slots_by, slots_of_records}
+use Rattle.ebpf_object.specs.WrittenSlots.{relocated_slots_by, slots_of_records}
 use Rattle.ebpf_object.specs.declared.object.Object.{Object}
 use Rattle.ebpf_object.specs.declared.prepare_error.PrepareError.{PrepareError}
 use Rattle.ebpf_object.specs.declared.prepare_error.PrepareError.TheVariants.{Parse, Types, Maps, Ksyms, Externs, Calls, OutOfMemory, MissingDescriptor, UnknownMap, UnwrittenExtern}
-use Rattle.ebpf_outcomes.specs.declared.outcomes.PreparedWithOutcomes.{PreparedWithOutcomes}
 use Rattle.ebpf_reloc.proofs.SoFar.{SoFar, all_linked, first_fault, none_yet, step_more}
 use Rattle.ebpf_reloc.specs.Linking.{AreLinked, IsFirstRefusal, IsLinked, IsLinkMapAt, IsProgramRefusal, ProgramValue, key_of}
 use Rattle.ebpf_reloc.specs.SlotTargets.{LinkableValue}
 use Rattle.ebpf_reloc.specs.declared.link_map.LinkMap.{LinkMap}
-
--- ---- slots by the outcomes of relocations, none of which is refused
-
-or_false : (b c : Bool) → (b || c) ≡ false → (b ≡ false) × (c ≡ false)
-or_false false c h = (refl, h)
-or_false true c h = cc
-
-any_none : {A : Type 0} (p : A → Bool) (xs : List A) → list_any p xs ≡ false → (i : ℕ) (x : A) → slice_get xs i ≡ Some x → p x ≡ false
-any_none p [] h i x at = cc
-any_none p (y ∷ xs) h zero x at =
-    let same : y ≡ x = cc in
-    ap p (sym same) ∙ (or_false (p y) (list_any p xs) h).0
-any_none p (y ∷ xs) h (suc i) x at = any_none p xs (or_false (p y) (list_any p xs) h).1 i x at
-
-unrefused_result : (name : List ℕ) (result : RecordResult) → is_refused_result result ≡ false → refusal_in name (result_without_texts result) ≡ None
-unrefused_result name (Value outcome) h = refl
-unrefused_result name (Absent absence) h = refl
-unrefused_result name (Refused fault) h = cc
-
-unrefused : (inputs : RelocationInputs) (rows : List RecordOutcome) → list_any is_refused rows ≡ false → first_some (refusal inputs) (map outcome_without_texts rows) ≡ None
-unrefused inputs [] h = refl
-unrefused inputs (row ∷ rows) h =
-    let both = or_false (is_refused row) (list_any is_refused rows) h in
-    ap (λ o. or_else o (first_some (refusal inputs) (map outcome_without_texts rows))) (unrefused_result _ row.result both.0) ∙ unrefused inputs rows both.1
-
-have_records : (parts : List (ℕ × List Relocation)) → has_empty_part parts ≡ false → HaveRecords parts
-have_records parts h n part at empty = clash (sym (ap (λ rs. length rs == 0) empty) ∙ any_none (λ part. length part.1 == 0) parts h n part at)
-  where
-    clash : true ≡ false → ⊥
-    clash e = cc
-
-module _ (o : Object) (target : TypeInfo) (rows : List RecordOutcome) (slots : Written) where
-  stated_by : (btf : Option TypeInfo) (ext : Option ExtInfo) → map outcome_without_texts rows ≡ outcomes_by o target btf ext → slots ≡ slots_of_records o target btf ext
-      → has_empty_section ext ≡ false → list_any is_refused rows ≡ false → relocated_slots_by o target btf ext ≡ Ok slots
-  stated_by None ext r w e f = ap (λ (s : Written). Ok s) (sym w)
-  stated_by (Some local) None r w e f = ap (λ (s : Written). Ok s) (sym w)
-  stated_by (Some local) (Some ext) r w e f =
-      let inputs = relocation_inputs_between local target o.functions o.section_infos in
-      first_refusal inputs ext.relocations (have_records ext.relocations e)
-      ∙ ap (λ rs. unless (first_some (refusal inputs) rs) (record_slots inputs ext.relocations)) (sym r)
-      ∙ ap (λ fault. unless fault (record_slots inputs ext.relocations)) (unrefused inputs rows f)
-      ∙ ap (λ (s : Written). Ok s) (sym w)
-
--- the slots of outcomes are put in place
-pub slots_put : (o after : Object) (target : TypeInfo) (outcomes : RecordOutcomes) → AreRecordOutcomes o target outcomes → (has_empty_section o.btf_ext || list_any is_refused outcomes.records) ≡ false
-    → ((key : FunctionKey) → get after.functions key ≡ with_slots (get outcomes.written key) (get o.functions key)) → after ≡ record o { functions = after.functions } → RelocatesTypes (Some target) o after
-slots_put o after target outcomes are no_refusal each others =
-    let both = or_false (has_empty_section o.btf_ext) (list_any is_refused outcomes.records) no_refusal in
-    (record { slots = outcomes.written; written = stated_by o target outcomes.records outcomes.written o.btf o.btf_ext are.records are.written both.0 both.1; each = each }, others)
 
 -- ---- the slots that outcomes leave
 

@@ -1,16 +1,10 @@
 -- An object after the chosen passes, with the outcomes of its CO-RE relocations and the link maps
 -- of its programs: the slots of the finished object are those that they say.
-use Rattle.std.specs.Prelude.{◌≡◌, ◌==◌, ⊤, ℕ, Bool, true, false, List, [], Option, Some, None}
-use Rattle.std.specs.Prelude.{Ok, length, map}
-use Rattle.std.specs.List.{AllZip, list_any}
-use Rattle.std.specs.Option.{option_map_or}
+use Rattle.std.specs.Prelude.{◌≡◌, ⊤, Bool, true, false, List, [], Option, Some, None, Ok, map}
+use Rattle.std.specs.List.{AllZip}
 use Rattle.ebpf_btf.specs.TypeInfo.{TypeInfo}
-use Rattle.ebpf_btf_ext.specs.ExtReading.{ExtInfo}
-use Rattle.ebpf_btf_ext.specs.declared.relocation.Relocation.{Relocation}
 use Rattle.ebpf_core_relo.specs.RecordOutcomes.{outcome_without_texts}
 use Rattle.ebpf_core_relo.specs.declared.outcomes.RecordOutcome.{RecordOutcome}
-use Rattle.ebpf_core_relo.specs.declared.outcomes.RecordResult.{RecordResult}
-use Rattle.ebpf_core_relo.specs.declared.outcomes.RecordResult.TheVariants.{Value, Absent, Refused}
 use Rattle.ebpf_ksyms.specs.Sources.{Source}
 use Rattle.ebpf_object.specs.LinkedPrograms.{linkable_of, programs_in_order}
 use Rattle.ebpf_object.specs.Names.{has_function_in}
@@ -66,21 +60,3 @@ pub record HasOutcomes (steps : Chosen) (lines : Source) (o : Object) (p : Prepa
   pub records : AreOutcomes steps.target o p.records
   pub slots : OutcomesLeaveSlots steps.target o
   pub link_maps : AreLinkMapsIf steps.calls stages.unlinked p.link_maps
-
--- ---- what only private contracts and proofs name
-
--- whether a relocation is refused
-abbrev pub is_refused_result : RecordResult → Bool
-is_refused_result (Value outcome) = false
-is_refused_result (Absent absence) = false
-is_refused_result (Refused fault) = true
-
-abbrev pub is_refused : RecordOutcome → Bool
-is_refused row = is_refused_result row.result
-
--- whether a section of relocations has none
-abbrev pub has_empty_part : List (ℕ × List Relocation) → Bool
-has_empty_part parts = list_any (λ part. length part.1 == 0) parts
-
-abbrev pub has_empty_section : Option ExtInfo → Bool
-has_empty_section ext = option_map_or (λ (e : ExtInfo). has_empty_part e.relocations) ext false

@@ -1,17 +1,15 @@
 //! A finished object with the outcomes of its passes.
 
-ghost use Rattle.std.specs.Prelude.{◌≡◌, ◌||◌, ◌∷◌, ◌++◌, [], ℕ, List, Some, None, IfOk, IfErr, OnOk, false, true};
+ghost use Rattle.std.specs.Prelude.{◌≡◌, ◌∷◌, ◌++◌, [], ℕ, List, None, IfOk, IfErr, OnOk, false, true};
 ghost use Rattle.std.specs.FinMap as map;
-ghost use Rattle.std.specs.List.{list_any};
 ghost use Rattle.std.specs.Option.{option_copied};
 ghost use Rattle.ebpf_object.specs.Headline.{Headline};
 ghost use Rattle.ebpf_object.specs.LinkedPrograms.{linkable_of, programs_in_order};
 ghost use Rattle.ebpf_object.specs.Names.{has_function_in};
-ghost use Rattle.ebpf_outcomes.specs.PassOutcomes.{AreLinkMaps, AreLinkMapsIf, AreOutcomes, HasOutcomes, has_empty_part, has_empty_section, is_refused};
+ghost use Rattle.ebpf_outcomes.specs.PassOutcomes.{AreLinkMaps, AreLinkMapsIf, AreOutcomes, HasOutcomes};
 ghost use Rattle.ebpf_object.specs.Prepared.{IsParsed, IsStageFault, IsFirstPrepareFault, RefusesPreparing};
 ghost use Rattle.ebpf_object.specs.Stages.{LinkingFault, LinksPrograms, RelocatesTypes, TypesFault, Wrapped, chosen};
 ghost use Rattle.ebpf_object.specs.UnchangedFields.{KeepsOthers};
-ghost use Rattle.ebpf_object.specs.WrittenSlots.{AreRecordOutcomes};
 ghost use Rattle.ebpf_object.specs.declared.prepare_error.PrepareError.TheVariants.{Calls, Types};
 ghost use Rattle.ebpf_parts.specs.declared.parse_mode.ParseMode.{ParseMode};
 ghost use Rattle.ebpf_reloc.specs.Linking.{AreLinked, IsFirstRefusal, IsLinked, IsLinkMapAt, IsProgramRefusal, key_of};
@@ -19,8 +17,7 @@ ghost use Rattle.ebpf_reloc.specs.SlotTargets.{read};
 
 use ebpf_base::{ByKey, Items};
 use ebpf_btf::Btf;
-use ebpf_btf_ext::Relocation;
-use ebpf_core_relo::{RecordOutcome, RecordOutcomes, RecordResult, put_slots};
+use ebpf_core_relo::RecordOutcome;
 use ebpf_model::Function;
 use ebpf_object::Object;
 use ebpf_object::prepare::{
@@ -52,91 +49,8 @@ struct LinkedPrograms {
     link_maps: Items<LinkMap>,
 }
 
-/// Whether a CO-RE relocation is refused.
-fn is_refused(row: &RecordOutcome) -> bool
-    ensures { result ≡ is_refused row.now }
-{
-    match &row.result {
-        RecordResult::Refused(_) => true,
-        RecordResult::Value(_) => false,
-        RecordResult::Absent(_) => false,
-    }
-}
-
-/// Whether a CO-RE relocation is refused, of several.
-fn any_refused(records: &[RecordOutcome]) -> bool
-    ensures { result ≡ list_any is_refused records.now }
-{
-    records.iter().any(|row| is_refused(row))
-}
-
-/// Whether a section of CO-RE relocations has none.
-fn has_empty_part(parts: &[(u32, Items<Relocation>)]) -> bool
-    ensures { result ≡ has_empty_part parts.now }
-{
-    parts.iter().any(|part| part.1.len() == 0)
-}
-
-/// Whether a section of an object's CO-RE relocations has none.
-fn has_empty_section(object: &Object) -> bool
-    ensures { result ≡ has_empty_section object.now.btf_ext }
-{
-    match &object.btf_ext {
-        Some(ext) => has_empty_part(ext.relocations()),
-        None => false,
-    }
-}
-
-/// Whether CO-RE relocations with these outcomes may be refused: one is, or a section has none.
-fn has_refusal(object: &Object, records: &[RecordOutcome]) -> bool
-    ensures { result
-        ≡ (has_empty_section object.now.btf_ext || list_any is_refused records.now) }
-{
-    has_empty_section(object) || any_refused(records)
-}
-
-/// Relocates the functions to a kernel's types by a search for the first fault. The outcomes of the relocations come back.
-#[tactic(auto, using(ebpf_object::proofs::Staging::wrapped))]
-fn relocate_anew(
-    object: &mut Object,
-    target: &Btf,
-    records: Items<RecordOutcome>,
-) -> Result<Items<RecordOutcome>, PrepareError>
-    ensures ok { OnOk result (RelocatesTypes (Some target.now) object.old object.new) }
-    ensures records { IfOk result (λ same. same ≡ records) }
-    ensures fault { IfErr result
-        (RefusesPreparing (Wrapped Types (TypesFault (Some target.now) object.old))) }
-    ensures others_stay { KeepsOthers object.old object.new }
-{
-    match object.relocate_btf(target) {
-        Ok(()) => Ok(records),
-        Err(error) => Err(PrepareError::Types(error)),
-    }
-}
-
-/// Relocates the functions to a kernel's types by the outcomes of their CO-RE relocations. A second search is made only where
-/// a relocation is refused or a section has none: for the first fault.
-fn relocate_by(
-    object: &mut Object,
-    target: &Btf,
-    outcomes: RecordOutcomes,
-) -> Result<Items<RecordOutcome>, PrepareError>
-    requires { AreRecordOutcomes object.old target.now outcomes }
-    ensures ok { OnOk result (RelocatesTypes (Some target.now) object.old object.new) }
-    ensures records { IfOk result (λ records. records ≡ outcomes.records) }
-    ensures fault { IfErr result
-        (RefusesPreparing (Wrapped Types (TypesFault (Some target.now) object.old))) }
-    ensures others_stay { KeepsOthers object.old object.new }
-{
-    let RecordOutcomes { records, written } = outcomes;
-    if has_refusal(object, records.as_slice()) {
-        return relocate_anew(object, target, records);
-    }
-    put_slots(&mut object.functions, written);
-    Ok(records)
-}
-
 /// Relocates the functions to a kernel's types, where these are given. The outcomes of the CO-RE relocations come back.
+#[tactic(auto, using(ebpf_object::proofs::Staging::wrapped))]
 fn relocate_types(
     alloc: Global,
     object: &mut Object,
@@ -152,13 +66,9 @@ fn relocate_types(
     let Some(target) = target else {
         return Ok(Items::new(alloc));
     };
-    let outcomes = match object.record_outcomes(target) {
-        Ok(outcomes) => outcomes,
-        Err(_) => return Err(PrepareError::OutOfMemory),
-    };
-    match relocate_by(object, target, outcomes) {
+    match object.relocate_btf_with_outcomes(target) {
         Ok(records) => Ok(records),
-        Err(error) => Err(error),
+        Err(error) => Err(PrepareError::Types(error)),
     }
 }
 
