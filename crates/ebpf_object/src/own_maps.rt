@@ -24,7 +24,7 @@ use std::collections::HashSet;
 use std::mem;
 
 /// A map with its name and its descriptor.
-type MapWithFd<'a> = (&'a str, i32, &'a Map);
+pub type MapWithFd<'a> = (&'a str, i32, &'a Map);
 
 /// Copies of names.
 #[tactic(auto, using(crate::proofs::Staging::one_copied, ebpf_base::proofs::Lists::rest_none))]
@@ -67,7 +67,7 @@ pub fn numbered_descriptors(alloc: Global, names: &[Text]) -> Result<Vec<(&str, 
 
 /// The maps of these names with their descriptors; a name that stands for none is passed over.
 #[tactic(auto, using(crate::proofs::Staging::one_listed, crate::proofs::Staging::none_listed, ebpf_base::proofs::Lists::rest_none))]
-fn own_maps<'a>(
+pub fn own_maps<'a>(
     alloc: Global,
     maps: &'a ByName<Map>,
     descriptors: &[(&'a str, i32)],

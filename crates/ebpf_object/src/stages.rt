@@ -34,8 +34,12 @@ fn relocate_types(object: &mut Object, target: Option<&Btf>) -> Result<(), Prepa
     }
 }
 
-/// Writes the descriptors of the object's own maps.
-fn write_map_fds(
+/// Writes the descriptors of the object's own maps, where these are given: the pass of `Steps::map_fds`.
+///
+/// # Errors
+///
+/// Those of `relocate_own_maps`.
+pub fn write_map_fds(
     alloc: Global,
     object: &mut Object,
     descriptors: Option<&[(&str, i32)]>,
@@ -55,9 +59,13 @@ fn write_map_fds(
     relocate_own_maps(alloc, object, descriptors)
 }
 
-/// Resolves the externs.
+/// Resolves the externs, where `kernel` says how: as `Steps::externs` does.
+///
+/// # Errors
+///
+/// - `Ksyms`: with that of `Object::resolve_externs`.
 #[tactic(auto, using(crate::proofs::Staging::wrapped))]
-fn resolve<K: SymbolSource>(
+pub fn resolve<K: SymbolSource>(
     object: &mut Object,
     kernel: Option<Option<&Btf>>,
     kallsyms: K,
@@ -81,9 +89,13 @@ fn resolve<K: SymbolSource>(
     }
 }
 
-/// Writes the externs into the slots that refer to them.
+/// Writes the externs into the slots that refer to them, where `kernel` is given: as `Steps::externs` chooses it.
+///
+/// # Errors
+///
+/// - `Externs`: with that of `Object::relocate_externs`.
 #[tactic(auto, using(crate::proofs::Staging::wrapped))]
-fn write_externs(object: &mut Object, kernel: Option<Option<&Btf>>) -> Result<(), PrepareError>
+pub fn write_externs(object: &mut Object, kernel: Option<Option<&Btf>>) -> Result<(), PrepareError>
     ensures ok { OnOk result (object.new ≡ with_externs_if (is_some kernel.entry) object.old) }
     ensures sound { OnOk result (externs_fault_if (is_some kernel.entry) object.old ≡ None) }
     ensures fault { IfErr result
