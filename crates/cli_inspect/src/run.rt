@@ -9,7 +9,7 @@ use cli_common::programs::ObjectProgram;
 use cli_common::refuse::Stop;
 use cli_formats::graph::{GraphLanguage, write_graphs};
 use cli_output::palette::{ColorChoice, Palette};
-use cli_prepare::{PrepareWords, Prepared, prepare_file};
+use cli_prepare::{AskedOutcomes, PrepareWords, Prepared, prepare_file};
 use ebpf_base::Items;
 use ebpf_object::Object;
 use ebpf_object::relocation::LinkMap;
@@ -47,9 +47,11 @@ impl InspectedObject {
             programs,
             link_maps,
             records,
+            maps,
         } = prepared;
         drop(object);
         drop(records);
+        drop(maps);
         InspectedObject {
             parsed,
             programs,
@@ -119,7 +121,7 @@ fn write_object(
 
 /// Runs `ebpf inspect`, and returns the status.
 pub fn inspect(rt: &HostRuntime, words: &InspectWords) -> Result<u8, Stop> {
-    let object = InspectedObject::of(prepare_file(rt, &words.prepare)?);
+    let object = InspectedObject::of(prepare_file(rt, &words.prepare, AskedOutcomes::NONE)?);
     let done = write_object(rt, words, &object);
     drop(object);
     done?;

@@ -10,7 +10,9 @@ use cli_common::names::EscapedName;
 use cli_common::programs::ObjectProgram;
 use cli_common::refuse::Stop;
 use cli_output::palette::{ColorChoice, Palette, TextStyle};
-use cli_prepare::{Opened, PrepareWords, Prepared, open_file, prepare_file, refuse_preparing};
+use cli_prepare::{
+    AskedOutcomes, Opened, PrepareWords, Prepared, open_file, prepare_file, refuse_preparing,
+};
 use ebpf_model::Function;
 use std::alloc::Global;
 use std::io::{self, BufWriter, Write};
@@ -94,7 +96,7 @@ fn write_prepared(rt: &HostRuntime, words: &LinkWords, prepared: &Prepared) -> R
 
 /// Writes the programs of the object of a file as instructions, behind their source lines where these are wanted.
 fn link_as_instructions(rt: &HostRuntime, words: &LinkWords) -> Result<(), Stop> {
-    let prepared = prepare_file(rt, &words.prepare)?;
+    let prepared = prepare_file(rt, &words.prepare, AskedOutcomes::NONE)?;
     let written = write_prepared(rt, words, &prepared);
     drop(prepared);
     written

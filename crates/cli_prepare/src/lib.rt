@@ -11,6 +11,7 @@ mod prepared;
 mod refusals;
 mod refused_slots;
 
+pub use ebpf_outcomes::AskedOutcomes;
 pub use kernel::{Kernel, version_number};
 pub use opened::{Opened, open_file};
 pub use prepared::{PrepareWords, Prepared, finished_object, prepare_file};

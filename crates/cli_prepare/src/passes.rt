@@ -11,7 +11,7 @@ use ebpf_base::Items;
 use ebpf_object::Object;
 use ebpf_object::prepare::{PrepareError, Steps, SymbolText, numbered_descriptors};
 use ebpf_object::relocation::{LinkMap, programs_in_order};
-use ebpf_outcomes::{PreparedWithOutcomes, prepare_with_outcomes};
+use ebpf_outcomes::{AskedOutcomes, PreparedWithOutcomes, prepare_with_outcomes};
 use std::alloc::{AllocError, Global};
 
 /// A copy of an object after all passes, as `finished_object` gives it, with their outcomes.
@@ -23,9 +23,10 @@ pub fn pass_all(
     alloc: Global,
     object: &Object,
     kernel: &Kernel,
+    asked: AskedOutcomes,
 ) -> Result<PreparedWithOutcomes, PrepareError>
     ensures { IfOk result
-        (HasOutcomes (default_passes kernel.now.types object.now.maps)
+        (HasOutcomes (default_passes kernel.now.types object.now.maps) asked
         (TextLines kernel.now.symbols.items) object.now) }
 {
     let Ok(names) = object.map_names(alloc) else {
@@ -39,6 +40,7 @@ pub fn pass_all(
         alloc,
         object,
         &Steps::all_with(types, &descriptors),
+        asked,
         SymbolText(&kernel.symbols),
     )
 }

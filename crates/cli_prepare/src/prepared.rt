@@ -18,7 +18,7 @@ use ebpf_core_relo::RecordOutcome;
 use ebpf_object::Object;
 use ebpf_object::prepare::{PrepareError, Steps, SymbolText, numbered_descriptors, prepare_copy};
 use ebpf_object::relocation::LinkMap;
-use ebpf_outcomes::PreparedWithOutcomes;
+use ebpf_outcomes::{AskedOutcomes, MapOutcome, PreparedWithOutcomes};
 use std::alloc::{AllocError, Global};
 
 /// The arguments of a command that prepares an object.
@@ -55,6 +55,8 @@ pub struct Prepared {
     pub link_maps: Items<LinkMap>,
     /// The outcomes of its CO-RE relocations, section by section and in order; none where the kernel's types aren't given.
     pub records: Items<RecordOutcome>,
+    /// The outcomes of its relocations to maps, where they are asked for.
+    pub maps: Items<MapOutcome>,
 }
 
 /// A copy of an object after all passes: types where the kernel's are known, descriptors of its maps, 1 and on in byte order
@@ -102,10 +104,11 @@ pub fn finished_object(
 fn pass_opened(
     rt: &HostRuntime,
     words: &PrepareWords,
+    asked: AskedOutcomes,
     opened: &Opened,
 ) -> Result<PreparedWithOutcomes, Stop> {
     let parsed = &opened.parsed;
-    match pass_all(rt.alloc(), parsed, &opened.kernel) {
+    match pass_all(rt.alloc(), parsed, &opened.kernel, asked) {
         Ok(passed) => Ok(passed),
         Err(error) => {
             let stop = refuse_preparing(rt, words, opened, &error);
@@ -132,8 +135,11 @@ fn with_passed(
     let PreparedWithOutcomes {
         object,
         records,
+        maps,
+        externs,
         link_maps,
     } = passed;
+    drop(externs);
     let link_maps = chosen_maps(alloc, &object, link_maps, &programs)?;
     Ok(Prepared {
         parsed,
@@ -141,14 +147,19 @@ fn with_passed(
         programs,
         link_maps,
         records,
+        maps,
     })
 }
 
 /// Opens the object's file as `open_file` does, and makes all passes over the object: types where they are given, maps,
-/// externs, calls. The refusal of a pass is reported, with status 1.
-pub fn prepare_file(rt: &HostRuntime, words: &PrepareWords) -> Result<Prepared, Stop> {
+/// externs, calls. The outcomes that are asked for come with it. The refusal of a pass is reported, with status 1.
+pub fn prepare_file(
+    rt: &HostRuntime,
+    words: &PrepareWords,
+    asked: AskedOutcomes,
+) -> Result<Prepared, Stop> {
     let opened = open_file(rt, words)?;
-    match pass_opened(rt, words, &opened) {
+    match pass_opened(rt, words, asked, &opened) {
         Ok(passed) => Ok(with_passed(rt.alloc(), opened, passed)?),
         Err(stop) => {
             drop(opened);

@@ -16,10 +16,14 @@ use Rattle.ebpf_core_relo.specs.declared.error.BtfRelocationError.{BtfRelocation
 use Rattle.ebpf_core_relo.specs.declared.outcomes.RecordOutcome.{RecordOutcome}
 use Rattle.ebpf_ksyms.specs.Sources.{Source}
 use Rattle.ebpf_model.specs.declared.function.Function.{Function}
-use Rattle.ebpf_object.proofs.Staging.{other_fault, refused_as}
-use Rattle.ebpf_outcomes.specs.PassOutcomes.{AreLinkMaps, AreLinkMapsIf, AreOutcomes, HasOutcomes, OutcomesLeaveSlots}
+use Rattle.ebpf_object.proofs.Staging.{fds_refused, other_fault, refused_as, resolving_refused, writing_externs_refused}
+use Rattle.ebpf_outcomes.specs.PassOutcomes.{AreLinkMaps, AreLinkMapsIf, AreOutcomes, HasOutcomes, HasSlotRows, OutcomesLeaveSlots, if_asked, slot_passes}
+use Rattle.ebpf_outcomes.specs.SlotOutcomes.{extern_slots_if, map_slots_if}
+use Rattle.ebpf_outcomes.specs.declared.slot_outcomes.MapOutcome.{MapOutcome}
+use Rattle.ebpf_outcomes.specs.declared.slot_passes.AskedOutcomes.{AskedOutcomes}
+use Rattle.ebpf_outcomes.specs.declared.slot_passes.SlotRows.{SlotRows}
 use Rattle.ebpf_object.specs.Prepared.{Stages, before_calls, before_externs, before_resolution, before_maps, IsStageFault, RefusesPreparing, NamesNothing, is_prepare_memory}
-use Rattle.ebpf_object.specs.Stages.{Chosen, Descriptor, RelocatesTypes, LinksPrograms, LinkingFault, Wrapped, fds_fault, given_fault, unwritten_fault}
+use Rattle.ebpf_object.specs.Stages.{Chosen, Descriptor, RelocatesTypes, Resolves, ResolvingFault, LinksPrograms, LinkingFault, Wrapped, externs_fault_if, fds_fault, given_fault, unwritten_fault, with_externs_if}
 use Rattle.ebpf_object.specs.Stages as stage
 use Rattle.ebpf_object.specs.WrittenSlots.{relocated_slots_by, slots_of_records}
 use Rattle.ebpf_object.specs.declared.object.Object.{Object}
@@ -29,6 +33,7 @@ use Rattle.ebpf_reloc.proofs.SoFar.{SoFar, all_linked, first_fault, none_yet, st
 use Rattle.ebpf_reloc.specs.Linking.{AreLinked, IsFirstRefusal, IsLinked, IsLinkMapAt, IsProgramRefusal, ProgramValue, key_of}
 use Rattle.ebpf_reloc.specs.SlotTargets.{LinkableValue}
 use Rattle.ebpf_reloc.specs.declared.link_map.LinkMap.{LinkMap}
+use Rattle.ebpf_reloc.specs.declared.slot_outcomes.SlotOutcome.{SlotOutcome}
 
 -- ---- the slots that outcomes leave
 
@@ -86,11 +91,52 @@ module _ (parts : LinkableValue) (programs : List ProgramValue) where
     pub all_are_mapped : AreLinkMaps parts programs maps
     all_are_mapped = subst (λ (ps : List ProgramValue). AreLinkMaps parts ps maps) (take_all i programs past) so_far.link_maps
 
--- ---- the stages, where types come first and calls last with their outcomes
+-- ---- the passes over maps and externs
 
--- the passes in between, of which none refuses what is missing
-abbrev pub between : Chosen → Chosen
-between s = record s { target = None; calls = false; complete = false }
+-- descriptors that need not be complete have no fault
+none_given : (descriptors : Option (List Descriptor)) (o : Object) → given_fault descriptors false o ≡ None
+none_given None o = refl
+none_given (Some ds) o = refl
+
+module _ (s : Chosen) (lines : Source) (a : Object) where
+  -- a refusal of descriptors, of resolving, of externs
+  pub slots_of_maps_refused : (e : PrepareError) → RefusesPreparing (Wrapped Maps (λ d. fds_fault s.descriptors a ≡ Some d)) e → RefusesPreparing (IsStageFault (slot_passes s) lines a) e
+  slots_of_maps_refused e refused = fds_refused (slot_passes s) lines a (none_given s.descriptors a) a refl e refused
+
+  module _ (maps_sound : fds_fault s.descriptors a ≡ None) (b : Object) (maps : b ≡ stage.fds_written s.descriptors a) where
+    pub resolution_refused : (e : PrepareError) → RefusesPreparing (Wrapped Ksyms (ResolvingFault s.kernel lines b)) e → RefusesPreparing (IsStageFault (slot_passes s) lines a) e
+    resolution_refused e refused = resolving_refused (slot_passes s) lines a (none_given s.descriptors a) a refl maps_sound b maps e refused
+
+    module _ (c : Object) (resolution : Resolves s.kernel lines b c) where
+      pub slots_of_externs_refused : (e : PrepareError) → RefusesPreparing (Wrapped Externs (λ d. externs_fault_if s.externs c ≡ Some d)) e → RefusesPreparing (IsStageFault (slot_passes s) lines a) e
+      slots_of_externs_refused e refused = writing_externs_refused (slot_passes s) lines a (none_given s.descriptors a) a refl maps_sound b maps c resolution e refused
+
+      -- the slots that they write, with their outcomes
+      pub has_slot_rows : (asked : AskedOutcomes) (d : Object) → externs_fault_if s.externs c ≡ None → d ≡ with_externs_if s.externs c
+          → (rows : List MapOutcome) → rows ≡ if_asked asked.maps (map_slots_if s.descriptors a)
+          → (extern_rows : List SlotOutcome) → extern_rows ≡ if_asked asked.externs (extern_slots_if s.externs c)
+          → HasSlotRows s asked lines a d (record { maps = rows; externs = extern_rows })
+      has_slot_rows asked d externs_sound externs rows are extern_rows extern_are = record {
+        stages = record {
+          relocated = a;
+          fds_written = b;
+          resolved = c;
+          unlinked = d;
+          given = none_given s.descriptors a;
+          types = refl;
+          maps_sound = maps_sound;
+          maps = maps;
+          resolution = resolution;
+          externs_sound = externs_sound;
+          externs = externs;
+          written = refl;
+          calls = refl;
+        };
+        maps = are;
+        externs = extern_are;
+      }
+
+-- ---- the stages, where types come first and calls last
 
 no_error : (e : PrepareError) → ◌≡◌ {A = Option PrepareError} None (Some e) → ⊥
 no_error e is = cc
@@ -98,15 +144,13 @@ no_error e is = cc
 no_name : (name : List ℕ) → ◌≡◌ {A = Option (List ℕ)} None (Some name) → ⊥
 no_name name is = cc
 
--- descriptors that need not be complete have no fault
 none_missing : (descriptors : Option (List Descriptor)) (o : Object) (e : PrepareError) → given_fault descriptors false o ≡ Some e → ⊥
-none_missing None o e is = no_error e is
-none_missing (Some ds) o e is = no_error e is
+none_missing descriptors o e is = no_error e (sym (none_given descriptors o) ∙ is)
 
 module _ (lines : Source) (o a : Object) where
   -- what is relocated to types first goes on with the other stages
   typed_first : (s : Chosen) (d : Object) → RelocatesTypes s.target o a → given_fault s.descriptors s.complete o ≡ None
-      → Stages (record s { target = None; calls = false; complete = false }) lines a d → Stages (before_calls s) lines o d
+      → Stages (slot_passes s) lines a d → Stages (before_calls s) lines o d
   typed_first s d types given stages = record {
     relocated = a;
     fds_written = stages.fds_written;
@@ -125,7 +169,7 @@ module _ (lines : Source) (o a : Object) where
 
   module _ (s : Chosen) (given : given_fault s.descriptors s.complete o ≡ None) (types : RelocatesTypes s.target o a) where
     -- a fault in between
-    same_fault : (e : PrepareError) → IsStageFault (between s) lines a e → IsStageFault s lines o e
+    same_fault : (e : PrepareError) → IsStageFault (slot_passes s) lines a e → IsStageFault s lines o e
     same_fault (Parse e) f = elim f [ ]
     same_fault (Types e) f = absurd f.1
     same_fault (Maps e) f = (given, record { before = f.1.before; stages = typed_first (before_maps s) f.1.before types refl f.1.stages; fault = f.1.fault })
@@ -137,41 +181,42 @@ module _ (lines : Source) (o a : Object) where
     same_fault (UnknownMap name) f = absurd (none_missing s.descriptors a (UnknownMap name) f)
     same_fault (UnwrittenExtern name) f = absurd (no_name name f.1.fault)
 
-    pub refused_between : (e : PrepareError) → RefusesPreparing (IsStageFault (between s) lines a) e → RefusesPreparing (IsStageFault s lines o) e
-    refused_between e refused = other_fault (is_prepare_memory e) (NamesNothing e) (IsStageFault (between s) lines a e) (IsStageFault s lines o e) (same_fault e) refused
+    pub refused_between : (e : PrepareError) → RefusesPreparing (IsStageFault (slot_passes s) lines a) e → RefusesPreparing (IsStageFault s lines o) e
+    refused_between e refused = other_fault (is_prepare_memory e) (NamesNothing e) (IsStageFault (slot_passes s) lines a e) (IsStageFault s lines o e) (same_fault e) refused
 
-    module _ (d : Object) (stages : Stages (between s) lines a d) where
+    module _ (asked : AskedOutcomes) (d : Object) (rows : SlotRows) (has : HasSlotRows s asked lines a d rows) where
       -- a call of an extern that isn't written
       pub externs_refused : (e : PrepareError) → RefusesPreparing (Wrapped UnwrittenExtern (λ name. unwritten_fault s.calls s.complete d ≡ Some name)) e → RefusesPreparing (IsStageFault s lines o) e
       externs_refused e refused =
           refused_as UnwrittenExtern (λ name. unwritten_fault s.calls s.complete d ≡ Some name) (IsStageFault s lines o)
-          (λ own fault. (given, record { before = d; stages = typed_first s d types given stages; fault = fault })) e refused
+          (λ own fault. (given, record { before = d; stages = typed_first s d types given has.stages; fault = fault })) e refused
 
       module _ (written : unwritten_fault s.calls s.complete d ≡ None) where
         -- a refusal of linking
         pub linking_refused : (e : PrepareError) → RefusesPreparing (Wrapped Calls (LinkingFault s.calls d)) e → RefusesPreparing (IsStageFault s lines o) e
         linking_refused e refused =
             refused_as Calls (LinkingFault s.calls d) (IsStageFault s lines o)
-            (λ own fault. (given, record { before = d; stages = typed_first s d types given stages; fault = (written, fault) })) e refused
+            (λ own fault. (given, record { before = d; stages = typed_first s d types given has.stages; fault = (written, fault) })) e refused
 
         -- the whole, linked
         abbrev whole : (after : Object) → LinksPrograms s.calls d after → Stages s lines o after
         whole after links = record {
           relocated = a;
-          fds_written = stages.fds_written;
-          resolved = stages.resolved;
+          fds_written = has.stages.fds_written;
+          resolved = has.stages.resolved;
           unlinked = d;
           given = given;
           types = types;
-          maps_sound = subst (λ (x : Object). fds_fault s.descriptors x ≡ None) stages.types stages.maps_sound;
-          maps = stages.maps ∙ ap (stage.fds_written s.descriptors) stages.types;
-          resolution = stages.resolution;
-          externs_sound = stages.externs_sound;
-          externs = stages.calls ∙ stages.externs;
+          maps_sound = subst (λ (x : Object). fds_fault s.descriptors x ≡ None) has.stages.types has.stages.maps_sound;
+          maps = has.stages.maps ∙ ap (stage.fds_written s.descriptors) has.stages.types;
+          resolution = has.stages.resolution;
+          externs_sound = has.stages.externs_sound;
+          externs = has.stages.calls ∙ has.stages.externs;
           written = written;
           calls = links;
         }
 
         pub has_outcomes : (after : Object) → LinksPrograms s.calls d after → (records : List RecordOutcome) → AreOutcomes s.target o records → (maps : List LinkMap) → AreLinkMapsIf s.calls d maps
-            → HasOutcomes s lines o (record { object = after; records = records; link_maps = maps })
-        has_outcomes after links records are maps mapped = record { stages = whole after links; records = are; slots = outcomes_leave_slots s.target o a types; link_maps = mapped }
+            → HasOutcomes s asked lines o (record { object = after; records = records; maps = rows.maps; externs = rows.externs; link_maps = maps })
+        has_outcomes after links records are maps mapped =
+            record { stages = whole after links; records = are; slots = outcomes_leave_slots s.target o a types; maps = has.maps; externs = has.externs; link_maps = mapped }

@@ -1,6 +1,8 @@
--- An object after the chosen passes, with the outcomes of its CO-RE relocations and the link maps
--- of its programs: the slots of the finished object are those that they say.
-use Rattle.std.specs.Prelude.{◌≡◌, ⊤, Bool, true, false, List, [], Option, Some, None, Ok, map}
+-- An object after the chosen passes, with the outcomes of these: of its CO-RE relocations, of its
+-- relocations to maps and externs, and the link maps of its programs. The slots of the finished
+-- object are those that they say.
+use Rattle.std.specs.Prelude.{◌≡◌, ⊤, Bool, true, false, if◌then◌else◌, List, [], Option, Some}
+use Rattle.std.specs.Prelude.{None, Ok, map}
 use Rattle.std.specs.List.{AllZip}
 use Rattle.ebpf_btf.specs.TypeInfo.{TypeInfo}
 use Rattle.ebpf_core_relo.specs.RecordOutcomes.{outcome_without_texts}
@@ -15,6 +17,9 @@ use Rattle.ebpf_object.specs.declared.object.Object.{Object}
 use Rattle.ebpf_outcomes.specs.declared.outcomes.PreparedWithOutcomes.{
   PreparedWithOutcomes,
 }
+use Rattle.ebpf_outcomes.specs.SlotOutcomes.{extern_slots_if, map_slots_if}
+use Rattle.ebpf_outcomes.specs.declared.slot_passes.AskedOutcomes.{AskedOutcomes}
+use Rattle.ebpf_outcomes.specs.declared.slot_passes.SlotRows.{SlotRows}
 use Rattle.ebpf_reloc.specs.Linking.{ProgramValue, IsLinkMapAt, key_of}
 use Rattle.ebpf_reloc.specs.SlotTargets.{LinkableValue}
 use Rattle.ebpf_reloc.specs.declared.link_map.LinkMap.{LinkMap}
@@ -50,13 +55,41 @@ AreLinkMapsIf true unlinked maps =
     AreLinkMaps (linkable_of unlinked (has_function_in unlinked.functions))
     (programs_in_order unlinked.programs) maps
 
+-- ---- maps and externs
+
+-- outcomes that are asked for; none else
+abbrev pub if_asked : {A : Type 0} → Bool → List A → List A
+if_asked asked rows = if asked then rows else []
+
 -- ---- the whole
 
--- An object after the chosen passes, with their outcomes. The relocations are those of the object
--- before the passes; the link maps are of the functions as linking begins.
-pub record HasOutcomes (steps : Chosen) (lines : Source) (o : Object) (p : PreparedWithOutcomes)
+-- An object after the chosen passes, with their outcomes. Each pass has its outcomes in the object
+-- that it begins with: the CO-RE relocations in the object before all passes, the relocations to
+-- maps in the one with the slots that they leave, those to externs once externs are resolved, and
+-- the link maps in the functions as linking begins. A pass makes of each slot what its outcome says,
+-- and leaves a slot that has none (`OutcomesLeaveSlots`, `EditsAsSaid`, `LinkMapsMatch`). So the
+-- slots of the finished object are those that the outcomes say, one pass after the other.
+pub record HasOutcomes (steps : Chosen) (asked : AskedOutcomes) (lines : Source) (o : Object)
+    (p : PreparedWithOutcomes)
     : Type 0 where
   pub stages : Stages steps lines o p.object
   pub records : AreOutcomes steps.target o p.records
   pub slots : OutcomesLeaveSlots steps.target o
+  pub maps : p.maps ≡ if_asked asked.maps (map_slots_if steps.descriptors stages.relocated)
+  pub externs : p.externs ≡ if_asked asked.externs (extern_slots_if steps.externs stages.resolved)
   pub link_maps : AreLinkMapsIf steps.calls stages.unlinked p.link_maps
+
+-- ---- what only private contracts and proofs name
+
+-- the passes over maps and externs alone, of which none refuses what is missing
+abbrev pub slot_passes : Chosen → Chosen
+slot_passes steps = record steps { target = None; calls = false; complete = false }
+
+-- what these passes leave of an object, with their outcomes
+pub record HasSlotRows (steps : Chosen) (asked : AskedOutcomes) (lines : Source) (o after : Object)
+    (rows : SlotRows)
+    : Type 0 where
+  pub stages : Stages (slot_passes steps) lines o after
+  pub maps : rows.maps ≡ if_asked asked.maps (map_slots_if steps.descriptors o)
+  pub externs : rows.externs
+      ≡ if_asked asked.externs (extern_slots_if steps.externs stages.resolved)

@@ -15,20 +15,21 @@ ghost use Rattle.ebpf_parts.specs.declared.parse_mode.ParseMode.{ParseMode};
 ghost use Rattle.ebpf_reloc.specs.Linking.{AreLinked, IsFirstRefusal, IsLinked, IsLinkMapAt, IsProgramRefusal, key_of};
 ghost use Rattle.ebpf_reloc.specs.SlotTargets.{read};
 
+use crate::slot_outcomes::MapOutcome;
+use crate::slot_passes::{AskedOutcomes, write_slots};
 use ebpf_base::{ByKey, Items};
 use ebpf_btf::Btf;
 use ebpf_core_relo::RecordOutcome;
 use ebpf_model::Function;
 use ebpf_object::Object;
-use ebpf_object::prepare::{
-    PrepareError, Steps, SymbolSource, check_descriptors, check_externs, prepare_object,
-};
+use ebpf_object::prepare::{PrepareError, Steps, SymbolSource, check_descriptors, check_externs};
 use ebpf_object::relocation::{
     LinkMap, LinkedFunction, NumberedFunctions, ProgramKey, programs_in_order, take_places,
 };
+use ebpf_reloc::SlotOutcome;
 use std::alloc::{AllocError, Global};
 
-/// An object after the chosen passes, with the outcomes of its CO-RE relocations and the link maps of its programs.
+/// An object after the chosen passes, with their outcomes: its slots are those that the outcomes say.
 #[derive(Drop)]
 pub struct PreparedWithOutcomes {
     /// The object after the passes.
@@ -36,6 +37,12 @@ pub struct PreparedWithOutcomes {
     /// The outcome of each CO-RE relocation of `.BTF.ext`, section by section and in order: its slot, among those of the
     /// functions before linking, and its value, or the reason why it has none. Empty where no kernel's types are chosen.
     pub records: Items<RecordOutcome>,
+    /// The outcomes of the pass that writes descriptors, as `map_outcomes` gives them in the object that this pass begins with.
+    /// Empty where descriptors aren't chosen, or the outcomes aren't asked for.
+    pub maps: Items<MapOutcome>,
+    /// The outcomes of the pass that writes externs, as `extern_outcomes` gives them in the object that this pass begins with:
+    /// its externs are resolved. Empty where externs aren't chosen, or the outcomes aren't asked for.
+    pub externs: Items<SlotOutcome>,
     /// The link map of each program, in byte order of the programs' names. Empty where linking isn't chosen.
     pub link_maps: Items<LinkMap>,
 }
@@ -192,28 +199,16 @@ fn link_programs(
     link_all(alloc, object)
 }
 
-/// The chosen passes but for the first and the last, which give outcomes. Nothing that is missing is refused between them.
-fn between<'a>(steps: &Steps<'a>) -> Steps<'a>
-    ensures { chosen result
-        ≡ record (chosen steps.now) { target = None; calls = false; complete = false } }
-{
-    Steps {
-        target_btf: None,
-        map_fds: steps.map_fds,
-        externs: steps.externs,
-        calls: false,
-        complete: false,
-    }
-}
-
 /// Runs the chosen passes over an object, which comes back with their outcomes.
 fn run_all<K: SymbolSource>(
     alloc: Global,
     object: Object,
     steps: &Steps<'_>,
+    asked: AskedOutcomes,
     kallsyms: K,
 ) -> Result<PreparedWithOutcomes, PrepareError>
-    ensures outcomes { IfOk result (HasOutcomes (chosen steps.now) (K.source kallsyms) object) }
+    ensures outcomes { IfOk result
+        (HasOutcomes (chosen steps.now) asked (K.source kallsyms) object) }
     ensures others_stay { IfOk result (λ p. KeepsOthers object p.object) }
     ensures fault { IfErr result
         (RefusesPreparing (IsStageFault (chosen steps.now) (K.source kallsyms) object)) }
@@ -221,12 +216,14 @@ fn run_all<K: SymbolSource>(
     check_descriptors(&object, steps.map_fds, steps.complete)?;
     let mut typed = object;
     let records = relocate_types(alloc, &mut typed, steps.target_btf)?;
-    let mut prepared = prepare_object(alloc, typed, &between(steps), kallsyms)?;
-    check_externs(&prepared, steps.calls, steps.complete)?;
-    let link_maps = link_programs(alloc, &mut prepared, steps.calls)?;
+    let slots = write_slots(alloc, &mut typed, steps, asked, kallsyms)?;
+    check_externs(&typed, steps.calls, steps.complete)?;
+    let link_maps = link_programs(alloc, &mut typed, steps.calls)?;
     Ok(PreparedWithOutcomes {
-        object: prepared,
+        object: typed,
         records,
+        maps: slots.maps,
+        externs: slots.externs,
         link_maps,
     })
 }
@@ -236,9 +233,11 @@ fn prepared_object<K: SymbolSource>(
     alloc: Global,
     object: Object,
     steps: &Steps<'_>,
+    asked: AskedOutcomes,
     kallsyms: K,
 ) -> Result<PreparedWithOutcomes, PrepareError>
-    ensures outcomes { IfOk result (HasOutcomes (chosen steps.now) (K.source kallsyms) object) }
+    ensures outcomes { IfOk result
+        (HasOutcomes (chosen steps.now) asked (K.source kallsyms) object) }
     ensures headline { (mode : ParseMode) (file : List ℕ)
         → IsParsed mode file object
         → IfOk result (λ p.
@@ -252,11 +251,12 @@ fn prepared_object<K: SymbolSource>(
         (RefusesPreparing
         (IsFirstPrepareFault (chosen steps.now) (K.source kallsyms) mode file)) }
 {
-    run_all(alloc, object, steps, kallsyms)
+    run_all(alloc, object, steps, asked, kallsyms)
 }
 
 /// A copy of an object after the chosen passes, as `prepare_copy` gives it, with the outcomes of the passes: each CO-RE
-/// relocation is searched for once, and each program linked once. The object stays as it is.
+/// relocation is searched for once, and each program linked once. The outcomes of the passes over maps and externs are made
+/// where `asked` says so. The object stays as it is.
 ///
 /// # Errors
 ///
@@ -265,10 +265,11 @@ pub fn prepare_with_outcomes<K: SymbolSource>(
     alloc: Global,
     object: &Object,
     steps: &Steps<'_>,
+    asked: AskedOutcomes,
     kallsyms: K,
 ) -> Result<PreparedWithOutcomes, PrepareError>
     ensures outcomes { IfOk result
-        (HasOutcomes (chosen steps.now) (K.source kallsyms) object.now) }
+        (HasOutcomes (chosen steps.now) asked (K.source kallsyms) object.now) }
     ensures headline { (mode : ParseMode) (file : List ℕ)
         → IsParsed mode file object.now
         → IfOk result (λ p.
@@ -285,5 +286,5 @@ pub fn prepare_with_outcomes<K: SymbolSource>(
     let Ok(copy) = object.clone() else {
         return Err(PrepareError::OutOfMemory);
     };
-    prepared_object(alloc, copy, steps, kallsyms)
+    prepared_object(alloc, copy, steps, asked, kallsyms)
 }

@@ -2,20 +2,20 @@
 
 ghost use Rattle.std.specs.FinMap.{get};
 ghost use Rattle.std.specs.Option.{option_copied};
-ghost use Rattle.std.specs.Prelude.{◌≡◌, IfOk, OnOk, map, option_map};
+ghost use Rattle.std.specs.Prelude.{◌≡◌, IfOk, map};
 ghost use Rattle.ebpf_model.specs.Symbols.{text_sections_in};
 ghost use Rattle.ebpf_object.specs.LinkedPrograms.{linkable_of};
 ghost use Rattle.ebpf_object.specs.Prepared.{before_maps, before_resolution};
-ghost use Rattle.ebpf_object.specs.Stages.{Resolves, chosen, descriptor_of, descriptors_of, own_maps};
+ghost use Rattle.ebpf_object.specs.Stages.{chosen, descriptor_of, descriptors_of};
 ghost use Rattle.ebpf_outcomes.specs.SlotOutcomes.{AreExternOutcomes, AreMapOutcomes, extern_slots, extern_slots_if, map_outcome, map_slots_if, named_map_slots, own_map_by};
 ghost use Rattle.ebpf_reloc.specs.Maps.{given_map};
 ghost use Rattle.ebpf_reloc.specs.SlotOutcomes.{map_outcomes};
 
-use ebpf_base::{ByName, Items, Text};
-use ebpf_btf::Btf;
+use ebpf_base::{Items, Text};
 use ebpf_object::Object;
-use ebpf_object::prepare::{NO_SYMBOLS, PrepareError, Steps, SymbolSource, prepare_copy};
-use ebpf_parts::maps::Map;
+use ebpf_object::prepare::{
+    MapWithFd, NO_SYMBOLS, PrepareError, Steps, SymbolSource, own_maps, prepare_copy, resolve,
+};
 use ebpf_reloc::{Linkable, MapNames, SlotOutcome, extern_slot_outcomes, map_slot_outcomes};
 use std::alloc::{AllocError, Global};
 use std::collections::HashSet;
@@ -31,29 +31,6 @@ pub struct MapOutcome {
     pub map: Option<Text>,
     /// Whether the symbol names the map.
     pub by_symbol: bool,
-}
-
-/// A map with its name and its descriptor.
-type MapWithFd<'a> = (&'a str, i32, &'a Map);
-
-/// The maps of these names with their descriptors; a name that stands for none is passed over.
-#[tactic(auto, using(ebpf_object::proofs::Staging::one_listed, ebpf_object::proofs::Staging::none_listed, ebpf_base::proofs::Lists::rest_none))]
-fn own_maps<'a>(
-    alloc: Global,
-    maps: &'a ByName<Map>,
-    descriptors: &[(&'a str, i32)],
-) -> Result<Vec<MapWithFd<'a>>, AllocError>
-    ensures { IfOk result (λ own.
-        map given_map own.items ≡ own_maps maps.now (map descriptor_of descriptors.now)) }
-{
-    let mut own = Vec::with_capacity(alloc, descriptors.len())?;
-    for (name, descriptor) in descriptors {
-        let Some(map) = maps.get(name) else {
-            continue;
-        };
-        own.push((*name, *descriptor, map))?;
-    }
-    Ok(own)
 }
 
 /// The outcomes of the relocations to these maps.
@@ -203,7 +180,7 @@ fn steps_before_resolution<'a>(steps: &Steps<'a>) -> Steps<'a>
 }
 
 /// The outcomes of writing these descriptors, where they are chosen.
-fn map_outcomes_if(
+pub fn map_outcomes_if(
     alloc: Global,
     object: &Object,
     descriptors: Option<&[(&str, i32)]>,
@@ -218,7 +195,7 @@ fn map_outcomes_if(
 }
 
 /// The outcomes of writing externs, where that is chosen.
-fn extern_outcomes_if(
+pub fn extern_outcomes_if(
     alloc: Global,
     object: &Object,
     writes: bool,
@@ -229,29 +206,6 @@ fn extern_outcomes_if(
         return Ok(Items::new(alloc));
     }
     extern_outcomes(alloc, object)
-}
-
-/// Resolves the externs, where that is chosen.
-fn resolve<K: SymbolSource>(
-    alloc: Global,
-    object: &mut Object,
-    kernel: Option<Option<&Btf>>,
-    kallsyms: K,
-) -> Result<(), PrepareError>
-    ensures { OnOk result
-        (Resolves (option_map option_copied kernel.entry) (K.source kallsyms) object.old
-        object.new) }
-{
-    let Some(kernel) = kernel else {
-        return Ok(());
-    };
-    match kallsyms.resolve(alloc, object.btf.as_ref(), &object.externs, kernel) {
-        Ok(externs) => {
-            object.externs = externs;
-            Ok(())
-        }
-        Err(error) => Err(PrepareError::Ksyms(error)),
-    }
 }
 
 /// The outcomes of the pass over maps with these steps: those of `map_outcomes` in a copy of the object after the passes
@@ -287,7 +241,7 @@ pub fn extern_outcomes_with<K: SymbolSource>(
     ensures { IfOk result (AreExternOutcomes (chosen steps.now) (K.source kallsyms) object.now) }
 {
     let mut before = prepare_copy(alloc, object, &steps_before_resolution(steps), NO_SYMBOLS)?;
-    resolve(alloc, &mut before, steps.externs, kallsyms)?;
+    resolve(&mut before, steps.externs, kallsyms)?;
     let outcomes = extern_outcomes_if(alloc, &before, steps.externs.is_some())?;
     Ok(outcomes)
 }
