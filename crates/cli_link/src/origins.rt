@@ -5,12 +5,13 @@ use crate::names::{NamedOperation, Subject};
 use crate::notes::{Note, RecordNotes};
 use cli_common::helper_calls::helper_name;
 use cli_common::names::EscapedName;
+use cli_prepare::Prepared;
 use ebpf_model::Symbol;
 use ebpf_object::Object;
+use ebpf_outcomes::{Edit, MapOutcome};
 use ebpf_parts::Relocation;
 use ebpf_parts::insn::bpf_insn;
-use ebpf_parts::insn::opcodes::{BPF_PSEUDO_MAP_FD, BPF_PSEUDO_MAP_VALUE, CALL, LD_IMM64};
-use std::alloc::{AllocError, Global};
+use ebpf_parts::insn::opcodes::{CALL, LD_IMM64};
 
 /// The origins of the slots of an object's linked programs.
 #[derive(Drop)]
@@ -19,26 +20,31 @@ pub struct Origins<'a> {
     pub object: &'a Object,
     /// The object as it was parsed, whose functions aren't linked.
     parsed: &'a Object,
-    /// The names of its maps, in byte order: the descriptor of each is its place among them, from 1 on.
-    map_names: Vec<&'a str>,
+    /// The outcomes of its relocations to maps, by functions and slots.
+    maps: &'a [MapOutcome],
     /// The values that CO-RE relocations wrote into slots.
     notes: &'a RecordNotes,
 }
 
+/// The key of a slot.
+fn slot_key(function: (usize, u64), slot: usize) -> (usize, u64, usize) {
+    (function.0, function.1, slot)
+}
+
+/// The key of the slot of an outcome.
+fn outcome_key(outcome: &MapOutcome) -> (usize, u64, usize) {
+    slot_key(outcome.slot.key, outcome.slot.slot)
+}
+
 impl<'a> Origins<'a> {
-    /// The origins of the slots of an object after all passes, by the object before them and the notes on CO-RE relocations.
-    pub fn new(
-        alloc: Global,
-        object: &'a Object,
-        parsed: &'a Object,
-        notes: &'a RecordNotes,
-    ) -> Result<Origins<'a>, AllocError> {
-        Ok(Origins {
-            object,
-            parsed,
-            map_names: object.maps.names(alloc)?,
+    /// The origins of the slots of a prepared object, by the notes on its CO-RE relocations.
+    pub fn new(prepared: &'a Prepared, notes: &'a RecordNotes) -> Origins<'a> {
+        Origins {
+            object: &prepared.object,
+            parsed: &prepared.parsed,
+            maps: prepared.maps.as_slice(),
             notes,
-        })
+        }
     }
 
     /// The notes on the CO-RE relocations of a slot.
@@ -70,11 +76,17 @@ impl<'a> Origins<'a> {
         })
     }
 
-    /// The name of the map that has the descriptor of a slot.
-    fn map_name(&self, instruction: bpf_insn) -> Option<EscapedName<'a>> {
-        let descriptor = instruction.imm.cast_unsigned() as usize;
-        let name = self.map_names.get(descriptor.checked_sub(1)?)?;
-        Some(EscapedName(*name))
+    /// The outcome of a slot's relocation to a map.
+    fn map_outcome(&self, shown: ShownSlot<'_>) -> Option<&'a MapOutcome> {
+        let key = slot_key(shown.copy.key, shown.slot);
+        let number = self
+            .maps
+            .partition_point(|outcome| outcome_key(outcome) < key);
+        let outcome = self.maps.get(number)?;
+        if outcome_key(outcome) != key {
+            return None;
+        }
+        Some(outcome)
     }
 
     /// The map to which a load refers.
@@ -82,12 +94,14 @@ impl<'a> Origins<'a> {
         if shown.instruction.code != LD_IMM64 {
             return None;
         }
-        match shown.instruction.src_reg() {
-            BPF_PSEUDO_MAP_FD => Some(Subject::Map(self.map_name(shown.instruction)?)),
-            BPF_PSEUDO_MAP_VALUE => Some(Subject::MapValue {
-                name: self.map_name(shown.instruction)?,
-                offset: shown.second?.imm,
-            }),
+        let outcome = self.map_outcome(shown)?;
+        let Some(name) = &outcome.map else {
+            return None;
+        };
+        let name = EscapedName(name.as_str());
+        match outcome.slot.result {
+            Ok(Edit::Slot(_)) => Some(Subject::Map(name)),
+            Ok(Edit::Pair(_, offset)) => Some(Subject::MapValue { name, offset }),
             _ => None,
         }
     }

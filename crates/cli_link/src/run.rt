@@ -90,13 +90,17 @@ fn write_output<'a>(
 fn write_prepared(rt: &HostRuntime, words: &LinkWords, prepared: &Prepared) -> Result<(), Stop> {
     let (alloc, parsed) = (rt.alloc(), &prepared.parsed);
     let notes = RecordNotes::of(alloc, parsed, prepared.records.as_slice())?;
-    let origins = Origins::new(alloc, &prepared.object, parsed, &notes)?;
+    let origins = Origins::new(prepared, &notes);
     write_output(rt, words, prepared, &origins)
 }
 
 /// Writes the programs of the object of a file as instructions, behind their source lines where these are wanted.
 fn link_as_instructions(rt: &HostRuntime, words: &LinkWords) -> Result<(), Stop> {
-    let prepared = prepare_file(rt, &words.prepare, AskedOutcomes::NONE)?;
+    let asked = AskedOutcomes {
+        maps: true,
+        externs: false,
+    };
+    let prepared = prepare_file(rt, &words.prepare, asked)?;
     let written = write_prepared(rt, words, &prepared);
     drop(prepared);
     written
