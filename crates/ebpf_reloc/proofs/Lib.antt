@@ -7,3 +7,4 @@ pub mod Runs
 pub mod MapChains
 pub mod NamedSlots
 pub mod SlotOutcomes
+pub mod NoNames

@@ -1,7 +1,10 @@
 //! The slots that refer to a map without a descriptor, and the calls of externs that no pass has written.
 
+ghost use Rattle.std.specs.FinMap.{contains_key, entries};
+ghost use Rattle.std.specs.List.{list_all};
 ghost use Rattle.std.specs.Option.{option_copied};
-ghost use Rattle.std.specs.Prelude.{◌≡◌, ◌+◌, ◌++◌, ◌*◌, ◌∷◌, [], length, IfOk, OnOk};
+ghost use Rattle.std.specs.Prelude.{◌≡◌, ◌==◌, ◌||◌, ◌&&◌, ◌+◌, ◌++◌, ◌*◌, ◌∷◌, [], length, not, IfOk, OnOk};
+ghost use Rattle.ebpf_model.specs.Symbols.{is_extern};
 ghost use Rattle.ebpf_model.specs.Walks.{walked_relocations, IsBefore};
 ghost use Rattle.ebpf_reloc.specs.NamedSlots.{maps_without_descriptors, name_by, named_of, named_slot, named_slots, naming_of, unwritten_extern, unwritten_externs};
 ghost use Rattle.ebpf_reloc.specs.SlotTargets.{read};
@@ -15,6 +18,7 @@ use ebpf_parts::Relocation;
 use ebpf_parts::insn::bpf_insn;
 use ebpf_parts::maps::Map;
 use std::alloc::{AllocError, Global};
+use std::collections::HashMap;
 
 /// A slot of a function, and the name of the map or the extern that it refers to.
 #[derive(Debug, Drop)]
@@ -134,13 +138,75 @@ fn named_slots(
     Ok(found)
 }
 
-/// The slots whose own map has no descriptor, by the functions' keys and then by slot, each with the map's name. `maps`
-/// has the object's maps, `descriptors` those that are given, by name.
-///
-/// A slot's own map is that of its relocation's symbol; where the symbol names no map, it is the map of the symbol's
-/// section, as of a variable in `.bss`. Of maps of one symbol or one section the last by name counts. Calls of functions,
-/// symbols without section and those of `text_sections` refer to no map. `Err` only where memory was refused.
-pub fn maps_without_descriptors(
+/// Whether each map has a descriptor.
+fn all_described(maps: &ByName<Map>, descriptors: &ByName<i32>) -> bool
+    ensures { result ≡ list_all (λ e. contains_key descriptors.now e.0) (entries maps.now) }
+{
+    for (name, _) in maps.iter() {
+        if !descriptors.contains_key(name.as_str()) {
+            return false;
+        }
+    }
+    true
+}
+
+/// Whether no symbol is an extern but the null symbol, that of index 0 (ELF-64 gABI, 'Symbol Table').
+fn is_only_null_extern(symbols: &HashMap<usize, Symbol>) -> bool
+    ensures { result ≡ list_all (λ e. e.0 == 0 || not (is_extern e.1)) symbols.now.entries }
+{
+    for (index, symbol) in symbols.iter() {
+        if *index == 0 {
+            continue;
+        }
+        if symbol.is_extern() {
+            return false;
+        }
+    }
+    true
+}
+
+/// Whether no relocation of a section has the null symbol.
+fn section_has_symbols(section_relocations: &ByOffset<Relocation>) -> bool
+    ensures { result
+        ≡ list_all (λ e. not (e.1.symbol_index == 0)) (entries section_relocations.now) }
+{
+    for (_, relocation) in section_relocations.iter() {
+        if relocation.symbol_index == 0 {
+            return false;
+        }
+    }
+    true
+}
+
+/// Whether no relocation has the null symbol.
+fn all_have_symbols(relocations: &BySection<ByOffset<Relocation>>) -> bool
+    ensures { result
+        ≡ list_all (λ s. list_all (λ e. not (e.1.symbol_index == 0)) (entries s.1))
+        (entries relocations.now) }
+{
+    for (_, section_relocations) in relocations.iter() {
+        if !section_has_symbols(section_relocations) {
+            return false;
+        }
+    }
+    true
+}
+
+/// Whether no relocation refers to an extern: the null symbol alone is one, and no relocation has it.
+fn refers_to_no_extern(
+    symbols: &HashMap<usize, Symbol>,
+    relocations: &BySection<ByOffset<Relocation>>,
+) -> bool
+    ensures { result
+        ≡ (list_all (λ e. e.0 == 0 || not (is_extern e.1)) symbols.now.entries
+        && list_all (λ s. list_all (λ e. not (e.1.symbol_index == 0)) (entries s.1))
+        (entries relocations.now)) }
+{
+    is_only_null_extern(symbols) && all_have_symbols(relocations)
+}
+
+/// The slots whose own map has no descriptor, where some map has none.
+fn slots_without_descriptors(
     alloc: Global,
     parts: &Linkable<'_>,
     maps: &ByName<Map>,
@@ -159,6 +225,27 @@ pub fn maps_without_descriptors(
     named_slots(alloc, &naming, parts.functions, parts.relocations)
 }
 
+/// The slots whose own map has no descriptor, by the functions' keys and then by slot, each with the map's name. `maps`
+/// has the object's maps, `descriptors` those that are given, by name.
+///
+/// A slot's own map is that of its relocation's symbol; where the symbol names no map, it is the map of the symbol's
+/// section, as of a variable in `.bss`. Of maps of one symbol or one section the last by name counts. Calls of functions,
+/// symbols without section and those of `text_sections` refer to no map. `Err` only where memory was refused.
+pub fn maps_without_descriptors(
+    alloc: Global,
+    parts: &Linkable<'_>,
+    maps: &ByName<Map>,
+    descriptors: &ByName<i32>,
+) -> Result<Items<NamedSlot>, AllocError>
+    ensures { IfOk result (λ slots.
+        slots ≡ maps_without_descriptors (read parts.now) maps.now descriptors.now) }
+{
+    if all_described(maps, descriptors) {
+        return Ok(Items::new(alloc));
+    }
+    slots_without_descriptors(alloc, parts, maps, descriptors)
+}
+
 /// The calls of externs that no pass has written, by the functions' keys and then by slot, each with the extern's name: a
 /// slot with a relocation to an extern that is a pseudo call, as the compiler leaves it. Linking takes it for a call of
 /// the function that begins at the slot itself. `Err` only where memory was refused.
@@ -171,5 +258,8 @@ pub fn unwritten_externs(
     ensures { IfOk result (λ slots.
         slots ≡ unwritten_externs symbols.now relocations.now functions.now) }
 {
+    if refers_to_no_extern(symbols.as_map(), relocations) {
+        return Ok(Items::new(alloc));
+    }
     named_slots(alloc, &SlotNaming::Externs(symbols), functions, relocations)
 }

@@ -1,15 +1,9 @@
-use Rattle.std.proofs.Common.{◌≡◌, subst}
-use Rattle.std.specs.Prelude.{IfOk}
-use Rattle.ebpf_reloc.specs.NamedSlots.{missing_map, named_slots}
+use Rattle.std.proofs.Common.{sym, ◌∙◌}
 use Rattle.ebpf_reloc.specs.SlotTargets.{read}
-use Rattle.ebpf_reloc.specs.declared.map_names.MapNames.{MapNames}
+use Rattle.ebpf_reloc.proofs.NoNames.{none_without_descriptor}
 use Rattle.ebpf_reloc.proofs.named_slots.maps_without_descriptors.Goals as goal
 
-pub returns : goal.returns
-returns c =
-    let parts = read c.args.parts.now in
-    subst
-    (λ (n : MapNames).
-    IfOk c.named_slots.result (λ slots.
-    slots ≡ named_slots (missing_map (record { symbols = parts.symbols; names = n; descriptors = c.args.descriptors.now; text_sections = parts.text_sections })) parts.relocations parts.functions))
-    c.in_ok-names.ensures c.named_slots.ensures
+pub returns-then-all_described : goal.returns-then-all_described
+returns-then-all_described c =
+    c.new.ensures
+    ∙ none_without_descriptor c.args.descriptors.now (read c.args.parts.now) c.args.maps.now (sym c.all_described.ensures ∙ c.if-all_described.true)
