@@ -113,8 +113,13 @@ impl Object {
             text_sections_in sections ≡ has_function_in self.now.functions) }
     {
         let mut sections = HashSet::new(alloc);
+        let mut last = None;
         for (key, _) in self.functions.iter() {
+            if last == Some(key.0) {
+                continue;
+            }
             sections.insert(key.0)?;
+            last = Some(key.0);
         }
         Ok(sections)
     }

@@ -15,6 +15,6 @@ returns c =
     let each : (section : ℕ) → text_sections_in c.loop-key.sections section ≡ has_function_in c.args.self.now.functions section = λ section.
     or_false (text_sections_in c.loop-key.sections section)
     ∙ ap (λ (es : List ((ℕ × ℕ) × Function)). text_sections_in c.loop-key.sections section || list_any (λ (e : (ℕ × ℕ) × Function). section == e.0.0) es) (sym c.in-None.ensures.steps.0)
-    ∙ c.loop-key.invariant section
+    ∙ c.loop-key.invariant.all section
     in
     λ i section. each section i
