@@ -7,6 +7,7 @@ pub mod PatchedPlaces
 pub mod OnePreparation
 pub mod Staging
 pub mod Incomplete
+pub mod NamesInOrder
 pub mod OneResolution
 pub mod Headline
 pub mod MapNames

@@ -1,7 +1,10 @@
 //! What an object lacks for its programs: descriptors of maps, maps of names, and externs that are written.
 
-ghost use Rattle.std.specs.FinMap.{empty};
+ghost use Rattle.std.specs.Cmp.Lexicographic.{pointwise};
+ghost use Rattle.std.specs.FinMap.{empty, entries};
+ghost use Rattle.std.specs.Map.{keys_of};
 ghost use Rattle.std.specs.Prelude.{◌≡◌, map, slice_get, option_map, true, None, Some, IfOk, IfErr, OnOk, OnErr};
+ghost use Rattle.std.specs.Str.{bytes_eq};
 ghost use Rattle.ebpf_base.specs.Maps.{put_all};
 ghost use Rattle.ebpf_object.specs.Prepared.{RefusesPreparing};
 ghost use Rattle.ebpf_object.specs.Stages.{CompleteFdsFault, descriptor_of, descriptors_of, fds_fault, fds_written, first_missing, given_fault, maps_without_descriptors, unknown_maps, unwritten_externs, unwritten_fault, Wrapped};
@@ -11,6 +14,7 @@ use crate::object::Object;
 use crate::own_maps::relocate_own_maps;
 use crate::prepare_error::PrepareError;
 use ebpf_base::{ByName, Items, Text};
+use ebpf_parts::maps::Map;
 use ebpf_reloc::{Linkable, NamedSlot};
 use std::alloc::{AllocError, Global};
 
@@ -141,7 +145,27 @@ fn first_without_descriptor(
     }
 }
 
-/// The error of the first name without a map; else that of the first slot whose own map has no descriptor.
+/// Whether the names of the descriptors are those of the maps, in byte order. `numbered_descriptors` of `Object::map_names`
+/// gives them so.
+fn are_names_in_order(maps: &ByName<Map>, descriptors: &[(&str, i32)]) -> bool
+    ensures { result
+        ≡ pointwise bytes_eq (keys_of (entries maps.now))
+        (map (λ d. d.0) (map descriptor_of descriptors.now)) }
+{
+    let mut given = descriptors.iter();
+    for (name, _) in maps.iter() {
+        let Some((other, _)) = given.next() else {
+            return false;
+        };
+        if name.as_str() != *other {
+            return false;
+        }
+    }
+    given.next().is_none()
+}
+
+/// The error of the first name without a map; else that of the first slot whose own map has no descriptor. No name is
+/// looked up where the names are those of the maps in byte order.
 fn first_missing(
     object: &Object,
     descriptors: &[(&str, i32)],
@@ -149,6 +173,9 @@ fn first_missing(
     ensures { IfOk result (λ missing.
         missing ≡ first_missing object.now (map descriptor_of descriptors.now)) }
 {
+    if are_names_in_order(&object.maps, descriptors) {
+        return Ok(None);
+    }
     match first_unknown(object, descriptors)? {
         Some(error) => Ok(Some(error)),
         None => first_without_descriptor(object, descriptors),
