@@ -2,14 +2,18 @@
 use Rattle.std.proofs.Common.{◌≡◌, ℕ, Bool, true, false, List, Some, None, refl, subst, sym, ap, ◌∙◌, ◌+◌, ◌<◌, [], ◌∷◌, ◌++◌, map, length, drop, Bor}
 use Rattle.std.specs.Prelude.{MatchBool, Result, Ok, Err, OnOk, IfOk, IfErr, IsErrAnd, ℤ, slice_index_or, slice_get, option_map, Option}
 use Rattle.std.proofs.lemmas.List.{append_assoc, map-append}
-use Rattle.std.specs.FinMap.{FinMap, get}
+use Rattle.std.specs.FinMap.{FinMap, entries, get}
 use Rattle.std.specs.List.{cons_option}
+use Rattle.std.specs.String.{string_bytes}
+use Rattle.std.specs.declared.string.String.{String}
 use Rattle.ebpf_base.proofs.Lists.{rest_more}
 use Rattle.ebpf_base.specs.Faults.{or_else}
-use Rattle.ebpf_base.specs.Maps.{lent_bytes, text_cmp}
+use Rattle.ebpf_base.specs.Maps.{by_bytes, lent_bytes, text_cmp}
+use Rattle.ebpf_ksyms.proofs.Resolving.{all_found}
 use Rattle.ebpf_ksyms.specs.Sources.{Source}
 use Rattle.ebpf_object.specs.Objects.{object_as, parse_fault_as}
 use Rattle.ebpf_object.specs.Prepared.{Stages, before_calls, before_externs, before_resolution, before_maps, IsStageFault, IsFirstPrepareFault, IsPrepared, IsParsed, RefusesPreparing, NamesNothing, is_prepare_memory}
+use Rattle.ebpf_object.specs.PrivateContracts.{AreEntriesOf}
 use Rattle.ebpf_object.specs.Stages.{Wrapped, given_fault, unwritten_fault, unknown_maps, maps_without_descriptors, Descriptor, RelocatesTypes, TypesFault, fds_written, fds_fault, Resolves, ResolvingFault, with_externs_if, externs_fault_if, LinksPrograms, LinkingFault, Chosen, own_maps, descriptor_of, following, numbered_descriptors}
 use Rattle.ebpf_object.specs.UnchangedFields.{KeepsOthers}
 use Rattle.ebpf_object.specs.declared.object.Object.{Object}
@@ -258,6 +262,21 @@ pub kept_four_times : (o a b d e : Object) → KeepsOthers o a → KeepsOthers a
 kept_four_times o a b d e first second third fourth = kept_twice o d e (kept_thrice o a b d first second third) fourth
 
 -- ---- maps that are listed with their descriptors, one after the other
+
+-- the entries of some maps, by the bytes of their names
+pub are_entries : {Y : Type 0} (maps : FinMap text_cmp Map) (es : List (String Y × Map)) → by_bytes es ≡ entries maps → AreEntriesOf maps (by_bytes es)
+are_entries maps es all = subst (AreEntriesOf maps) (sym all) (all_found maps)
+
+-- the first of the entries ahead, and those after it
+module _ {Y : Type 0} (maps : FinMap text_cmp Map) (before after : List (String Y × Map)) (e : String Y × Map) (own : AreEntriesOf maps (by_bytes before)) (first : before ≡ e ∷ after) where
+  both_ahead : (get maps (string_bytes e.0) ≡ Some e.1) × AreEntriesOf maps (by_bytes after)
+  both_ahead = subst (λ es. AreEntriesOf maps (by_bytes es)) first own
+
+  pub first_ahead : get maps (string_bytes e.0) ≡ Some e.1
+  first_ahead = both_ahead.0
+
+  pub others_ahead : AreEntriesOf maps (by_bytes after)
+  others_ahead = both_ahead.1
 
 module _ (maps : FinMap text_cmp Map) where
   abbrev listed : List (Bor (List ℕ) × ℤ) → List GivenMap

@@ -1,7 +1,8 @@
 -- What contracts of private functions name and no public one.
 use denote.Ref.{Bor}
-use Rattle.std.specs.Prelude.{ℕ, List, [], ◌∷◌, Option, Some, None, option_map}
+use Rattle.std.specs.Prelude.{◌≡◌, ℕ, List, [], ◌∷◌, Option, Some, None, option_map}
 use Rattle.std.specs.FinMap.{FinMap, get}
+use Rattle.std.specs.List.{AllByRecursion}
 use Rattle.ebpf_base.specs.Maps.{text_cmp}
 use Rattle.ebpf_model.specs.declared.function.Program.{Program}
 use Rattle.ebpf_model.specs.declared.symbol.Symbol.{Symbol}
@@ -34,3 +35,7 @@ named_map e = (e.0.now, e.1.now)
 -- the variable that a symbol is, by its own name
 abbrev pub variable_in : List ℕ × Symbol → Option VariableValue
 variable_in v = option_map (λ name. named_variable name v) v.1.name
+
+-- each of these entries is one of the map
+abbrev pub AreEntriesOf : FinMap text_cmp Map → List (List ℕ × Map) → Type 0
+AreEntriesOf maps entries = AllByRecursion (λ e. get maps e.0 ≡ Some e.1) entries

@@ -1,10 +1,12 @@
 //! The names and the descriptors of an object's own maps.
 
 ghost use Rattle.std.specs.Prelude.{◌≡◌, map, pos, None, Some, OnOk, OnErr, IfOk, IfErr, MatchBool};
-ghost use Rattle.std.specs.FinMap.{entries};
+ghost use Rattle.std.specs.FinMap.{entries, get};
 ghost use Rattle.std.specs.Map.{keys_of};
-ghost use Rattle.ebpf_base.specs.Maps.{lent_bytes};
+ghost use Rattle.std.specs.Option.{option_copied};
+ghost use Rattle.ebpf_base.specs.Maps.{by_bytes, lent_bytes};
 ghost use Rattle.ebpf_object.specs.Prepared.{RefusesPreparing};
+ghost use Rattle.ebpf_object.specs.PrivateContracts.{AreEntriesOf};
 ghost use Rattle.ebpf_object.specs.Stages.{Wrapped, own_maps, fds_written, fds_fault, descriptor_of, numbered_descriptors};
 ghost use Rattle.ebpf_object.specs.Names.{has_function_in};
 ghost use Rattle.ebpf_object.specs.WrittenSlots.{with_maps, maps_fault};
@@ -20,7 +22,7 @@ use ebpf_base::{ByName, Items, Text};
 use ebpf_model::EbpfRelocationError;
 use ebpf_parts::maps::Map;
 use std::alloc::{AllocError, Global};
-use std::collections::HashSet;
+use std::collections::{HashSet, btree_map};
 use std::mem;
 
 /// A map with its name and its descriptor.
@@ -65,8 +67,29 @@ pub fn numbered_descriptors(alloc: Global, names: &[Text]) -> Result<Vec<(&str, 
     Ok(numbered)
 }
 
+/// The map of a name. It takes the first of the entries ahead, which is the name's own where names come in byte order; else
+/// the name is looked up.
+#[tactic(auto, using(crate::proofs::Staging::first_ahead, crate::proofs::Staging::others_ahead))]
+fn next_map<'a>(
+    maps: &'a ByName<Map>,
+    ahead: &mut btree_map::Iter<'a, String, Map>,
+    name: &str,
+) -> Option<&'a Map>
+    requires entries { AreEntriesOf maps.now (by_bytes ahead.old) }
+    ensures value { option_copied result ≡ get maps.now name.now }
+    ensures entries { AreEntriesOf maps.now (by_bytes ahead.new) }
+{
+    let Some((key, map)) = ahead.next() else {
+        return maps.get(name);
+    };
+    if key.as_str() != name {
+        return maps.get(name);
+    }
+    Some(map)
+}
+
 /// The maps of these names with their descriptors; a name that stands for none is passed over.
-#[tactic(auto, using(crate::proofs::Staging::one_listed, crate::proofs::Staging::none_listed, ebpf_base::proofs::Lists::rest_none))]
+#[tactic(auto, using(crate::proofs::Staging::one_listed, crate::proofs::Staging::none_listed, crate::proofs::Staging::are_entries, ebpf_base::proofs::Lists::rest_none))]
 pub fn own_maps<'a>(
     alloc: Global,
     maps: &'a ByName<Map>,
@@ -76,8 +99,9 @@ pub fn own_maps<'a>(
         map given_map own.items ≡ own_maps maps.now (map descriptor_of descriptors.now)) }
 {
     let mut own = Vec::with_capacity(alloc, descriptors.len())?;
+    let mut ahead = maps.iter();
     for (name, descriptor) in descriptors {
-        let Some(map) = maps.get(name) else {
+        let Some(map) = next_map(maps, &mut ahead, name) else {
             continue;
         };
         own.push((*name, *descriptor, map))?;
