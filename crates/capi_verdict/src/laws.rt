@@ -1,4 +1,4 @@
-//! What holds of a verdict that C is told.
+//! Laws on the verdict that C reads.
 
 ghost use Rattle.capi_verdict.specs.Checked.{OkOfCheckIsPrepared};
 

@@ -69,7 +69,7 @@ impl Kind {
         }
     }
 
-    /// The kind under which it is told: all that is asked of a field is told together.
+    /// The kind under which it is printed: all that is asked of a field is printed together.
     pub fn group(self) -> Kind {
         match self {
             Kind::ByteOffset

@@ -116,7 +116,7 @@ fn object_bytes(
 }
 
 /// The bytes of the object in a file: all of it, or of a program for another machine the object that it holds, the one of
-/// a number where it holds several. A file that can't be read, or where no object is chosen so, is told.
+/// a number where it holds several. A file that can't be read, or where no object is chosen so, is reported.
 pub fn read_object(
     rt: &HostRuntime,
     json: bool,
@@ -146,7 +146,7 @@ fn parsed(alloc: Global, file: &[u8]) -> Result<Object, ParseError>
     Object::parse_as(alloc, file, ParseMode::Lenient)
 }
 
-/// The object of a file's bytes, read broadly; one that can't be parsed is told.
+/// The object of a file's bytes, read broadly; one that can't be parsed is reported.
 fn parsed_alone(rt: &HostRuntime, json: bool, path: &str, file: &[u8]) -> Result<Object, Stop>
     ensures { IfOk result (IsParsed Lenient file.now) }
 {
@@ -163,7 +163,7 @@ fn parsed_alone(rt: &HostRuntime, json: bool, path: &str, file: &[u8]) -> Result
 /// The number of bytes of a page, by which the room of an arena is counted.
 const PAGE_SIZE: u32 = 4096;
 
-/// Completes the maps of an object; a refusal is told.
+/// Completes the maps of an object; a refusal is reported.
 fn complete(
     rt: &HostRuntime,
     json: bool,
@@ -185,7 +185,7 @@ fn complete(
     }
 }
 
-/// The object of a file's bytes, read broadly, with its maps completed; one that can't be parsed is told.
+/// The object of a file's bytes, read broadly, with its maps completed; one that can't be parsed is reported.
 pub fn parsed_object(rt: &HostRuntime, json: bool, path: &str, file: &[u8]) -> Result<Object, Stop>
     ensures { IfOk result (IsCompleted file.now) }
 {

@@ -7,7 +7,7 @@ use ebpf_core::{LocalPath, NamedPath, RelocationError, Step, local_path, outcome
 use ebpf_core_relo::Absence;
 use std::alloc::{AllocError, Global};
 
-/// Adds the steps to a field. The first of them, which counts in the root type itself, is told where it isn't 0.
+/// Adds the steps to a field. The first of them, which counts in the root type itself, is printed where it isn't 0.
 fn add_steps(alloc: Global, name: &mut String, steps: &[Step]) -> Result<(), AllocError> {
     let mut is_first = true;
     for step in steps {
