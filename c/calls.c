@@ -217,6 +217,20 @@ uint32_t ebpf_kconfig(const struct ebpf_handle *handle, struct ebpf_kconfig_exte
 	return ebpf_layer_end(handle, number, &told);
 }
 
+uint32_t ebpf_complete_maps(struct ebpf_handle *handle, const uint8_t *file, size_t file_len, uint32_t page_size)
+{
+	struct exact_handle closed = { NULL };
+	struct ebpf_told told;
+	uint32_t number;
+
+	ebpf_layer_begin(&told);
+	do
+		number = exact_ebpf_complete_maps(EBPF_EXACT(handle), EBPF_ARRAY(file, file_len), page_size,
+			EBPF_TOLD(told));
+	while (ebpf_layer_is_cut(number, &told));
+	return ebpf_layer_change(handle, number, &told);
+}
+
 uint32_t ebpf_variables(const struct ebpf_handle *handle, struct ebpf_variable *rows, size_t rows_room, char *text,
 		size_t text_room, struct ebpf_counts *counts)
 {

@@ -38,6 +38,8 @@ uint32_t exact_ebpf_check(struct exact_handle *handle, struct exact_btf *kernel,
 		struct ebpf_verdict_summary *summary, void *about, size_t about_len, struct ebpf_refusal *report);
 uint32_t exact_ebpf_clone(struct exact_handle *handle, struct exact_handle *copy);
 void exact_ebpf_close(struct exact_handle *handle);
+uint32_t exact_ebpf_complete_maps(struct exact_handle *handle, const void *file, size_t file_len, uint32_t page_size,
+		void *about, size_t about_len, struct ebpf_refusal *report);
 uint32_t exact_ebpf_define_kconfig(struct exact_handle *handle, const struct exact_value *rows, size_t rows_len,
 		const void *text, size_t text_len, const void *bytes, size_t bytes_len, void *about, size_t about_len,
 		struct ebpf_refusal *report);

@@ -506,6 +506,34 @@ const char *ebpf_strerror(uint32_t number)
 		return "least types: the values of a map are not declared as such";
 	case EBPF_LEAST_TYPES_WRITE_TOO_LARGE:
 		return "least types: the types are too large";
+	case EBPF_COMPLETED_MAPS_FILE_TOO_SHORT:
+		return "completed maps: the file is too short for its header";
+	case EBPF_COMPLETED_MAPS_FILE_BAD_MAGIC:
+		return "completed maps: the file does not begin as ELF does";
+	case EBPF_COMPLETED_MAPS_FILE_NOT_ELF64:
+		return "completed maps: the file is no ELF64";
+	case EBPF_COMPLETED_MAPS_FILE_BAD_BYTE_ORDER:
+		return "completed maps: the byte order is neither little nor big";
+	case EBPF_COMPLETED_MAPS_FILE_BAD_SECTION_TABLE:
+		return "completed maps: the section table is not inside the file";
+	case EBPF_COMPLETED_MAPS_FILE_BAD_SECTION_RANGE:
+		return "completed maps: a section is not inside the file";
+	case EBPF_COMPLETED_MAPS_FILE_BAD_STRING_TABLE:
+		return "completed maps: a string table can't be read";
+	case EBPF_COMPLETED_MAPS_FILE_BAD_SYMBOL_TABLE:
+		return "completed maps: the symbol table can't be read";
+	case EBPF_COMPLETED_MAPS_FILE_BAD_RELOCATION_TABLE:
+		return "completed maps: a relocation table can't be read";
+	case EBPF_COMPLETED_MAPS_FILE_EXTENDED_NUMBERING:
+		return "completed maps: sections are numbered in the extended way";
+	case EBPF_COMPLETED_MAPS_UNKNOWN_PINNING:
+		return "a map asks for a pinning that is neither 0 nor 1";
+	case EBPF_COMPLETED_MAPS_SECOND_ARENA:
+		return "a map is a second arena";
+	case EBPF_COMPLETED_MAPS_NO_ARENA:
+		return ".addr_space.1 has variables, and no map is an arena";
+	case EBPF_COMPLETED_MAPS_ARENA_TOO_SMALL:
+		return "the arena has fewer bytes than .addr_space.1";
 	default:
 		return "an unknown number";
 	}

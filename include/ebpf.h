@@ -358,6 +358,22 @@ enum ebpf_number {
 	EBPF_LEAST_TYPES_WRITE_MULTI_LEVEL_MAP_IN_MAP_NOT_SUPPORTED = 1032, /* least types: maps of maps nest */
 	EBPF_LEAST_TYPES_WRITE_INVALID_VALUES_SPEC = 1033, /* least types: the values of a map are not declared as such */
 	EBPF_LEAST_TYPES_WRITE_TOO_LARGE = 1034, /* least types: the types are too large */
+
+	/* 1100 to 1199: completed maps. About the map, from 1120 on, but for 1122 */
+	EBPF_COMPLETED_MAPS_FILE_TOO_SHORT = 1100, /* completed maps: the file is too short for its header */
+	EBPF_COMPLETED_MAPS_FILE_BAD_MAGIC = 1101, /* completed maps: the file does not begin as ELF does */
+	EBPF_COMPLETED_MAPS_FILE_NOT_ELF64 = 1102, /* completed maps: the file is no ELF64 */
+	EBPF_COMPLETED_MAPS_FILE_BAD_BYTE_ORDER = 1103, /* completed maps: the byte order is neither little nor big */
+	EBPF_COMPLETED_MAPS_FILE_BAD_SECTION_TABLE = 1104, /* completed maps: the section table is not inside the file */
+	EBPF_COMPLETED_MAPS_FILE_BAD_SECTION_RANGE = 1105, /* completed maps: a section is not inside the file */
+	EBPF_COMPLETED_MAPS_FILE_BAD_STRING_TABLE = 1106, /* completed maps: a string table can't be read */
+	EBPF_COMPLETED_MAPS_FILE_BAD_SYMBOL_TABLE = 1107, /* completed maps: the symbol table can't be read */
+	EBPF_COMPLETED_MAPS_FILE_BAD_RELOCATION_TABLE = 1108, /* completed maps: a relocation table can't be read */
+	EBPF_COMPLETED_MAPS_FILE_EXTENDED_NUMBERING = 1109, /* completed maps: sections are numbered in the extended way */
+	EBPF_COMPLETED_MAPS_UNKNOWN_PINNING = 1120, /* a map asks for a pinning that is neither 0 nor 1 */
+	EBPF_COMPLETED_MAPS_SECOND_ARENA = 1121, /* a map is a second arena */
+	EBPF_COMPLETED_MAPS_NO_ARENA = 1122, /* .addr_space.1 has variables, and no map is an arena */
+	EBPF_COMPLETED_MAPS_ARENA_TOO_SMALL = 1123, /* the arena has fewer bytes than .addr_space.1 */
 };
 
 /* ---- what a refusal reports beside the name that it is about */
@@ -874,6 +890,20 @@ const uint8_t *ebpf_kconfig_value(const struct ebpf_handle *handle, const char *
  */
 const uint8_t *ebpf_kconfig_number(const struct ebpf_handle *handle, const char *name, size_t name_len, uint64_t number,
 			size_t *len);
+
+/*
+ * Completes the BTF-defined maps as libbpf does it. `file` is what the handle was opened from. `page_size` is the
+ * number of bytes of a page, 4096 on most systems.
+ *  - It refuses pinnings other than 0 and 1, a second map of type 33 (BPF_MAP_TYPE_ARENA), and variables in an arena
+ *    that is not there or is too small.
+ *  - The arena gets the bytes of the section `.addr_space.1` as data, and that section. Then `ebpf_relocate_maps` writes
+ *    references to the variables in it (without this call 301), and `ebpf_variable_at` lists them.
+ *  - All else is unchanged. The object owns as many bytes more as the section has: they are not in `max_bytes`.
+ * A loader maps the arena's pages into memory (mmap(2)), at `extra` if it is not 0, and copies the data to their start.
+ * Numbers: 2, 3, 12, 1100 to 1199.
+ */
+EBPF_CHECKED uint32_t ebpf_complete_maps(struct ebpf_handle *handle, const uint8_t *file, size_t file_len,
+			uint32_t page_size);
 
 /*
  * Adds the map `.kconfig`, whose data are the values of the kconfig externs, and makes their symbols variables of it.

@@ -20,6 +20,7 @@
  * says whether the library or the kernel refuses, and what, behind the kernel's own log.
  */
 #include "loader.h"
+#include <unistd.h>
 
 struct options {
 	const char *config;
@@ -96,6 +97,7 @@ static void open_object(struct loading *of, const char *path, const struct optio
 		errx(1, "the library has the version %u", ebpf_version_number());
 	of->file = read_file(path);
 	check(of, path, ebpf_open(of->file.at, of->file.len, NULL, &of->object));
+	check(of, path, ebpf_complete_maps(of->object, of->file.at, of->file.len, sysconf(_SC_PAGESIZE)));
 	leave_out(of, path, options);
 }
 

@@ -1,6 +1,9 @@
 /* Maps in the kernel. */
 #include "loader.h"
+#include <sys/mman.h>
 #include <unistd.h>
+
+enum { ARENA = 33 }; /* BPF_MAP_TYPE_ARENA: headers before Linux 6.9 lack it */
 
 /* Whether the object has a map of the name, and its place in the list. */
 int has_map(const struct loading *of, const char *name, size_t *at)
@@ -88,6 +91,23 @@ static void fill_map(struct loading *of, size_t at, const char *name, const stru
 		err(1, "the kernel doesn't freeze %s", name);
 }
 
+/*
+ * Maps the pages of an arena into memory, at the address that its programs count on, and copies what its variables begin
+ * with to their start.
+ */
+static void fill_arena(struct loading *of, size_t at, const char *name, const struct ebpf_map *map)
+{
+	void *wanted = (void *)(uintptr_t)map->shape.extra;
+	size_t room = (size_t)map->shape.max_entries * sysconf(_SC_PAGESIZE);
+	int flags = MAP_SHARED | (wanted ? MAP_FIXED : 0);
+	void *pages = mmap(wanted, room, PROT_READ | PROT_WRITE, flags, of->maps[at], 0);
+
+	if (pages == MAP_FAILED)
+		err(1, "the pages of the arena %s can't be mapped", name);
+	if (map->data_len)
+		memcpy(pages, need(of, "data of a map", ebpf_map_contents(of->object, at, NULL)), map->data_len);
+}
+
 /* Makes each map; of a map of maps first one of those that it holds, by which the kernel knows what it takes. */
 void make_maps(struct loading *of)
 {
@@ -102,7 +122,9 @@ void make_maps(struct loading *of)
 		of->maps[at] = make_map(of, &map.shape, inner, name);
 		if (inner >= 0)
 			close(inner);
-		if (map.data_len)
+		if (map.shape.type == ARENA)
+			fill_arena(of, at, name, &map);
+		else if (map.data_len)
 			fill_map(of, at, name, &map);
 	}
 }

@@ -201,6 +201,7 @@ CALLS = {
     "ebpf_kconfig_value": (*_named, *_bytes, _p(_size)),
     "ebpf_kconfig_number": (*_named, _u64, _p(_size)),
     "ebpf_define_kconfig": (_handle, _p(_ValueRow), _size),
+    "ebpf_complete_maps": (_handle, *_bytes, c.c_uint32),
     "ebpf_variables": (_handle, *_list(_Variable)),
     "ebpf_value": (*_named, *_room, _p(_size)),
     "ebpf_set_map_data": (*_named, *_bytes),

@@ -2,6 +2,7 @@
 #![tactic(auto)]
 
 mod check_calls;
+mod completed_maps;
 mod handle;
 mod held;
 mod kconfig;

@@ -1,3 +1,4 @@
+pub mod BtfMaps
 pub mod CallNumbers
 pub mod Descriptors
 pub mod FileTypes

@@ -179,6 +179,15 @@ kconfig_faults =
     ∷ codes "ValueOutOfRange"
     ∷ []
 
+-- of BTF-defined maps that are completed
+abbrev pub btf_map_faults : List (List ℕ)
+btf_map_faults =
+    codes "UnknownPinning"
+    ∷ codes "SecondArena"
+    ∷ codes "NoArena"
+    ∷ codes "ArenaTooSmall"
+    ∷ []
+
 -- of descriptors that are not complete
 abbrev pub descriptor_faults : List (List ℕ)
 descriptor_faults =
@@ -229,6 +238,8 @@ number_stages =
     ∷ stage 900 1000 (codes "kconfig: ") kconfig_faults
     ∷ stage 1000 1020 (codes "least types: ") least_types_faults
     ∷ stage 1020 1100 (codes "least types: BtfError ") type_faults
+    ∷ stage 1100 1120 (codes "completed maps: ") file_faults
+    ∷ stage 1120 1200 (codes "completed maps: ") btf_map_faults
     ∷ []
 
 abbrev pub with_title : List ℕ → Option (List ℕ) → List ℕ

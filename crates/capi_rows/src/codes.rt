@@ -200,6 +200,9 @@ const LEAST_TYPES_FAULTS: [&str; 3] = [
     "TargetNeedsKernelId",
 ];
 
+/// Faults of BTF-defined maps that are completed.
+const BTF_MAP_FAULTS: [&str; 4] = ["UnknownPinning", "SecondArena", "NoArena", "ArenaTooSmall"];
+
 /// Faults of descriptors that aren't complete.
 const DESCRIPTOR_FAULTS: [&str; 2] = ["MissingDescriptor", "UnknownMap"];
 
@@ -218,7 +221,7 @@ struct Stage {
 }
 
 /// The stages, in the order of their numbers.
-const STAGES: [Stage; 23] = [
+const STAGES: [Stage; 25] = [
     Stage {
         first: 0,
         end: 100,
@@ -356,6 +359,18 @@ const STAGES: [Stage; 23] = [
         end: 1100,
         title: "least types: BtfError ",
         errors: &TYPE_FAULTS,
+    },
+    Stage {
+        first: 1100,
+        end: 1120,
+        title: "completed maps: ",
+        errors: &FILE_FAULTS,
+    },
+    Stage {
+        first: 1120,
+        end: 1200,
+        title: "completed maps: ",
+        errors: &BTF_MAP_FAULTS,
     },
 ];
 

@@ -1,6 +1,7 @@
 //! C structs of an object's parts, numbers of refusals, and lists and texts in the caller's buffers.
 #![tactic(auto)]
 
+pub mod btf_maps;
 pub mod buffers;
 pub mod codes;
 pub mod entries;

@@ -321,6 +321,19 @@ extern "C" {
         len: *mut usize,
     ) -> *const u8;
 
+    /// Completes the BTF-defined maps as libbpf does it. `file` is what the handle was opened from. `page_size` is the
+    /// number of bytes of a page, 4096 on most systems.
+    ///
+    /// - It refuses pinnings other than 0 and 1, a second map of type 33 (BPF_MAP_TYPE_ARENA), and variables in an
+    ///   arena that is not there or is too small.
+    /// - The arena gets the bytes of the section `.addr_space.1` as data, and that section. Then `ebpf_relocate_maps`
+    ///   writes references to the variables in it (without this call 301), and `ebpf_variable_at` lists them.
+    /// - All else is unchanged. The object owns as many bytes more as the section has: they are not in `max_bytes`.
+    ///
+    /// A loader maps the arena's pages into memory (mmap(2)), at `extra` if it is not 0, and copies the data to their
+    /// start. Numbers: 2, 3, 12, 1100 to 1199.
+    pub fn ebpf_complete_maps(handle: *mut ebpf_handle, file: *const u8, file_len: usize, page_size: u32) -> u32;
+
     /// Adds the map `.kconfig`, whose data are the values of the kconfig externs, and makes their symbols variables of
     /// it. `ebpf_maps` lists it. `ebpf_relocate_maps` writes its descriptor. Its flags are BPF_F_RDONLY_PROG: freeze
     /// the map once it is filled.

@@ -761,6 +761,48 @@ pub const EBPF_LEAST_TYPES_WRITE_INVALID_VALUES_SPEC: u32 = 1033;
 /// Least types: the types are too large.
 pub const EBPF_LEAST_TYPES_WRITE_TOO_LARGE: u32 = 1034;
 
+/// Completed maps: the file is too short for its header.
+pub const EBPF_COMPLETED_MAPS_FILE_TOO_SHORT: u32 = 1100;
+
+/// Completed maps: the file does not begin as ELF does.
+pub const EBPF_COMPLETED_MAPS_FILE_BAD_MAGIC: u32 = 1101;
+
+/// Completed maps: the file is no ELF64.
+pub const EBPF_COMPLETED_MAPS_FILE_NOT_ELF64: u32 = 1102;
+
+/// Completed maps: the byte order is neither little nor big.
+pub const EBPF_COMPLETED_MAPS_FILE_BAD_BYTE_ORDER: u32 = 1103;
+
+/// Completed maps: the section table is not inside the file.
+pub const EBPF_COMPLETED_MAPS_FILE_BAD_SECTION_TABLE: u32 = 1104;
+
+/// Completed maps: a section is not inside the file.
+pub const EBPF_COMPLETED_MAPS_FILE_BAD_SECTION_RANGE: u32 = 1105;
+
+/// Completed maps: a string table can't be read.
+pub const EBPF_COMPLETED_MAPS_FILE_BAD_STRING_TABLE: u32 = 1106;
+
+/// Completed maps: the symbol table can't be read.
+pub const EBPF_COMPLETED_MAPS_FILE_BAD_SYMBOL_TABLE: u32 = 1107;
+
+/// Completed maps: a relocation table can't be read.
+pub const EBPF_COMPLETED_MAPS_FILE_BAD_RELOCATION_TABLE: u32 = 1108;
+
+/// Completed maps: sections are numbered in the extended way.
+pub const EBPF_COMPLETED_MAPS_FILE_EXTENDED_NUMBERING: u32 = 1109;
+
+/// A map asks for a pinning that is neither 0 nor 1.
+pub const EBPF_COMPLETED_MAPS_UNKNOWN_PINNING: u32 = 1120;
+
+/// A map is a second arena.
+pub const EBPF_COMPLETED_MAPS_SECOND_ARENA: u32 = 1121;
+
+/// .addr_space.1 has variables, and no map is an arena.
+pub const EBPF_COMPLETED_MAPS_NO_ARENA: u32 = 1122;
+
+/// The arena has fewer bytes than .addr_space.1.
+pub const EBPF_COMPLETED_MAPS_ARENA_TOO_SMALL: u32 = 1123;
+
 /// The numbers that an error states, added up in ebpf_refusal.has.
 pub type ebpf_detail = u32;
 
