@@ -27,6 +27,10 @@ size_t ebpf_layer_row(enum ebpf_kept_kind kind)
 		return sizeof(struct ebpf_code_copy);
 	case EBPF_KEPT_WITHOUT_DESCRIPTORS:
 		return sizeof(struct ebpf_map_slot);
+	case EBPF_KEPT_STRUCT_OPS_MAPS:
+		return sizeof(struct ebpf_struct_ops_map);
+	case EBPF_KEPT_STRUCT_OPS_PROGRAMS:
+		return sizeof(struct ebpf_struct_ops_program);
 	case EBPF_KEPT_SLOTS:
 		return sizeof(struct ebpf_insn);
 	case EBPF_KEPT_FUNC_INFOS:
@@ -70,6 +74,11 @@ static uint32_t ask_list(struct exact_handle *exact, struct ebpf_asked *asked, s
 	case EBPF_KEPT_WITHOUT_DESCRIPTORS:
 		return exact_ebpf_maps_without_descriptors(exact, asked->descriptors, asked->descriptors_len, FILE_BYTES,
 							   LISTED);
+	case EBPF_KEPT_STRUCT_OPS_MAPS:
+		return exact_ebpf_struct_ops_maps(exact, FILE_BYTES, asked->btf, LISTED, EBPF_TOLD(*told));
+	case EBPF_KEPT_STRUCT_OPS_PROGRAMS:
+		return exact_ebpf_struct_ops_programs(exact, FILE_BYTES, asked->btf, asked->index, LISTED,
+						      EBPF_TOLD(*told));
 	default:
 		return exact_ebpf_link_map(exact, FILE_BYTES, LISTED, EBPF_TOLD(*told));
 	}
@@ -104,6 +113,9 @@ uint32_t ebpf_layer_ask(const struct ebpf_handle *handle, struct ebpf_asked *ask
 						&asked->is_found, EBPF_TOLD(*told));
 	case EBPF_KEPT_NUMBERED:
 		return exact_ebpf_kconfig_number(exact, FILE_BYTES, asked->number, VALUES, EBPF_TOLD(*told));
+	case EBPF_KEPT_STRUCT_OPS_VALUE:
+		return exact_ebpf_struct_ops_value(exact, FILE_BYTES, asked->btf, asked->index, VALUES,
+						   EBPF_TOLD(*told));
 	default:
 		return ask_list(exact, asked, into, counts, told);
 	}

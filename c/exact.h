@@ -145,6 +145,17 @@ uint32_t exact_ebpf_set_values(struct exact_handle *handle, const struct exact_v
 uint32_t exact_ebpf_slots(struct exact_handle *handle, const void *name, size_t name_len, struct ebpf_insn *slots,
 		size_t slots_len, size_t *count);
 uint32_t exact_ebpf_states_license(struct exact_handle *handle, uint32_t *states);
+uint32_t exact_ebpf_struct_ops_maps(struct exact_handle *handle, const void *file, size_t file_len,
+		struct exact_btf *kernel, struct ebpf_struct_ops_map *rows, size_t rows_len, void *text,
+		size_t text_len, struct ebpf_counts *counts, void *about, size_t about_len,
+		struct ebpf_refusal *report);
+uint32_t exact_ebpf_struct_ops_programs(struct exact_handle *handle, const void *file, size_t file_len,
+		struct exact_btf *kernel, size_t map, struct ebpf_struct_ops_program *rows, size_t rows_len,
+		void *text, size_t text_len, struct ebpf_counts *counts, void *about, size_t about_len,
+		struct ebpf_refusal *report);
+uint32_t exact_ebpf_struct_ops_value(struct exact_handle *handle, const void *file, size_t file_len,
+		struct exact_btf *kernel, size_t map, void *value, size_t value_len, size_t *len, void *about,
+		size_t about_len, struct ebpf_refusal *report);
 uint32_t exact_ebpf_value(struct exact_handle *handle, const void *name, size_t name_len, void *value,
 		size_t value_len, size_t *len);
 uint32_t exact_ebpf_variables(struct exact_handle *handle, struct ebpf_variable *rows, size_t rows_len, void *text,

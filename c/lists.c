@@ -140,13 +140,19 @@ static uint32_t taken(const struct ebpf_handle *handle, enum ebpf_kept_kind kind
 	return ebpf_layer_taken(handle, &asked, count);
 }
 
-static const char *taken_at(const struct ebpf_handle *handle, enum ebpf_kept_kind kind, size_t index, void *row)
+/* What was taken of a kind, for a map where it belongs to one; or NULL. */
+static const struct ebpf_kept *kept_of(const struct ebpf_handle *handle, enum ebpf_kept_kind kind, size_t of)
 {
-	const struct ebpf_kept *list = handle ? ebpf_layer_find(handle, kind, 0) : NULL;
+	const struct ebpf_kept *kept = handle ? ebpf_layer_find(handle, kind, of) : NULL;
 
 	if (handle)
-		ebpf_layer_end(handle, list ? EBPF_DONE : handle->exact.at ? EBPF_NO_ROW : EBPF_CLOSED, NULL);
-	return row_of(handle, list, index, row);
+		ebpf_layer_end(handle, kept ? EBPF_DONE : handle->exact.at ? EBPF_NO_ROW : EBPF_CLOSED, NULL);
+	return kept;
+}
+
+static const char *taken_at(const struct ebpf_handle *handle, enum ebpf_kept_kind kind, size_t index, void *row)
+{
+	return row_of(handle, kept_of(handle, kind, 0), index, row);
 }
 
 uint32_t ebpf_initial_slots(const struct ebpf_handle *handle, const uint8_t *file, size_t file_len, size_t *count)
@@ -207,6 +213,42 @@ const char *ebpf_code_copy_at(const struct ebpf_handle *handle, size_t index, st
 const char *ebpf_map_without_descriptor_at(const struct ebpf_handle *handle, size_t index, struct ebpf_map_slot *row)
 {
 	return taken_at(handle, EBPF_KEPT_WITHOUT_DESCRIPTORS, index, row);
+}
+
+/* ---- maps of struct_ops: their list, and of each its programs and its value */
+
+uint32_t ebpf_struct_ops_maps(const struct ebpf_handle *handle, const uint8_t *file, size_t file_len,
+			      const struct ebpf_btf *btf, size_t *count)
+{
+	struct exact_btf no_types = { NULL };
+	struct ebpf_asked asked = { .kind = EBPF_KEPT_STRUCT_OPS_MAPS,
+				    .name = file,
+				    .name_len = file_len,
+				    .btf = EBPF_TYPES(btf) };
+	size_t maps = 0;
+	uint32_t number = ebpf_layer_taken(handle, &asked, &maps);
+
+	for (; number == EBPF_DONE && asked.index < maps; asked.index++) {
+		asked.kind = EBPF_KEPT_STRUCT_OPS_PROGRAMS;
+		number = ebpf_layer_taken(handle, &asked, NULL);
+		asked.kind = EBPF_KEPT_STRUCT_OPS_VALUE;
+		if (number == EBPF_DONE)
+			number = ebpf_layer_taken(handle, &asked, NULL);
+	}
+	if (number == EBPF_DONE && count)
+		*count = maps;
+	return number;
+}
+
+const char *ebpf_struct_ops_map_at(const struct ebpf_handle *handle, size_t index, struct ebpf_struct_ops_map *row)
+{
+	return taken_at(handle, EBPF_KEPT_STRUCT_OPS_MAPS, index, row);
+}
+
+const char *ebpf_struct_ops_program_at(const struct ebpf_handle *handle, size_t map, size_t index,
+				       struct ebpf_struct_ops_program *row)
+{
+	return row_of(handle, kept_of(handle, EBPF_KEPT_STRUCT_OPS_PROGRAMS, map), index, row);
 }
 
 /* ---- what belongs to a row, and single values */
@@ -277,6 +319,11 @@ const uint8_t *ebpf_least_types(const struct ebpf_handle *handle, const struct e
 	struct ebpf_asked asked = { .kind = EBPF_KEPT_LEAST_TYPES, .btf = EBPF_TYPES(btf) };
 
 	return values_in(ebpf_layer_take(handle, &asked), len);
+}
+
+const uint8_t *ebpf_struct_ops_value(const struct ebpf_handle *handle, size_t map, size_t *len)
+{
+	return values_in(kept_of(handle, EBPF_KEPT_STRUCT_OPS_VALUE, map), len);
 }
 
 const uint8_t *ebpf_kconfig_value(const struct ebpf_handle *handle, const char *name, size_t name_len,

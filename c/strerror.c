@@ -534,6 +534,76 @@ const char *ebpf_strerror(uint32_t number)
 		return ".addr_space.1 has variables, and no map is an arena";
 	case EBPF_COMPLETED_MAPS_ARENA_TOO_SMALL:
 		return "the arena has fewer bytes than .addr_space.1";
+	case EBPF_STRUCT_OPS_FILE_TOO_SHORT:
+		return "struct_ops: the file is too short for its header";
+	case EBPF_STRUCT_OPS_FILE_BAD_MAGIC:
+		return "struct_ops: the file does not begin as ELF does";
+	case EBPF_STRUCT_OPS_FILE_NOT_ELF64:
+		return "struct_ops: the file is no ELF64";
+	case EBPF_STRUCT_OPS_FILE_BAD_BYTE_ORDER:
+		return "struct_ops: the byte order is neither little nor big";
+	case EBPF_STRUCT_OPS_FILE_BAD_SECTION_TABLE:
+		return "struct_ops: the section table is not inside the file";
+	case EBPF_STRUCT_OPS_FILE_BAD_SECTION_RANGE:
+		return "struct_ops: a section is not inside the file";
+	case EBPF_STRUCT_OPS_FILE_BAD_STRING_TABLE:
+		return "struct_ops: a string table can't be read";
+	case EBPF_STRUCT_OPS_FILE_BAD_SYMBOL_TABLE:
+		return "struct_ops: the symbol table can't be read";
+	case EBPF_STRUCT_OPS_FILE_BAD_RELOCATION_TABLE:
+		return "struct_ops: a relocation table can't be read";
+	case EBPF_STRUCT_OPS_FILE_EXTENDED_NUMBERING:
+		return "struct_ops: sections are numbered in the extended way";
+	case EBPF_STRUCT_OPS_NO_TYPES:
+		return "the object has sections of struct_ops and no types";
+	case EBPF_STRUCT_OPS_NO_DATASEC:
+		return "a section of struct_ops has no DATASEC of its name";
+	case EBPF_STRUCT_OPS_NO_KERNEL_STRUCT:
+		return "the kernel lacks a struct that a map of struct_ops wants";
+	case EBPF_STRUCT_OPS_NO_DATA_MEMBER:
+		return "the kernel's value of a map does not hold its struct";
+	case EBPF_STRUCT_OPS_OTHER_USE:
+		return "maps use a program for two structs or two members";
+	case EBPF_STRUCT_OPS_NOT_A_VARIABLE:
+		return "an entry of a section of struct_ops names no variable";
+	case EBPF_STRUCT_OPS_NOT_A_STRUCT:
+		return "the type of a variable of struct_ops is no struct";
+	case EBPF_STRUCT_OPS_ANONYMOUS:
+		return "the struct of a variable of struct_ops has no name";
+	case EBPF_STRUCT_OPS_NO_SYMBOL:
+		return "the section has no symbol of a variable of struct_ops";
+	case EBPF_STRUCT_OPS_OUTSIDE_SECTION:
+		return "a variable of struct_ops passes the end of the section";
+	case EBPF_STRUCT_OPS_UNKNOWN_SYMBOL:
+		return "the object lacks the symbol of a relocation of struct_ops";
+	case EBPF_STRUCT_OPS_OUTSIDE_VARIABLES:
+		return "a relocation of struct_ops is in no variable";
+	case EBPF_STRUCT_OPS_NO_MEMBER:
+		return "no member begins at a relocation of struct_ops";
+	case EBPF_STRUCT_OPS_NO_FUNCTION_POINTER:
+		return "a relocation of struct_ops is at a member that points to no function";
+	case EBPF_STRUCT_OPS_UNKNOWN_PROGRAM:
+		return "the symbol of a relocation of struct_ops names no program";
+	case EBPF_STRUCT_OPS_OTHER_PROGRAM:
+		return "a program at a member is in no section of struct_ops";
+	case EBPF_STRUCT_OPS_UNKNOWN_SIZE:
+		return "the type of a member has no size";
+	case EBPF_STRUCT_OPS_BIT_FIELD:
+		return "a member is a bit field";
+	case EBPF_STRUCT_OPS_OUTSIDE_STRUCT:
+		return "a member passes the end of its struct";
+	case EBPF_STRUCT_OPS_MISSING_MEMBER:
+		return "the kernel's struct lacks a member that is not zero";
+	case EBPF_STRUCT_OPS_DIFFERENT_KINDS:
+		return "a member is of another kind in the kernel";
+	case EBPF_STRUCT_OPS_NOT_A_PROGRAM:
+		return "a member is a pointer to no program";
+	case EBPF_STRUCT_OPS_KERNEL_NO_FUNCTION:
+		return "a member with a program points to no function in the kernel";
+	case EBPF_STRUCT_OPS_DIFFERENT_SIZES:
+		return "a member is of another size in the kernel";
+	case EBPF_STRUCT_OPS_OUTSIDE_VALUE:
+		return "a member passes the end of the map's value in the kernel";
 	default:
 		return "an unknown number";
 	}

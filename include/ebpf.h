@@ -374,6 +374,44 @@ enum ebpf_number {
 	EBPF_COMPLETED_MAPS_SECOND_ARENA = 1121, /* a map is a second arena */
 	EBPF_COMPLETED_MAPS_NO_ARENA = 1122, /* .addr_space.1 has variables, and no map is an arena */
 	EBPF_COMPLETED_MAPS_ARENA_TOO_SMALL = 1123, /* the arena has fewer bytes than .addr_space.1 */
+
+	/* 1200 to 1299: maps of struct_ops. About the struct (1222), map (1223), program (1224), variable (1240 on), member */
+	/* (1280 on) */
+	EBPF_STRUCT_OPS_FILE_TOO_SHORT = 1200, /* struct_ops: the file is too short for its header */
+	EBPF_STRUCT_OPS_FILE_BAD_MAGIC = 1201, /* struct_ops: the file does not begin as ELF does */
+	EBPF_STRUCT_OPS_FILE_NOT_ELF64 = 1202, /* struct_ops: the file is no ELF64 */
+	EBPF_STRUCT_OPS_FILE_BAD_BYTE_ORDER = 1203, /* struct_ops: the byte order is neither little nor big */
+	EBPF_STRUCT_OPS_FILE_BAD_SECTION_TABLE = 1204, /* struct_ops: the section table is not inside the file */
+	EBPF_STRUCT_OPS_FILE_BAD_SECTION_RANGE = 1205, /* struct_ops: a section is not inside the file */
+	EBPF_STRUCT_OPS_FILE_BAD_STRING_TABLE = 1206, /* struct_ops: a string table can't be read */
+	EBPF_STRUCT_OPS_FILE_BAD_SYMBOL_TABLE = 1207, /* struct_ops: the symbol table can't be read */
+	EBPF_STRUCT_OPS_FILE_BAD_RELOCATION_TABLE = 1208, /* struct_ops: a relocation table can't be read */
+	EBPF_STRUCT_OPS_FILE_EXTENDED_NUMBERING = 1209, /* struct_ops: sections are numbered in the extended way */
+	EBPF_STRUCT_OPS_NO_TYPES = 1220, /* the object has sections of struct_ops and no types */
+	EBPF_STRUCT_OPS_NO_DATASEC = 1221, /* a section of struct_ops has no DATASEC of its name */
+	EBPF_STRUCT_OPS_NO_KERNEL_STRUCT = 1222, /* the kernel lacks a struct that a map of struct_ops wants */
+	EBPF_STRUCT_OPS_NO_DATA_MEMBER = 1223, /* the kernel's value of a map does not hold its struct */
+	EBPF_STRUCT_OPS_OTHER_USE = 1224, /* maps use a program for two structs or two members */
+	EBPF_STRUCT_OPS_NOT_A_VARIABLE = 1240, /* an entry of a section of struct_ops names no variable */
+	EBPF_STRUCT_OPS_NOT_A_STRUCT = 1241, /* the type of a variable of struct_ops is no struct */
+	EBPF_STRUCT_OPS_ANONYMOUS = 1242, /* the struct of a variable of struct_ops has no name */
+	EBPF_STRUCT_OPS_NO_SYMBOL = 1243, /* the section has no symbol of a variable of struct_ops */
+	EBPF_STRUCT_OPS_OUTSIDE_SECTION = 1244, /* a variable of struct_ops passes the end of the section */
+	EBPF_STRUCT_OPS_UNKNOWN_SYMBOL = 1260, /* the object lacks the symbol of a relocation of struct_ops */
+	EBPF_STRUCT_OPS_OUTSIDE_VARIABLES = 1261, /* a relocation of struct_ops is in no variable */
+	EBPF_STRUCT_OPS_NO_MEMBER = 1262, /* no member begins at a relocation of struct_ops */
+	EBPF_STRUCT_OPS_NO_FUNCTION_POINTER = 1263, /* a relocation of struct_ops is at a member that points to no function */
+	EBPF_STRUCT_OPS_UNKNOWN_PROGRAM = 1264, /* the symbol of a relocation of struct_ops names no program */
+	EBPF_STRUCT_OPS_OTHER_PROGRAM = 1265, /* a program at a member is in no section of struct_ops */
+	EBPF_STRUCT_OPS_UNKNOWN_SIZE = 1280, /* the type of a member has no size */
+	EBPF_STRUCT_OPS_BIT_FIELD = 1281, /* a member is a bit field */
+	EBPF_STRUCT_OPS_OUTSIDE_STRUCT = 1282, /* a member passes the end of its struct */
+	EBPF_STRUCT_OPS_MISSING_MEMBER = 1283, /* the kernel's struct lacks a member that is not zero */
+	EBPF_STRUCT_OPS_DIFFERENT_KINDS = 1284, /* a member is of another kind in the kernel */
+	EBPF_STRUCT_OPS_NOT_A_PROGRAM = 1285, /* a member is a pointer to no program */
+	EBPF_STRUCT_OPS_KERNEL_NO_FUNCTION = 1286, /* a member with a program points to no function in the kernel */
+	EBPF_STRUCT_OPS_DIFFERENT_SIZES = 1287, /* a member is of another size in the kernel */
+	EBPF_STRUCT_OPS_OUTSIDE_VALUE = 1288, /* a member passes the end of the map's value in the kernel */
 };
 
 /* ---- what a refusal reports beside the name that it is about */
@@ -896,8 +934,8 @@ const uint8_t *ebpf_kconfig_number(const struct ebpf_handle *handle, const char 
  * number of bytes of a page, 4096 on most systems.
  *  - It refuses pinnings other than 0 and 1, a second map of type 33 (BPF_MAP_TYPE_ARENA), and variables in an arena
  *    that is not there or is too small.
- *  - The arena gets the bytes of the section `.addr_space.1` as data, and that section. Then `ebpf_relocate_maps` writes
- *    references to the variables in it (without this call 301), and `ebpf_variable_at` lists them.
+ *  - The arena gets the bytes of the section `.addr_space.1` as data, and that section. Then `ebpf_relocate_maps`
+ *    writes references to the variables in it (without this call 301), and `ebpf_variable_at` lists them.
  *  - All else is unchanged. The object owns as many bytes more as the section has: they are not in `max_bytes`.
  * A loader maps the arena's pages into memory (mmap(2)), at `extra` if it is not 0, and copies the data to their start.
  * Numbers: 2, 3, 12, 1100 to 1199.
@@ -1054,6 +1092,45 @@ struct ebpf_initial_slot {
 EBPF_CHECKED uint32_t ebpf_initial_slots(const struct ebpf_handle *handle, const uint8_t *file, size_t file_len,
 			size_t *count);
 const char *ebpf_initial_slot_at(const struct ebpf_handle *handle, size_t index, struct ebpf_initial_slot *row);
+
+/* A map of struct_ops, as the kernel of some types takes it. */
+struct ebpf_struct_ops_map {
+	size_t name_at, name_len; /* the place of the name in the text */
+	size_t value_len;	  /* the size of the value in bytes */
+	size_t programs;	  /* how many programs the value holds */
+	uint32_t struct_id;	  /* the id of the kernel's struct: attach_btf_id of its programs */
+	uint32_t value_type_id;	  /* the id of the STRUCT that is the value: btf_vmlinux_value_type_id */
+	uint32_t is_link;	  /* 1 or 0: whether a link attaches it (BPF_F_LINK) */
+};
+
+/* A program whose descriptor the value of such a map holds. */
+struct ebpf_struct_ops_program {
+	size_t name_at, name_len; /* the place of the program's name in the text */
+	uint64_t offset;	  /* where in the value its descriptor goes, in bytes: a number of 8 bytes */
+	size_t member;		  /* the index of its member in the kernel's struct: expected_attach_type */
+};
+
+/*
+ * Takes the list of the maps of struct_ops that a loader makes, by the types of the running kernel. *count is how many
+ * there are. `file` is what the handle was opened from.
+ *  - The maps are the variables of the sections `.struct_ops` and `.struct_ops.link`, in the order of sections and of
+ *    their types. Those of `?.struct_ops` and `?.struct_ops.link` are not listed: libbpf creates them only where it is
+ *    asked to.
+ *  - `ebpf_struct_ops_map_at` returns the name of a map. BPF_MAP_CREATE takes type 26, keys of 4 bytes, one entry, the
+ *    descriptor of the object's types, and the numbers of the row.
+ *  - `ebpf_struct_ops_value` returns the bytes of the value of a map; they are zero where descriptors go.
+ *  - `ebpf_struct_ops_program_at` returns the name of a program of a map, in the order of the members. Load it with the
+ *    map's `struct_id` and its `member`, and write its descriptor at `offset` of a copy of the value. The value goes to
+ *    key 0. It registers the struct, where no link does.
+ *  - Call it before `ebpf_leave_out`, which takes away programs that these maps may name. The object is unchanged.
+ * Numbers: 2, 3, 1200 to 1299.
+ */
+EBPF_CHECKED uint32_t ebpf_struct_ops_maps(const struct ebpf_handle *handle, const uint8_t *file, size_t file_len,
+			const struct ebpf_btf *btf, size_t *count);
+const char *ebpf_struct_ops_map_at(const struct ebpf_handle *handle, size_t index, struct ebpf_struct_ops_map *row);
+const char *ebpf_struct_ops_program_at(const struct ebpf_handle *handle, size_t map, size_t index,
+			struct ebpf_struct_ops_program *row);
+const uint8_t *ebpf_struct_ops_value(const struct ebpf_handle *handle, size_t map, size_t *len);
 
 /*
  * ---- relocation, a pass at a time, in this order: ebpf_relocate_types, ebpf_relocate_maps, ebpf_resolve_externs,

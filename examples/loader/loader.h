@@ -15,6 +15,16 @@ struct bytes {
 	size_t len;
 };
 
+/* A map of struct_ops, copied of what the library says of it. */
+struct struct_ops {
+	struct ebpf_struct_ops_map row;
+	char *name;
+	uint8_t *value;
+	struct ebpf_struct_ops_program *programs;
+	char **program_names;
+	int descriptor;
+};
+
 /* An object that is loaded. */
 struct loading {
 	struct ebpf_handle *object;
@@ -25,6 +35,8 @@ struct loading {
 	int own_types; /* the descriptor of the object's types; -1 where it has none, or the kernel doesn't take them */
 	int *maps;     /* the descriptor of each map, in the order of the library's list */
 	int *programs; /* the descriptor of each program in that order, -1 until it is loaded */
+	struct struct_ops *struct_ops;
+	size_t struct_ops_count;
 };
 
 /* files.c: memory, and the bytes of files */
@@ -47,6 +59,7 @@ uint32_t running_version(void);
 void define_kconfig(struct loading *of, const char *config_path);
 
 /* types.c */
+const struct ebpf_btf *kernel_types(struct loading *of);
 const struct ebpf_btf *wanted_types(struct loading *of);
 void load_types(struct loading *of);
 uint32_t target_of(struct loading *of, size_t program);
@@ -63,6 +76,13 @@ size_t find_map(const struct loading *of, const char *name);
 
 /* initial.c */
 void put_initial(const struct loading *of, int are_programs);
+
+/* struct_ops.c */
+void list_struct_ops(struct loading *of);
+const struct struct_ops *map_of_program(const struct loading *of, const char *name, uint32_t *member);
+void make_struct_ops(struct loading *of);
+void register_struct_ops(const struct loading *of, const char *name, unsigned milliseconds);
+void free_struct_ops(struct loading *of);
 
 /* programs.c */
 void load_programs(struct loading *of);

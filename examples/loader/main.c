@@ -3,7 +3,7 @@
  * map or a variable holds then; on bpf(2) and libebpf.a alone.
  *
  * usage: loader [--config FILE] [--wait MILLISECONDS] [--without PROGRAM].. FILE PROGRAM [MAP|VARIABLE [BYTES]]
- *        loader --load FILE
+ *        loader [--wait MILLISECONDS] --load FILE [STRUCT_OPS]
  *        loader --targets FILE
  *
  * BYTES: a file with the bytes that the program runs on; 64 zero bytes if left out.
@@ -11,7 +11,8 @@
  *           /proc/config.gz, which `zcat` unpacks.
  * --wait: how long to wait between the run and the map, or how long a program of tp_btf stays attached.
  * --without: leaves a program out, so that an extern that the kernel lacks stops only this program.
- * --load: loads the programs and maps of the file, and runs nothing.
+ * --load: loads the programs and maps of the file, and runs nothing. The map of struct_ops of the name STRUCT_OPS gets its
+ *         value, and is registered for the time of --wait.
  * --targets: prints what the programs are attached to, as ids of the kernel's types, and loads nothing.
  *
  * Of sections with `?` only PROGRAM is loaded; the others are left out, with what they alone need. A program of iter runs as
@@ -36,7 +37,7 @@ struct options {
 static _Noreturn void usage(void)
 {
 	fputs("usage: loader [--config FILE] [--wait MILLISECONDS] [--without PROGRAM].. FILE PROGRAM [MAP|VARIABLE [BYTES]]\n"
-	      "       loader --load FILE\n"
+	      "       loader [--wait MILLISECONDS] --load FILE [STRUCT_OPS]\n"
 	      "       loader --targets FILE\n",
 	      stderr);
 	exit(2);
@@ -64,7 +65,7 @@ static struct options parse(int count, char **word)
 	}
 	of.words = word + at;
 	of.count = count - at;
-	if (of.targets || of.only_loads ? of.count != 1 : of.count < 2 || of.count > 4)
+	if (of.count < (of.targets || of.only_loads ? 1 : 2) || of.count > (of.targets ? 1 : of.only_loads ? 2 : 4))
 		usage();
 	return of;
 }
@@ -75,7 +76,17 @@ static const char *asked_program(const struct options *options)
 	return options->targets || options->only_loads ? NULL : options->words[1];
 }
 
-/* Leaves out what is not loaded: the programs of --without, and those of sections with `?` but the one that runs. */
+/* Whether a program is loaded: sections with `?` load the one that runs alone, and struct_ops those that its maps have. */
+static int is_wanted(const struct loading *of, const char *name, const struct ebpf_program *program, const char *asked)
+{
+	uint32_t member;
+
+	if (program->program_type == BPF_PROG_TYPE_STRUCT_OPS && of->struct_ops && !map_of_program(of, name, &member))
+		return 0;
+	return !(program->flags & EBPF_OPTIONAL) || (asked && !strcmp(asked, name));
+}
+
+/* Leaves out what is not loaded: the programs of --without too. */
 static void leave_out(struct loading *of, const char *path, const struct options *options)
 {
 	const char *name, *asked = asked_program(options);
@@ -85,7 +96,7 @@ static void leave_out(struct loading *of, const char *path, const struct options
 
 	memcpy(names, options->without, count * sizeof(*names));
 	for (size_t at = 0; !options->targets && (name = ebpf_program_at(of->object, at, &program)); at++)
-		if (program.flags & EBPF_OPTIONAL && !(asked && !strcmp(asked, name)))
+		if (!is_wanted(of, name, &program, asked))
 			names[count++] = name;
 	check(of, path, ebpf_leave_out(of->object, names, count));
 	free(names);
@@ -98,6 +109,8 @@ static void open_object(struct loading *of, const char *path, const struct optio
 	of->file = read_file(path);
 	check(of, path, ebpf_open(of->file.at, of->file.len, NULL, &of->object));
 	check(of, path, ebpf_complete_maps(of->object, of->file.at, of->file.len, sysconf(_SC_PAGESIZE)));
+	if (!options->targets)
+		list_struct_ops(of);
 	leave_out(of, path, options);
 }
 
@@ -131,6 +144,7 @@ static void load(struct loading *of, const struct options *options)
 	define_kconfig(of, options->config);
 	load_types(of);
 	make_maps(of);
+	make_struct_ops(of);
 	put_initial(of, 0);
 	check(of, "symbols", ebpf_wants_symbols(of->object, &wants_symbols));
 	if (wants_symbols) /* they take long to read */
@@ -142,6 +156,7 @@ static void load(struct loading *of, const struct options *options)
 
 static void free_all(struct loading *of)
 {
+	free_struct_ops(of);
 	ebpf_close(of->object);
 	free(of->file.at);
 	ebpf_btf_close(of->kernel_types);
@@ -168,6 +183,13 @@ static void load_and_run(struct loading *of, const struct options *options)
 	free(given.at);
 }
 
+static void load_and_register(struct loading *of, const struct options *options)
+{
+	load(of, options);
+	if (options->count > 1)
+		register_struct_ops(of, options->words[1], options->milliseconds);
+}
+
 int main(int count, char **word)
 {
 	struct loading of = { .object = NULL };
@@ -177,7 +199,7 @@ int main(int count, char **word)
 	if (options.targets)
 		print_targets(&of);
 	else if (options.only_loads)
-		load(&of, &options);
+		load_and_register(&of, &options);
 	else
 		load_and_run(&of, &options);
 	free_all(&of);

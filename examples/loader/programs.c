@@ -46,6 +46,16 @@ static size_t describe_code(union bpf_attr *attr, const struct loading *of, size
 	return slots;
 }
 
+/* The kernel's struct and its member that a program of struct_ops stands at. */
+static void describe_member(union bpf_attr *attr, const struct loading *of, const char *name)
+{
+	uint32_t member = 0;
+	const struct struct_ops *map = map_of_program(of, name, &member);
+
+	attr->attach_btf_id = map ? map->row.struct_id : 0;
+	attr->expected_attach_type = member;
+}
+
 static void describe(union bpf_attr *attr, struct loading *of, size_t at, const char *name,
 		     const struct ebpf_program *program)
 {
@@ -59,6 +69,8 @@ static void describe(union bpf_attr *attr, struct loading *of, size_t at, const 
 	attr->prog_flags = program->flags & EBPF_SLEEPABLE ? BPF_F_SLEEPABLE : 0;
 	attr->prog_flags |= program->flags & EBPF_FRAGS ? BPF_F_XDP_HAS_FRAGS : 0;
 	attr->attach_btf_id = program->flags & EBPF_TARGET ? target_of(of, at) : 0;
+	if (program->program_type == BPF_PROG_TYPE_STRUCT_OPS)
+		describe_member(attr, of, name);
 	attr->kern_version = info.kernel_version ? info.kernel_version : running_version();
 	put_name(attr->prog_name, name);
 }

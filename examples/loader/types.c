@@ -2,7 +2,7 @@
 #include "loader.h"
 
 /* The kernel's types, read where they are first asked for, once for all calls that are given them. */
-static const struct ebpf_btf *kernel_types(struct loading *of)
+const struct ebpf_btf *kernel_types(struct loading *of)
 {
 	struct bytes types;
 	uint32_t number;

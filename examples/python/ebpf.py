@@ -88,6 +88,16 @@ class _InitialSlot(c.Structure):
     _fields_ += [("index", _u32), ("is_program", _u32)]
 
 
+class _StructOpsMap(c.Structure):
+    _names = ("struct_id", "value_type_id", "is_link")
+    _fields_ = [(name, _size) for name in ("name_at", "name_len", "value_len", "programs")]
+    _fields_ += [(name, _u32) for name in _names]
+
+
+class _StructOpsProgram(c.Structure):
+    _fields_ = [("name_at", _size), ("name_len", _size), ("offset", _u64), ("member", _size)]
+
+
 class Insn(c.Structure):
     """An instruction slot, a `struct bpf_insn`: `code`, `regs` (the destination in the low four bits, the source in the high
     four), `off`, `imm`."""
@@ -201,7 +211,7 @@ CALLS = {
     "ebpf_kconfig_value": (*_named, *_bytes, _p(_size)),
     "ebpf_kconfig_number": (*_named, _u64, _p(_size)),
     "ebpf_define_kconfig": (_handle, _p(_ValueRow), _size),
-    "ebpf_complete_maps": (_handle, *_bytes, c.c_uint32),
+    "ebpf_complete_maps": (_handle, *_bytes, _u32),
     "ebpf_variables": (_handle, *_list(_Variable)),
     "ebpf_value": (*_named, *_room, _p(_size)),
     "ebpf_set_map_data": (*_named, *_bytes),
@@ -231,6 +241,10 @@ CALLS = {
     "ebpf_least_types": (_handle, _handle, _p(_size)),
     "ebpf_initial_slots": (_handle, *_bytes, _p(_size)),
     "ebpf_initial_slot_at": (_handle, _size, _p(_InitialSlot)),
+    "ebpf_struct_ops_maps": (_handle, *_bytes, _handle, _p(_size)),
+    "ebpf_struct_ops_map_at": (_handle, _size, _p(_StructOpsMap)),
+    "ebpf_struct_ops_program_at": (_handle, _size, _size, _p(_StructOpsProgram)),
+    "ebpf_struct_ops_value": (_handle, _size, _p(_size)),
     "ebpf_relocate_types": (_handle, *_bytes),
     "ebpf_relocate_types_with": (_handle, _handle),
     "ebpf_record_outcomes": (_handle, *_bytes, _p(_size)),
@@ -265,6 +279,7 @@ RESULTS = {
     **{name: _size for name in CALLS if name.endswith("_count")},
     **{name: c.c_void_p for name in CALLS if name.endswith(("_at", "_section_name", "_contents", "_license_text"))},
     **{name: c.c_void_p for name in ("ebpf_kernel_types", "ebpf_least_types", "ebpf_kconfig_value", "ebpf_kconfig_number")},
+    "ebpf_struct_ops_value": c.c_void_p,
 }
 
 DONE, ROOM, MEMORY = 0, 1, 2
@@ -439,6 +454,27 @@ class InitialSlot:
     index: int
     target: str
     is_program: bool
+
+
+@dataclasses.dataclass(frozen=True)
+class StructOpsProgram:
+    """A program of a map of struct_ops: its descriptor goes to `offset` of the value, and it is loaded with `member`."""
+
+    name: str
+    offset: int
+    member: int
+
+
+@dataclasses.dataclass(frozen=True)
+class StructOpsMap:
+    """A map of struct_ops: its programs are loaded with `struct_id`, and `value` is zero where their descriptors go."""
+
+    name: str
+    struct_id: int
+    value_type_id: int
+    is_link: bool
+    value: bytes
+    programs: list
 
 
 @dataclasses.dataclass(frozen=True)
@@ -780,6 +816,22 @@ class Contents:
         target = lambda row, place: c.string_at(place + row.target_at, row.target_len).decode("utf-8", "replace")
         return [InitialSlot(name, row.index, target(row, place), bool(row.is_program)) for row, name, place in rows]
 
+    def struct_ops_maps(self, file, types):
+        """The maps of struct_ops that a loader makes, by a kernel's types (`Types`). `file` is what the object was opened
+        from. Refused 1200 to 1299."""
+        count = _size()
+        self._made(library.ebpf_struct_ops_maps(self._handle, *_data(file), types._handle, c.byref(count)))
+        rows = self._rows(_StructOpsMap, library.ebpf_struct_ops_map_at, count)
+        return [self._struct_ops_map(at, row, name) for at, (row, name, _) in enumerate(rows)]
+
+    def _struct_ops_map(self, at, row, name):
+        program_at = lambda handle, index, into: library.ebpf_struct_ops_program_at(handle, at, index, into)
+        rows = self._rows(_StructOpsProgram, program_at, _size(row.programs))
+        programs = [StructOpsProgram(name, row.offset, row.member) for row, name, _ in rows]
+        length = _size()
+        value = self._kept(library.ebpf_struct_ops_value(self._handle, at, c.byref(length)), length)
+        return StructOpsMap(name, row.struct_id, row.value_type_id, bool(row.is_link), value, programs)
+
     def slots(self, program):
         """The slots of a program as they stand. Refused 4: none has the name."""
         return self._filled(library.ebpf_slots, *_text(program), kind=Insn, about=program)
@@ -831,6 +883,11 @@ class Object(_Linkable):
         """Adds the map .kconfig with the values of the kconfig externs, {name: bytes}. Refused 900 to 906."""
         rows = _value_rows(values, False)
         self._made(library.ebpf_define_kconfig(self._handle, rows, len(rows)))
+
+    def complete_maps(self, file, page_size=4096):
+        """Gives the arena the data of its variables, and refuses pinnings and arenas that libbpf refuses. `file` is what the
+        object was opened from. Refused 1100 to 1199."""
+        self._made(library.ebpf_complete_maps(self._handle, *_data(file), page_size))
 
     def set_map_data(self, name, data):
         """Sets all of the initial data of a map. Refused 5: no map has the name; 9: the data has another length."""

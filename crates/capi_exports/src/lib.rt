@@ -22,6 +22,7 @@ mod opening;
 mod passes;
 mod preparing;
 mod read_calls;
+mod struct_ops_calls;
 mod target_answers;
 mod variable_calls;
 mod version;

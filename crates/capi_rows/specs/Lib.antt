@@ -19,4 +19,5 @@ pub mod Refusals
 pub mod Listings
 pub mod LeastTypes
 pub mod Loading
+pub mod StructOps
 pub mod FaultNumbers

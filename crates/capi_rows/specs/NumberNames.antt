@@ -188,6 +188,51 @@ btf_map_faults =
     ∷ codes "ArenaTooSmall"
     ∷ []
 
+-- of maps of struct_ops
+abbrev pub struct_ops_faults : List (List ℕ)
+struct_ops_faults =
+    codes "NoTypes"
+    ∷ codes "NoDatasec"
+    ∷ codes "NoKernelStruct"
+    ∷ codes "NoDataMember"
+    ∷ codes "OtherUse"
+    ∷ []
+
+-- of variables of struct_ops
+abbrev pub variable_faults : List (List ℕ)
+variable_faults =
+    codes "NotAVariable"
+    ∷ codes "NotAStruct"
+    ∷ codes "Anonymous"
+    ∷ codes "NoSymbol"
+    ∷ codes "OutsideSection"
+    ∷ []
+
+-- of relocations of sections of struct_ops
+abbrev pub place_faults : List (List ℕ)
+place_faults =
+    codes "UnknownSymbol"
+    ∷ codes "OutsideVariables"
+    ∷ codes "NoMember"
+    ∷ codes "NotAFunctionPointer"
+    ∷ codes "UnknownProgram"
+    ∷ codes "NotStructOps"
+    ∷ []
+
+-- of members of struct_ops
+abbrev pub member_faults : List (List ℕ)
+member_faults =
+    codes "UnknownSize"
+    ∷ codes "BitField"
+    ∷ codes "OutsideStruct"
+    ∷ codes "Missing"
+    ∷ codes "DifferentKinds"
+    ∷ codes "NotAProgram"
+    ∷ codes "NotAFunctionPointer"
+    ∷ codes "DifferentSizes"
+    ∷ codes "OutsideValue"
+    ∷ []
+
 -- of descriptors that are not complete
 abbrev pub descriptor_faults : List (List ℕ)
 descriptor_faults =
@@ -240,6 +285,11 @@ number_stages =
     ∷ stage 1020 1100 (codes "least types: BtfError ") type_faults
     ∷ stage 1100 1120 (codes "completed maps: ") file_faults
     ∷ stage 1120 1200 (codes "completed maps: ") btf_map_faults
+    ∷ stage 1200 1220 (codes "struct_ops: ") file_faults
+    ∷ stage 1220 1240 (codes "struct_ops: ") struct_ops_faults
+    ∷ stage 1240 1260 (codes "struct_ops: variable ") variable_faults
+    ∷ stage 1260 1280 (codes "struct_ops: relocation ") place_faults
+    ∷ stage 1280 1300 (codes "struct_ops: member ") member_faults
     ∷ []
 
 abbrev pub with_title : List ℕ → Option (List ℕ) → List ℕ

@@ -203,6 +203,47 @@ const LEAST_TYPES_FAULTS: [&str; 3] = [
 /// Faults of BTF-defined maps that are completed.
 const BTF_MAP_FAULTS: [&str; 4] = ["UnknownPinning", "SecondArena", "NoArena", "ArenaTooSmall"];
 
+/// Faults of maps of struct_ops.
+const STRUCT_OPS_FAULTS: [&str; 5] = [
+    "NoTypes",
+    "NoDatasec",
+    "NoKernelStruct",
+    "NoDataMember",
+    "OtherUse",
+];
+
+/// Faults of variables of struct_ops.
+const VARIABLE_FAULTS: [&str; 5] = [
+    "NotAVariable",
+    "NotAStruct",
+    "Anonymous",
+    "NoSymbol",
+    "OutsideSection",
+];
+
+/// Faults of relocations of sections of struct_ops.
+const PLACE_FAULTS: [&str; 6] = [
+    "UnknownSymbol",
+    "OutsideVariables",
+    "NoMember",
+    "NotAFunctionPointer",
+    "UnknownProgram",
+    "NotStructOps",
+];
+
+/// Faults of members of struct_ops.
+const MEMBER_FAULTS: [&str; 9] = [
+    "UnknownSize",
+    "BitField",
+    "OutsideStruct",
+    "Missing",
+    "DifferentKinds",
+    "NotAProgram",
+    "NotAFunctionPointer",
+    "DifferentSizes",
+    "OutsideValue",
+];
+
 /// Faults of descriptors that aren't complete.
 const DESCRIPTOR_FAULTS: [&str; 2] = ["MissingDescriptor", "UnknownMap"];
 
@@ -221,7 +262,7 @@ struct Stage {
 }
 
 /// The stages, in the order of their numbers.
-const STAGES: [Stage; 25] = [
+const STAGES: [Stage; 30] = [
     Stage {
         first: 0,
         end: 100,
@@ -371,6 +412,36 @@ const STAGES: [Stage; 25] = [
         end: 1200,
         title: "completed maps: ",
         errors: &BTF_MAP_FAULTS,
+    },
+    Stage {
+        first: 1200,
+        end: 1220,
+        title: "struct_ops: ",
+        errors: &FILE_FAULTS,
+    },
+    Stage {
+        first: 1220,
+        end: 1240,
+        title: "struct_ops: ",
+        errors: &STRUCT_OPS_FAULTS,
+    },
+    Stage {
+        first: 1240,
+        end: 1260,
+        title: "struct_ops: variable ",
+        errors: &VARIABLE_FAULTS,
+    },
+    Stage {
+        first: 1260,
+        end: 1280,
+        title: "struct_ops: relocation ",
+        errors: &PLACE_FAULTS,
+    },
+    Stage {
+        first: 1280,
+        end: 1300,
+        title: "struct_ops: member ",
+        errors: &MEMBER_FAULTS,
     },
 ];
 

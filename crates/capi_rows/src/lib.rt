@@ -17,5 +17,6 @@ pub mod reads;
 pub mod record_rows;
 pub mod refusal;
 pub mod refusals;
+pub mod struct_ops;
 pub mod variables;
 pub mod wanted;

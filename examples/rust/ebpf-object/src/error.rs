@@ -99,6 +99,10 @@ pub enum Error {
     Kconfig(Box<Refusal>),
     /// The least types of a kernel can't be made (1000 to 1099).
     LeastTypes(Box<Refusal>),
+    /// The maps can't be completed (1100 to 1199).
+    CompletedMaps(Box<Refusal>),
+    /// The maps of struct_ops can't be made (1200 to 1299).
+    StructOps(Box<Refusal>),
     /// Another number of the library.
     Other(Box<Refusal>),
 }
@@ -203,6 +207,8 @@ impl Error {
             8 => Error::InitialSlots(refusal),
             9 => Error::Kconfig(refusal),
             10 => Error::LeastTypes(refusal),
+            11 => Error::CompletedMaps(refusal),
+            12 => Error::StructOps(refusal),
             _ => Error::Other(refusal),
         }
     }
@@ -226,7 +232,7 @@ impl Error {
         match self {
             Error::Parse(it) | Error::Types(it) | Error::Maps(it) | Error::Ksyms(it) | Error::Externs(it) => Some(it),
             Error::Calls(it) | Error::KernelTypes(it) | Error::InitialSlots(it) | Error::Kconfig(it) => Some(it),
-            Error::LeastTypes(it) | Error::Other(it) => Some(it),
+            Error::LeastTypes(it) | Error::CompletedMaps(it) | Error::StructOps(it) | Error::Other(it) => Some(it),
             _ => None,
         }
     }

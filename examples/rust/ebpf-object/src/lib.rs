@@ -47,6 +47,7 @@ mod outcomes;
 mod prepared;
 mod rows;
 mod steps;
+mod struct_ops;
 mod verdict;
 
 pub use code::{FuncInfo, Insn, LineInfo};
@@ -63,4 +64,5 @@ pub use rows::{
     Variable,
 };
 pub use steps::{ExternsRelocated, ExternsResolved, MapsRelocated, Opened, Steps, TypesRelocated};
+pub use struct_ops::{StructOpsMap, StructOpsProgram};
 pub use verdict::{Reason, ReasonSlot, Verdict};

@@ -302,6 +302,18 @@ impl Object {
         self.outcome(number, "")
     }
 
+    /// Completes the BTF-defined maps: the arena gets the data of its variables. `file` is what the object was opened from,
+    /// and a page has `page_size` bytes.
+    ///
+    /// # Errors
+    ///
+    /// - [`Error::CompletedMaps`]: a pinning is unknown, or variables in an arena have none with room for them.
+    pub fn complete_maps(&mut self, file: &[u8], page_size: u32) -> Result<(), Error> {
+        // SAFETY: the handle is open, and the file is borrowed for the call.
+        let number = unsafe { sys::ebpf_complete_maps(self.contents.handle(), file.as_ptr(), file.len(), page_size) };
+        self.outcome(number, "")
+    }
+
     /// Sets all of the initial data of a map, which has as many bytes as before.
     ///
     /// # Errors

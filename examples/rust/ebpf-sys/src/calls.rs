@@ -501,6 +501,47 @@ extern "C" {
     /// `ebpf_initial_slot_at` of the header.
     pub fn ebpf_initial_slot_at(handle: *const ebpf_handle, index: usize, row: *mut ebpf_initial_slot) -> *const c_char;
 
+    /// Takes the list of the maps of struct_ops that a loader makes, by the types of the running kernel. `*count` is
+    /// how many there are. `file` is what the handle was opened from.
+    ///
+    /// - The maps are the variables of the sections `.struct_ops` and `.struct_ops.link`, in the order of sections and
+    ///   of their types. Those of `?.struct_ops` and `?.struct_ops.link` are not listed: libbpf creates them only where
+    ///   it is asked to.
+    /// - `ebpf_struct_ops_map_at` returns the name of a map. BPF_MAP_CREATE takes type 26, keys of 4 bytes, one entry,
+    ///   the descriptor of the object's types, and the numbers of the row.
+    /// - `ebpf_struct_ops_value` returns the bytes of the value of a map; they are zero where descriptors go.
+    /// - `ebpf_struct_ops_program_at` returns the name of a program of a map, in the order of the members. Load it with
+    ///   the map's `struct_id` and its `member`, and write its descriptor at `offset` of a copy of the value. The value
+    ///   goes to key 0. It registers the struct, where no link does.
+    /// - Call it before `ebpf_leave_out`, which takes away programs that these maps may name. The object is unchanged.
+    ///
+    /// Numbers: 2, 3, 1200 to 1299.
+    pub fn ebpf_struct_ops_maps(
+        handle: *const ebpf_handle,
+        file: *const u8,
+        file_len: usize,
+        btf: *const ebpf_btf,
+        count: *mut usize,
+    ) -> u32;
+
+    /// `ebpf_struct_ops_map_at` of the header.
+    pub fn ebpf_struct_ops_map_at(
+        handle: *const ebpf_handle,
+        index: usize,
+        row: *mut ebpf_struct_ops_map,
+    ) -> *const c_char;
+
+    /// `ebpf_struct_ops_program_at` of the header.
+    pub fn ebpf_struct_ops_program_at(
+        handle: *const ebpf_handle,
+        map: usize,
+        index: usize,
+        row: *mut ebpf_struct_ops_program,
+    ) -> *const c_char;
+
+    /// `ebpf_struct_ops_value` of the header.
+    pub fn ebpf_struct_ops_value(handle: *const ebpf_handle, map: usize, len: *mut usize) -> *const u8;
+
     /// Relocates the functions to a kernel's types (CO-RE). `types` is raw BTF in the byte order that its magic number
     /// states. Numbers: 2, 3, 11, 12, 200 to 299.
     pub fn ebpf_relocate_types(handle: *mut ebpf_handle, types: *const u8, types_len: usize) -> u32;

@@ -803,6 +803,111 @@ pub const EBPF_COMPLETED_MAPS_NO_ARENA: u32 = 1122;
 /// The arena has fewer bytes than .addr_space.1.
 pub const EBPF_COMPLETED_MAPS_ARENA_TOO_SMALL: u32 = 1123;
 
+/// Struct_ops: the file is too short for its header.
+pub const EBPF_STRUCT_OPS_FILE_TOO_SHORT: u32 = 1200;
+
+/// Struct_ops: the file does not begin as ELF does.
+pub const EBPF_STRUCT_OPS_FILE_BAD_MAGIC: u32 = 1201;
+
+/// Struct_ops: the file is no ELF64.
+pub const EBPF_STRUCT_OPS_FILE_NOT_ELF64: u32 = 1202;
+
+/// Struct_ops: the byte order is neither little nor big.
+pub const EBPF_STRUCT_OPS_FILE_BAD_BYTE_ORDER: u32 = 1203;
+
+/// Struct_ops: the section table is not inside the file.
+pub const EBPF_STRUCT_OPS_FILE_BAD_SECTION_TABLE: u32 = 1204;
+
+/// Struct_ops: a section is not inside the file.
+pub const EBPF_STRUCT_OPS_FILE_BAD_SECTION_RANGE: u32 = 1205;
+
+/// Struct_ops: a string table can't be read.
+pub const EBPF_STRUCT_OPS_FILE_BAD_STRING_TABLE: u32 = 1206;
+
+/// Struct_ops: the symbol table can't be read.
+pub const EBPF_STRUCT_OPS_FILE_BAD_SYMBOL_TABLE: u32 = 1207;
+
+/// Struct_ops: a relocation table can't be read.
+pub const EBPF_STRUCT_OPS_FILE_BAD_RELOCATION_TABLE: u32 = 1208;
+
+/// Struct_ops: sections are numbered in the extended way.
+pub const EBPF_STRUCT_OPS_FILE_EXTENDED_NUMBERING: u32 = 1209;
+
+/// The object has sections of struct_ops and no types.
+pub const EBPF_STRUCT_OPS_NO_TYPES: u32 = 1220;
+
+/// A section of struct_ops has no DATASEC of its name.
+pub const EBPF_STRUCT_OPS_NO_DATASEC: u32 = 1221;
+
+/// The kernel lacks a struct that a map of struct_ops wants.
+pub const EBPF_STRUCT_OPS_NO_KERNEL_STRUCT: u32 = 1222;
+
+/// The kernel's value of a map does not hold its struct.
+pub const EBPF_STRUCT_OPS_NO_DATA_MEMBER: u32 = 1223;
+
+/// Maps use a program for two structs or two members.
+pub const EBPF_STRUCT_OPS_OTHER_USE: u32 = 1224;
+
+/// An entry of a section of struct_ops names no variable.
+pub const EBPF_STRUCT_OPS_NOT_A_VARIABLE: u32 = 1240;
+
+/// The type of a variable of struct_ops is no struct.
+pub const EBPF_STRUCT_OPS_NOT_A_STRUCT: u32 = 1241;
+
+/// The struct of a variable of struct_ops has no name.
+pub const EBPF_STRUCT_OPS_ANONYMOUS: u32 = 1242;
+
+/// The section has no symbol of a variable of struct_ops.
+pub const EBPF_STRUCT_OPS_NO_SYMBOL: u32 = 1243;
+
+/// A variable of struct_ops passes the end of the section.
+pub const EBPF_STRUCT_OPS_OUTSIDE_SECTION: u32 = 1244;
+
+/// The object lacks the symbol of a relocation of struct_ops.
+pub const EBPF_STRUCT_OPS_UNKNOWN_SYMBOL: u32 = 1260;
+
+/// A relocation of struct_ops is in no variable.
+pub const EBPF_STRUCT_OPS_OUTSIDE_VARIABLES: u32 = 1261;
+
+/// No member begins at a relocation of struct_ops.
+pub const EBPF_STRUCT_OPS_NO_MEMBER: u32 = 1262;
+
+/// A relocation of struct_ops is at a member that points to no function.
+pub const EBPF_STRUCT_OPS_NO_FUNCTION_POINTER: u32 = 1263;
+
+/// The symbol of a relocation of struct_ops names no program.
+pub const EBPF_STRUCT_OPS_UNKNOWN_PROGRAM: u32 = 1264;
+
+/// A program at a member is in no section of struct_ops.
+pub const EBPF_STRUCT_OPS_OTHER_PROGRAM: u32 = 1265;
+
+/// The type of a member has no size.
+pub const EBPF_STRUCT_OPS_UNKNOWN_SIZE: u32 = 1280;
+
+/// A member is a bit field.
+pub const EBPF_STRUCT_OPS_BIT_FIELD: u32 = 1281;
+
+/// A member passes the end of its struct.
+pub const EBPF_STRUCT_OPS_OUTSIDE_STRUCT: u32 = 1282;
+
+/// The kernel's struct lacks a member that is not zero.
+pub const EBPF_STRUCT_OPS_MISSING_MEMBER: u32 = 1283;
+
+/// A member is of another kind in the kernel.
+pub const EBPF_STRUCT_OPS_DIFFERENT_KINDS: u32 = 1284;
+
+/// A member is a pointer to no program.
+pub const EBPF_STRUCT_OPS_NOT_A_PROGRAM: u32 = 1285;
+
+/// A member with a program points to no function in the kernel.
+pub const EBPF_STRUCT_OPS_KERNEL_NO_FUNCTION: u32 = 1286;
+
+/// A member is of another size in the kernel.
+pub const EBPF_STRUCT_OPS_DIFFERENT_SIZES: u32 = 1287;
+
+/// A member passes the end of the map's value in the kernel.
+pub const EBPF_STRUCT_OPS_OUTSIDE_VALUE: u32 = 1288;
+
 /// The numbers that an error states, added up in ebpf_refusal.has.
 pub type ebpf_detail = u32;
 

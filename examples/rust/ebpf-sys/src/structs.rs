@@ -331,6 +331,40 @@ pub struct ebpf_initial_slot {
     pub is_program: u32,
 }
 
+/// A map of struct_ops, as the kernel of some types takes it.
+#[repr(C)]
+#[derive(Clone, Copy, Debug, Default, PartialEq, Eq)]
+pub struct ebpf_struct_ops_map {
+    /// The place of the name in the text.
+    pub name_at: usize,
+    /// The place of the name in the text.
+    pub name_len: usize,
+    /// The size of the value in bytes.
+    pub value_len: usize,
+    /// How many programs the value holds.
+    pub programs: usize,
+    /// The id of the kernel's struct: attach_btf_id of its programs.
+    pub struct_id: u32,
+    /// The id of the STRUCT that is the value: btf_vmlinux_value_type_id.
+    pub value_type_id: u32,
+    /// 1 or 0: whether a link attaches it (BPF_F_LINK).
+    pub is_link: u32,
+}
+
+/// A program whose descriptor the value of such a map holds.
+#[repr(C)]
+#[derive(Clone, Copy, Debug, Default, PartialEq, Eq)]
+pub struct ebpf_struct_ops_program {
+    /// The place of the program's name in the text.
+    pub name_at: usize,
+    /// The place of the program's name in the text.
+    pub name_len: usize,
+    /// Where in the value its descriptor goes, in bytes: a number of 8 bytes.
+    pub offset: u64,
+    /// The index of its member in the kernel's struct: expected_attach_type.
+    pub member: usize,
+}
+
 /// A map's name and its descriptor.
 ///
 /// - Each map that a slot refers to needs a row, a map of variables too. Else the number is

@@ -34,6 +34,8 @@ pub const LAYOUTS: &[Layout] = &[
     layout!(ebpf_kconfig_extern: name_at, name_len, size, kind, is_signed, is_weak),
     layout!(ebpf_variable: name_at, name_len, map_at, map_len, offset, size),
     layout!(ebpf_initial_slot: name_at, name_len, target_at, target_len, index, is_program),
+    layout!(ebpf_struct_ops_map: name_at, name_len, value_len, programs, struct_id, value_type_id, is_link),
+    layout!(ebpf_struct_ops_program: name_at, name_len, offset, member),
     layout!(ebpf_descriptor: name, name_len, descriptor),
     layout!(
         ebpf_record_outcome: name_at, name_len, number, section, address, slot, value, has_slot, result,
