@@ -5,7 +5,7 @@ import sys
 from pathlib import Path
 
 import make_rows
-from c_interface import builds, compiled, detail_rows, examples, exports, found_rows, growth_rows, habits, loader_rows, more_rows, page_code, record_rows, rows_of_objects, verdict_rows
+from c_interface import builds, compiled, detail_rows, examples, exports, found_rows, growth_rows, habits, loader_rows, more_rows, page_code, record_rows, rows_of_objects, struct_ops_rows, verdict_rows
 from c_interface.runs import Files, run
 from growths.inputs import COUNTER, KERNEL, LINES, REFERENCES, SMALL, TASKS
 from growths.run import Runner
@@ -42,7 +42,7 @@ def all_rows():
         printed.add_to(held)
     rows = [row for case in [*objects, *core, *limits] for row in rows_of_objects.rows_of(case)]
     rows += [row for case in [*core, *limits] for row in record_rows.rows_of(case)]
-    return rows + more_rows.rows() + loader_rows.rows() + found_rows.rows() + record_rows.rows() + verdict_rows.rows() + list(detail_rows.rows())
+    return rows + more_rows.rows() + loader_rows.rows() + found_rows.rows() + record_rows.rows() + verdict_rows.rows() + struct_ops_rows.rows() + list(detail_rows.rows())
 
 
 def begin(folder):

@@ -26,6 +26,12 @@ static void check_without(struct ebpf_handle *handle, uint32_t list, uint32_t na
 	      ebpf_link_references(handle, NULL, 0, NULL, 0, NULL) == (name ? name : EBPF_NO_PROGRAM));
 	CHECK("ebpf_set_values", ebpf_set_values(handle, NULL, 9) == done);
 	CHECK("ebpf_define_kconfig", ebpf_define_kconfig(handle, NULL, 9) == done);
+	CHECK("ebpf_complete_maps", ebpf_complete_maps(handle, NULL, 9, 4096) ==
+					    (done ? done : EBPF_COMPLETED_MAPS_FILE_TOO_SHORT));
+	CHECK("ebpf_struct_ops_maps", ebpf_struct_ops_maps(handle, NULL, 9, NULL, NULL) == EBPF_CLOSED);
+	CHECK("ebpf_struct_ops_map_at", !ebpf_struct_ops_map_at(handle, 0, NULL));
+	CHECK("ebpf_struct_ops_program_at", !ebpf_struct_ops_program_at(handle, 0, 0, NULL));
+	CHECK("ebpf_struct_ops_value", !ebpf_struct_ops_value(handle, 0, NULL));
 	CHECK("ebpf_set_max_entries", ebpf_set_max_entries(handle, NULL, 0, 1) == (name ? name : EBPF_NO_MAP));
 	CHECK("ebpf_resolve_externs", ebpf_resolve_externs(handle, NULL, 0, NULL, 0) == done);
 	CHECK("ebpf_relocate_externs", ebpf_relocate_externs(handle) == done);

@@ -15,7 +15,7 @@ SANITIZED = ["-g", "-fsanitize=address,undefined", "-fno-sanitize-recover=all"]
 
 # Programs with their sources.
 PROGRAMS = {
-    "calls": [HERE / f"{name}.c" for name in ("calls", "listed", "loader_calls", "found_calls", "record_calls", "check_calls", "told")],
+    "calls": [HERE / f"{name}.c" for name in ("calls", "listed", "loader_calls", "found_calls", "record_calls", "check_calls", "struct_ops_calls", "told")],
     "bounds": [HERE / f"{name}.c" for name in ("bounds", "bounds_loader", "bounds_values", "bounds_found", "bounds_nulls", "listed", "told")],
     "layer": [HERE / f"{name}.c" for name in ("layer", "layer_lists", "layer_types", "layer_wanted", "layer_leaving", "layer_memory")],
     "loader": sorted((EXAMPLES / "loader").glob("*.c")),

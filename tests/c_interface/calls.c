@@ -10,7 +10,8 @@
  *	                                     change what the handle holds, and print `NAME NUMBER ABOUT {DETAIL N ..}`
  *	programs named listed declared sections info slots records     list what it holds
  *	kernel_types target=SECTION settings config=NAME number=NAME:N define=NAME:DIGITS,.. initial variables read=NAME
- *	data=MAP:DIGITS find_map=NAME find_program=NAME link_map=NAME link_references=NAME outcomes check
+ *	data=MAP:DIGITS find_map=NAME find_program=NAME link_map=NAME link_references=NAME outcomes check struct_ops
+ *	complete=PAGE
  *	                                     the calls for loaders, which list what they find and print their numbers; a
  *	                                     configuration's text stands in the place of SYMBOLS
  *	ask=CALL ask=CALL:NAME               asks one of the calls that list, with ample room, and prints its number
@@ -22,6 +23,7 @@
 #include "found_calls.h"
 #include "listed.h"
 #include "record_calls.h"
+#include "struct_ops_calls.h"
 #include "told.h"
 #include <unistd.h>
 
@@ -181,6 +183,8 @@ static uint32_t change(const char *name, char *rest, int counted)
 		number = record_call(&on, name);
 	if (number < 0)
 		number = check_call(&on, name);
+	if (number < 0)
+		number = struct_ops_call(&on, name, rest);
 	if (number >= 0)
 		return (uint32_t)number;
 	if (!strcmp(name, "calls") && !counted)
@@ -248,6 +252,8 @@ static uint32_t ask(char *rest)
 		of_loader = ask_record_call(&on, call);
 	if (of_loader < 0)
 		of_loader = ask_check_call(&on, call);
+	if (of_loader < 0)
+		of_loader = ask_struct_ops_call(&on, call);
 	if (of_loader >= 0) {
 		number = (uint32_t)of_loader;
 		counts = room.counts;

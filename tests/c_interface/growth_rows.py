@@ -1,5 +1,5 @@
 """Calls of the C interface with each allocation failing in turn."""
-from c_interface import loader_rows
+from c_interface import loader_rows, struct_ops_rows
 from growths import inputs, rows_of_files
 from growths.call_row import Parts
 from growths.inputs import COUNTER, KERNEL, LINES, REFERENCES, SMALL, TASKS
@@ -10,6 +10,7 @@ from rows.elf import File
 MEMORY = "2"
 
 ALL = REFERENCES, KERNEL, LINES
+STRUCT_OPS = struct_ops_rows.held("struct_ops.rs"), struct_ops_rows.kernel(fourth="extra"), b""
 
 
 class GrowthRow(Row):
@@ -109,6 +110,8 @@ def rows(program):
         GrowthRow(program, "ebpf_check", (core, types, b""), "open", "ask=check"),
         GrowthRow(program, "ebpf_check, counter.o", (COUNTER, KERNEL, b""), "open", "ask=check"),
         GrowthRow(program, "ebpf_check, references.o", ALL, "open", "ask=check"),
+        GrowthRow(program, "ebpf_struct_ops_maps", STRUCT_OPS, "open_broad", "ask=struct_ops"),
+        GrowthRow(program, "ebpf_complete_maps", (struct_ops_rows.held("arenas.rs"), b"", b""), "open_broad", "complete=4096"),
         GrowthRow(program, "ebpf_least_types", (core, types, b""), "open", "ask=least_types"),
         GrowthRow(program, "ebpf_least_types, counter.o", (COUNTER, TASKS, b""), "open", "ask=least_types"),
     ]
