@@ -19,6 +19,13 @@ KCONFIG = (TOP / "tests/objects/kernel_parts_14.o").read_bytes()
 COUNTER_MAPS = {"counts": 5, ".bss": 6, ".rodata": 7, "tables": 8}
 NO_TYPES = bytes([0x9F, 0xEB, 1, 0, 24, 0, 0, 0, *[0] * 12, 1, 0, 0, 0, 0])
 
+
+def held(name):
+    """The object in a source of the driver test_object_calls."""
+    text = (TOP / "tests/drivers/test_object_calls/src" / name).read_text()
+    return bytes.fromhex("".join(re.findall(r'"([0-9a-f]+)"', text.partition("const OBJECT")[2].partition("];")[0])))
+
+
 # The structs by their names in C.
 STRUCTS = {
     re.sub(r"(?<!^)(?=[A-Z])", "_", name.strip("_")).lower(): kind
@@ -245,6 +252,23 @@ class Passes(unittest.TestCase):
                 self.assertEqual((reason.kind, reason.subject, reason.fault), (6, "", None))
                 self.assertEqual((reason.section, reason.address, reason.function_slot), (of.section, of.address, of.slot))
                 self.assertIn(reason.program, {program.name for program in object.programs()})
+
+    def test_arena(self):
+        file = held("arenas.rs")
+        with ebpf.open(file) as object:
+            object.complete_maps(file)
+            self.assertEqual(object.map_data("arena"), bytes([7, 0, 0, 0, 8, 0, 0, 0, 9, 0, 0, 0]))
+            with self.assertRaises(ebpf.Refused) as raised:
+                object.complete_maps(file, page_size=8)
+            self.assertEqual((raised.exception.number, raised.exception.about), (1123, "arena"))
+
+    def test_struct_ops(self):
+        file = held("struct_ops.rs")
+        with ebpf.open(file) as object, ebpf.open(SMALL) as small, ebpf.Types(NO_TYPES) as types:
+            self.assertEqual(small.struct_ops_maps(SMALL, types), [])
+            with self.assertRaises(ebpf.Refused) as raised:
+                object.struct_ops_maps(file, types)
+            self.assertEqual(raised.exception.number, 1222)
 
     def test_what_is_wanted(self):
         with ebpf.open(COUNTER) as object:

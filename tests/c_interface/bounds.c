@@ -376,7 +376,7 @@ static void check_name(uint32_t number, size_t room, size_t need)
 static void check_number_names(void)
 {
 	static const uint32_t numbers[] = { 0,   1,   2,   8,   90,  91,   92,   100,  144,            699,
-					    700, 744, 820, 908, 909, 1002, 1003, 1034, UINT32_MAX - 1, UINT32_MAX };
+					    700, 744, 820, 908, 909, 1002, 1003, 1034, 1123, 1288, UINT32_MAX - 1, UINT32_MAX };
 
 	for (size_t at = 0; at < sizeof(numbers) / sizeof(numbers[0]); at++) {
 		struct guarded none = guarded(0);

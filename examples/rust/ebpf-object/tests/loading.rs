@@ -116,6 +116,20 @@ fn verdicts_have_reasons() {
     assert_eq!(outcome.result, OutcomeResult::Absent(Absence::Type));
 }
 
+/// An object without arenas and maps of struct_ops; its own bytes are no other file.
+#[test]
+fn other_maps_stay() {
+    let bytes = file("counter.o");
+    let mut object = Object::open(&bytes, OpenOptions::lenient()).expect("an object");
+    let types = Types::read(&object.kernel_types(&bytes).expect("types")).expect("the same types");
+    assert_eq!(object.struct_ops_maps(&bytes, &types), Ok(vec![]));
+    assert!(matches!(object.struct_ops_maps(b"no file", &types), Err(Error::StructOps(it)) if it.number == 1200));
+    let maps = object.maps();
+    assert_eq!(object.complete_maps(&bytes, 4096), Ok(()));
+    assert_eq!(object.maps(), maps);
+    assert!(matches!(object.complete_maps(b"no file", 4096), Err(Error::CompletedMaps(it)) if it.number == 1100));
+}
+
 #[test]
 fn what_is_wanted_is_listed() {
     let object = Object::open(&file("counter.o"), OpenOptions::lenient()).expect("an object");
