@@ -1,94 +1,26 @@
 //! The maps of struct_ops of an object, by a kernel's types.
 
-ghost use Rattle.std.specs.Prelude.{◌≡◌, List, MatchResult, Result, ℕ};
+ghost use Rattle.std.specs.Prelude.{◌≡◌, List, Result, ℕ};
 ghost use Rattle.capi_exports.specs.KernelHandles.{FindsOfTypes};
 ghost use Rattle.capi_exports.specs.PassOrder.{object_in};
 ghost use Rattle.capi_rows.specs.Answers.{LeavesList, LeavesListing, Listed, told_listing};
 ghost use Rattle.capi_rows.specs.Handles.{FindsHeld};
-ghost use Rattle.capi_rows.specs.StructOps.{AreStructOpsMaps, CannotFindStructOps, CannotMakeStructOps, IsOfStructOpsMap, IsStructOpsList, struct_ops_program_list, struct_ops_value};
+ghost use Rattle.capi_struct_ops.specs.StructOps.{CannotFindStructOps, CannotMakeStructOps, IsOfStructOpsMap, IsStructOpsList, struct_ops_program_list, struct_ops_value};
 ghost use Rattle.capi_rows.specs.declared.refusal.Refusal.{Refusal};
-ghost use Rattle.capi_rows.specs.declared.struct_ops.ebpf_struct_ops_map.{ebpf_struct_ops_map};
-ghost use Rattle.capi_rows.specs.declared.struct_ops.ebpf_struct_ops_program.{ebpf_struct_ops_program};
+ghost use Rattle.capi_struct_ops.specs.declared.rows.ebpf_struct_ops_map.{ebpf_struct_ops_map};
+ghost use Rattle.capi_struct_ops.specs.declared.rows.ebpf_struct_ops_program.{ebpf_struct_ops_program};
 
 use crate::handle::ebpf_handle;
 use crate::kernel::ebpf_types;
-use capi_rows::buffers::{Listing, ebpf_counts, list_all, tell_items, tell_listing};
-use capi_rows::codes::{CLOSED, NO_MAP};
+use capi_rows::buffers::{Listing, ebpf_counts, tell_items, tell_listing};
+use capi_rows::codes::CLOSED;
 use capi_rows::refusal::{Refusal, ebpf_refusal};
-use capi_rows::struct_ops::{ebpf_struct_ops_map, ebpf_struct_ops_program, struct_ops_refusal};
+use capi_struct_ops::{
+    ebpf_struct_ops_map, ebpf_struct_ops_program, map_rows, program_rows, value_bytes,
+};
 use ebpf_base::Items;
 use ebpf_btf::Btf;
-use ebpf_object::Object;
-use ebpf_struct_ops::{StructOpsMap, struct_ops_maps};
 use std::alloc::Global;
-
-/// The maps of an object.
-fn made_maps(
-    alloc: Global,
-    file: &[u8],
-    object: &Object,
-    kernel: &Btf,
-) -> Result<Items<StructOpsMap>, Refusal>
-    ensures { MatchResult result (AreStructOpsMaps file.now kernel.now object.now)
-        (CannotMakeStructOps file.now kernel.now object.now) }
-{
-    match struct_ops_maps(alloc, file, object, kernel) {
-        Ok(maps) => Ok(maps),
-        Err(error) => Err(struct_ops_refusal(error)),
-    }
-}
-
-/// Their rows.
-fn map_rows(
-    alloc: Global,
-    file: &[u8],
-    object: &Object,
-    kernel: &Btf,
-) -> Result<Listing<ebpf_struct_ops_map>, Refusal>
-    ensures { MatchResult (told_listing result) (IsStructOpsList file.now kernel.now object.now)
-        (CannotMakeStructOps file.now kernel.now object.now) }
-{
-    let maps = made_maps(alloc, file, object, kernel)?;
-    Ok(list_all(alloc, &(), maps.as_slice())?)
-}
-
-/// The rows of the programs of one map.
-fn program_rows(
-    alloc: Global,
-    file: &[u8],
-    index: usize,
-    object: &Object,
-    kernel: &Btf,
-) -> Result<Listing<ebpf_struct_ops_program>, Refusal>
-    ensures { MatchResult (told_listing result)
-        (IsOfStructOpsMap struct_ops_program_list file.now index kernel.now object.now)
-        (CannotFindStructOps file.now index kernel.now object.now) }
-{
-    let maps = made_maps(alloc, file, object, kernel)?;
-    let Some(map) = maps.get(index) else {
-        return Err(Refusal::plain(NO_MAP));
-    };
-    Ok(list_all(alloc, &(), map.programs.as_slice())?)
-}
-
-/// The bytes of the value of one map.
-fn value_bytes(
-    alloc: Global,
-    file: &[u8],
-    index: usize,
-    object: &Object,
-    kernel: &Btf,
-) -> Result<Items<u8>, Refusal>
-    ensures { MatchResult result
-        (IsOfStructOpsMap struct_ops_value file.now index kernel.now object.now)
-        (CannotFindStructOps file.now index kernel.now object.now) }
-{
-    let maps = made_maps(alloc, file, object, kernel)?;
-    let Some(map) = maps.get(index) else {
-        return Err(Refusal::plain(NO_MAP));
-    };
-    Ok(map.value.copied()?)
-}
 
 /// The rows of the maps of what a handle holds.
 fn maps_of_held(

@@ -19,5 +19,4 @@ pub mod Refusals
 pub mod Listings
 pub mod LeastTypes
 pub mod Loading
-pub mod StructOps
 pub mod FaultNumbers

@@ -17,6 +17,5 @@ pub mod reads;
 pub mod record_rows;
 pub mod refusal;
 pub mod refusals;
-pub mod struct_ops;
 pub mod variables;
 pub mod wanted;

@@ -23,8 +23,8 @@ use Rattle.capi_rows.specs.Refusals.{at_offset, at_section, flag, no_details, pl
 use Rattle.capi_rows.specs.Refusals.{refusal_with_details, refusal_with_name}
 use Rattle.capi_rows.specs.declared.codes.TheConstants.{MEMORY, NO_MAP}
 use Rattle.capi_rows.specs.declared.refusal.Refusal.{Refusal}
-use Rattle.capi_rows.specs.declared.struct_ops.ebpf_struct_ops_map.{ebpf_struct_ops_map}
-use Rattle.capi_rows.specs.declared.struct_ops.ebpf_struct_ops_program.{ebpf_struct_ops_program}
+use Rattle.capi_struct_ops.specs.declared.rows.ebpf_struct_ops_map.{ebpf_struct_ops_map}
+use Rattle.capi_struct_ops.specs.declared.rows.ebpf_struct_ops_program.{ebpf_struct_ops_program}
 
 -- ---- numbers
 
