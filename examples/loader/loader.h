@@ -10,6 +10,8 @@
 #include <stdlib.h>
 #include <string.h>
 
+enum { ARENA = 33 }; /* BPF_MAP_TYPE_ARENA: headers before Linux 6.9 lack it */
+
 struct bytes {
 	uint8_t *at;
 	size_t len;
@@ -35,6 +37,7 @@ struct loading {
 	int own_types; /* the descriptor of the object's types; -1 where it has none, or the kernel doesn't take them */
 	int *maps;     /* the descriptor of each map, in the order of the library's list */
 	int *programs; /* the descriptor of each program in that order, -1 until it is loaded */
+	uint8_t *arena; /* the pages of the arena, where it has one */
 	struct struct_ops *struct_ops;
 	size_t struct_ops_count;
 };

@@ -3,8 +3,6 @@
 #include <sys/mman.h>
 #include <unistd.h>
 
-enum { ARENA = 33 }; /* BPF_MAP_TYPE_ARENA: headers before Linux 6.9 lack it */
-
 /* Whether the object has a map of the name, and its place in the list. */
 int has_map(const struct loading *of, const char *name, size_t *at)
 {
@@ -106,6 +104,7 @@ static void fill_arena(struct loading *of, size_t at, const char *name, const st
 		err(1, "the pages of the arena %s can't be mapped", name);
 	if (map->data_len)
 		memcpy(pages, need(of, "data of a map", ebpf_map_contents(of->object, at, NULL)), map->data_len);
+	of->arena = pages;
 }
 
 /* Makes each map; of a map of maps first one of those that it holds, by which the kernel knows what it takes. */

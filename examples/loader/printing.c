@@ -24,6 +24,10 @@ static void print_map(const struct loading *of, size_t at)
 	uint8_t *key, *value;
 	union bpf_attr attr;
 
+	if (shape->type == ARENA) { /* what its variables hold */
+		print_bytes(of->arena, map.data_len, '\n');
+		return;
+	}
 	if (is_by_processor(shape->type))
 		errx(1, "%s has a value for each processor, which is not printed", name);
 	clear(&attr);
@@ -52,6 +56,10 @@ static void print_part(const struct loading *of, const char *name, size_t offset
 	uint32_t key = 0;
 
 	need(of, name, ebpf_map_at(of->object, at, &map));
+	if (map.shape.type == ARENA) {
+		print_bytes(of->arena + offset, size, '\n');
+		return;
+	}
 	value = zeros(map.shape.value_size, 1);
 	clear(&attr);
 	attr.map_fd = of->maps[at];
