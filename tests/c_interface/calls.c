@@ -11,7 +11,7 @@
  *	programs named listed declared sections info slots records     list what it holds
  *	kernel_types target=SECTION settings config=NAME number=NAME:N define=NAME:DIGITS,.. initial variables read=NAME
  *	data=MAP:DIGITS find_map=NAME find_program=NAME link_map=NAME link_references=NAME outcomes check struct_ops
- *	complete=PAGE
+ *	complete=PAGE arenas
  *	                                     the calls for loaders, which list what they find and print their numbers; a
  *	                                     configuration's text stands in the place of SYMBOLS
  *	ask=CALL ask=CALL:NAME               asks one of the calls that list, with ample room, and prints its number

@@ -71,7 +71,7 @@ static int64_t over_types(const struct made_on *on, call_over_types *call)
 }
 
 /* Prints the arenas, and what they hold. */
-static void put_arenas(const struct ebpf_handle *object)
+static uint32_t put_arenas(const struct ebpf_handle *object)
 {
 	struct ebpf_map map;
 	const char *name;
@@ -84,21 +84,15 @@ static void put_arenas(const struct ebpf_handle *object)
 		printf("arena %s section %zu extra %llu ", name, map.section, (unsigned long long)map.shape.extra);
 		put_bytes(ebpf_map_contents(object, at, &len), map.data_len);
 	}
-}
-
-static uint32_t complete(const struct made_on *on, uint32_t page_size)
-{
-	uint32_t number = ebpf_complete_maps(on->object, on->file.at, on->file.len, page_size);
-
-	if (number == EBPF_DONE)
-		put_arenas(on->object);
-	return number;
+	return EBPF_DONE;
 }
 
 int64_t struct_ops_call(const struct made_on *on, const char *name, const char *rest)
 {
 	if (!strcmp(name, "complete"))
-		return complete(on, (uint32_t)strtoul(rest, NULL, 0));
+		return ebpf_complete_maps(on->object, on->file.at, on->file.len, (uint32_t)strtoul(rest, NULL, 0));
+	if (!strcmp(name, "arenas"))
+		return put_arenas(on->object);
 	return strcmp(name, "struct_ops") ? -1 : over_types(on, put_maps);
 }
 

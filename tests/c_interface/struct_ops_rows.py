@@ -80,13 +80,14 @@ def refusals():
 def arenas():
     data = held("arenas.rs")
     for name, fields, page, lines in [
-        ("the data of an arena", [], 4096, ["arena arena section 5 extra 17592186044416 070000000800000009000000", "complete 0"]),
-        ("a page that is too small", [], 8, ["complete 1123 arena {size 12}"]),
-        ("a second arena", [(0x248, 4, 33)], 4096, ["complete 1121 counts"]),
-        ("no arena", [(0x168, 4, 2)], 4096, ["complete 1122"]),
+        ("the data of an arena", [], 4096, ["complete 0", "arena arena section 5 extra 17592186044416 070000000800000009000000", "arenas 0"]),
+        ("a page that is too small", [], 8, ["complete 1123 arena {size 12}", "arena arena section 6 extra 17592186044416 ", "arenas 0"]),
+        ("no arena", [(0x168, 4, 2)], 4096, ["complete 1122", "arenas 0"]),
     ]:
-        actions = ["open_broad", f"complete={page}"]
+        actions = ["open_broad", f"complete={page}", "arenas"]
         yield CallsRow(f"arenas: {name}", (changed(data, *fields), b"", b""), actions, ["open_broad 0", *lines])
+    files = changed(data, (0x248, 4, 33)), b"", b""
+    yield CallsRow("arenas: a second arena", files, ["open_broad", "complete=4096"], ["open_broad 0", "complete 1121 counts"])
 
 
 def rows():
