@@ -1,3 +1,4 @@
 pub mod Listings
 pub mod RecordCounts
+pub mod StructOps
 pub mod PrivateContracts

@@ -42,6 +42,7 @@ use Rattle.cli_common.specs.HelperCalls.{calls_helper}
 use Rattle.cli_common.specs.declared.map_uses.MapUse.{MapUse}
 use Rattle.cli_common.specs.FunctionMaps.{function_maps}
 use Rattle.cli_list.specs.RecordCounts.{AreCounts}
+use Rattle.cli_list.specs.StructOps.{declared_struct_ops}
 use Rattle.cli_list.specs.declared.listing.Extern.{Extern}
 use Rattle.cli_list.specs.declared.layout.ListedLayout.{ListedLayout}
 use Rattle.cli_list.specs.declared.listing.ObjectListing.{ObjectListing}
@@ -236,12 +237,14 @@ uses_map uses name layout = list_any (λ key. has_use (get uses key) name) layou
 -- read of the object itself.
 
 -- the contents of the parsed object of a file: its programs, its externs, those that the kernel's
--- configuration gives, the maps that its functions use, and the number of the file's types
+-- configuration gives, the maps that its functions use, its maps of struct_ops or why they can't be
+-- read, and the number of the file's types
 pub record IsWanted (file : List ℕ) (o : Object) (w : ObjectContents) : Type 0 where
   pub programs : map program_row w.programs.items ≡ program_rows o.programs
   pub externs : w.externs ≡ extern_rows o
   pub settings : w.settings ≡ object_settings o.btf
   pub map_uses : w.map_uses ≡ function_maps o
+  pub struct_ops : w.struct_ops ≡ declared_struct_ops file o
   pub types : w.types ≡ file_type_count o.endianness file
 
 -- what each of its programs is made of, once its externs are written as if a kernel had them all; a

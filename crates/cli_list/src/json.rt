@@ -8,6 +8,7 @@ use cli_common::json::{JsonWriter, write_document};
 use cli_common::programs::ObjectProgram;
 use cli_common::types::map_type_name;
 use ebpf_parts::maps::{Map, PinningType};
+use ebpf_struct_ops::{StructOpsMember, StructOpsVariable};
 use std::io::{self, Write};
 
 /// Writes a program.
@@ -80,6 +81,54 @@ fn write_map<W: Write>(
     write_users(json, listing, listing.users_of_map(name))
 }
 
+/// Writes a member of a map of struct_ops; nothing where no program stands there.
+fn write_ops_member<W: Write>(
+    json: &mut JsonWriter<'_, W>,
+    member: &StructOpsMember,
+) -> io::Result<()> {
+    let Some(program) = &member.program else {
+        return Ok(());
+    };
+    json.object(|json| {
+        json.member("member", member.name.as_str())?;
+        json.member("program", program.as_str())
+    })
+}
+
+/// Writes a map of struct_ops.
+fn write_ops_map<W: Write>(
+    json: &mut JsonWriter<'_, W>,
+    map: &StructOpsVariable,
+) -> io::Result<()> {
+    json.member("name", map.name.as_str())?;
+    json.member("type", map.type_name.as_str())?;
+    json.member("size", map.bytes.len())?;
+    json.member("is_link", map.is_link)?;
+    json.member("is_created", map.is_created)?;
+    json.array("programs", |json| {
+        for member in map.members.iter() {
+            write_ops_member(json, member)?;
+        }
+        Ok(())
+    })
+}
+
+/// Writes the maps of struct_ops, or `null` and the reason why they can't be read.
+fn write_struct_ops<W: Write>(
+    json: &mut JsonWriter<'_, W>,
+    listing: &ObjectListing<'_>,
+    fault: Option<&str>,
+) -> io::Result<()> {
+    if fault.is_some() {
+        json.member("struct_ops", None::<&str>)?;
+    } else {
+        json.objects("struct_ops", listing.struct_ops().iter(), |json, map| {
+            write_ops_map(json, map)
+        })?;
+    }
+    json.member("struct_ops_error", fault)
+}
+
 /// Writes an extern.
 fn write_extern<W: Write>(json: &mut JsonWriter<'_, W>, known: &Extern) -> io::Result<()> {
     json.member("name", known.name.as_str())?;
@@ -111,6 +160,7 @@ fn write_unreached<W: Write>(
 fn write_tables<W: Write>(
     json: &mut JsonWriter<'_, W>,
     listing: &ObjectListing<'_>,
+    struct_ops_fault: Option<&str>,
 ) -> io::Result<()> {
     let programs = listing.wanted.programs.iter().zip(listing.layouts.iter());
     json.objects("programs", programs, |json, (program, layout)| {
@@ -119,6 +169,7 @@ fn write_tables<W: Write>(
     json.objects("maps", listing.object.maps.iter(), |json, (name, map)| {
         write_map(json, listing, name.as_str(), map)
     })?;
+    write_struct_ops(json, listing, struct_ops_fault)?;
     json.objects(
         "helpers",
         listing.helper_users.iter(),
@@ -129,11 +180,13 @@ fn write_tables<W: Write>(
     )
 }
 
-/// Writes the contents of an object as one JSON object, on one line.
+/// Writes the contents of an object as one JSON object, on one line. `struct_ops_fault` is the reason why the maps of
+/// struct_ops can't be read.
 pub fn write_json<W: Write>(
     out: &mut W,
     file: &str,
     listing: &ObjectListing<'_>,
+    struct_ops_fault: Option<&str>,
 ) -> io::Result<()> {
     let (object, wanted) = (listing.object, listing.wanted);
     write_document(out, |json| {
@@ -142,7 +195,7 @@ pub fn write_json<W: Write>(
         json.member("license", listing.license())?;
         json.member("kernel_version", object.kernel_version)?;
         json.member("types", wanted.types)?;
-        write_tables(json, listing)?;
+        write_tables(json, listing, struct_ops_fault)?;
         json.objects(
             "externs",
             wanted.externs.iter(),

@@ -7,6 +7,7 @@ mod listing;
 mod page;
 mod records;
 mod run;
+mod struct_ops;
 mod tables;
 mod text;
 mod users;

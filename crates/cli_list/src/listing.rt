@@ -5,11 +5,13 @@ ghost use Rattle.std.specs.Option.{option_copied};
 ghost use Rattle.cli_list.specs.Listings.{extern_row, extern_rows, is_func, is_function, AreObjectLayouts, IsListed, IsListing, IsWanted};
 ghost use Rattle.cli_list.specs.Listings.{file_type_count, read_type_count, section_type_count, slot_count, stated_license, types_section, users_of};
 ghost use Rattle.cli_list.specs.RecordCounts.{record_total};
+ghost use Rattle.cli_list.specs.StructOps.{maps_or_none};
 ghost use Rattle.ebpf_btf.specs.Reading.{type_info_of};
 ghost use Rattle.ebpf_object.specs.declared.object.Object.{Object};
 
 use crate::layout::{ListedLayout, layouts_if, unreached, write_externs};
 use crate::records::{RecordCounts, counted_records, record_total};
+use crate::struct_ops::declared_struct_ops;
 use crate::users::{helper_users, map_users};
 use cli_common::kconfig_externs::object_settings;
 use cli_common::map_uses::{MapUse, map_uses};
@@ -20,6 +22,7 @@ use ebpf_btf::{Btf, BtfError, BtfType, Endianness};
 use ebpf_elf::{ElfFile, ElfSection};
 use ebpf_model::ExternDesc;
 use ebpf_object::Object;
+use ebpf_struct_ops::{StructOpsError, StructOpsVariable};
 use std::alloc::{AllocError, Global};
 use std::{fmt, str};
 
@@ -73,6 +76,8 @@ pub struct ObjectContents {
     pub settings: Items<Text>,
     /// The maps that functions use.
     pub map_uses: ByKey<Items<MapUse>>,
+    /// The maps of struct_ops, or the reason why they can't be read.
+    pub struct_ops: Result<Items<StructOpsVariable>, StructOpsError>,
     /// How many types the file has, where it has some.
     pub types: Option<usize>,
 }
@@ -204,12 +209,14 @@ pub fn wanted_by(alloc: Global, file: &[u8], object: &Object) -> Result<ObjectCo
     let externs = externs(alloc, object)?;
     let settings = object_settings(alloc, object)?;
     let map_uses = map_uses(alloc, object)?;
+    let struct_ops = declared_struct_ops(alloc, file, object)?;
     let types = file_types(alloc, file, object.endianness)?;
     Ok(ObjectContents {
         programs,
         externs,
         settings,
         map_uses,
+        struct_ops,
         types,
     })
 }
@@ -281,6 +288,16 @@ impl<'a> ObjectListing<'a> {
         match self.object.functions.get(key) {
             Some(function) => function.instructions.len(),
             None => 0,
+        }
+    }
+
+    /// Returns the maps of struct_ops; none where they can't be read.
+    pub fn struct_ops(&self) -> &[StructOpsVariable]
+        ensures { result.now ≡ maps_or_none self.now.wanted.now.struct_ops }
+    {
+        match &self.wanted.struct_ops {
+            Ok(maps) => maps.as_slice(),
+            Err(_) => &[],
         }
     }
 

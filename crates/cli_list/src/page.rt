@@ -1,6 +1,7 @@
 //! The page of `ebpf list`.
 
 use crate::listing::ObjectListing;
+use crate::struct_ops::{struct_ops_fault, struct_ops_table, struct_ops_texts};
 use crate::tables::{
     externs_table, helpers_table, maps_table, order_word, programs_table, records_table,
     settings_table, unreached_table,
@@ -11,13 +12,17 @@ use cli_pages::list_page::{ListPage, PageFact, write_list_page};
 use cli_pages::tables::{PageCell, PageTable};
 use std::alloc::{AllocError, Global};
 
-/// Facts on an object that aren't texts in it, as texts.
+/// Parts of an object that aren't texts in it, as texts.
 #[derive(Drop)]
-struct FactTexts {
+struct PageTexts {
     /// The license, where the file states one. Bytes that aren't UTF-8 are U+FFFD.
     license: Option<String>,
     /// The version of the kernel that the object is for, where it states one.
     version: Option<String>,
+    /// The programs of each map of struct_ops.
+    struct_ops: Vec<String>,
+    /// The reason why the maps of struct_ops can't be read, if there is one.
+    struct_ops_fault: Option<String>,
 }
 
 /// The license as a text.
@@ -37,11 +42,18 @@ fn version_text(alloc: Global, version: Option<u32>) -> Result<Option<String>, A
     Ok(Some(format!(in alloc; "{first}.{second}.{third}")?))
 }
 
-/// The facts that aren't texts in an object.
-fn fact_texts(alloc: Global, listing: &ObjectListing<'_>) -> Result<FactTexts, AllocError> {
+/// The parts of an object that aren't texts in it.
+fn page_texts(alloc: Global, listing: &ObjectListing<'_>) -> Result<PageTexts, AllocError> {
     let license = license_text(alloc, listing.license())?;
     let version = version_text(alloc, listing.object.kernel_version)?;
-    Ok(FactTexts { license, version })
+    let struct_ops = struct_ops_texts(alloc, listing)?;
+    let struct_ops_fault = struct_ops_fault(alloc, listing)?;
+    Ok(PageTexts {
+        license,
+        version,
+        struct_ops,
+        struct_ops_fault,
+    })
 }
 
 /// A text that may be absent.
@@ -64,7 +76,7 @@ fn number_or_none(number: Option<usize>) -> PageCell<'static> {
 fn facts_of<'a>(
     alloc: Global,
     listing: &ObjectListing<'_>,
-    texts: &'a FactTexts,
+    texts: &'a PageTexts,
 ) -> Result<Vec<PageFact<'a>>, AllocError> {
     let mut facts: Vec<PageFact<'a>> = Vec::new(alloc);
     facts.push(PageFact {
@@ -83,6 +95,12 @@ fn facts_of<'a>(
         name: "types",
         value: number_or_none(listing.wanted.types),
     })?;
+    if let Some(fault) = &texts.struct_ops_fault {
+        facts.push(PageFact {
+            name: "struct_ops not read",
+            value: PageCell::Text(fault.as_str()),
+        })?;
+    }
     Ok(facts)
 }
 
@@ -90,10 +108,12 @@ fn facts_of<'a>(
 fn tables_of<'a>(
     alloc: Global,
     listing: &'a ObjectListing<'_>,
+    texts: &'a PageTexts,
 ) -> Result<Vec<PageTable<'a>>, AllocError> {
     let mut tables = Vec::new(alloc);
     tables.push(programs_table(alloc, listing)?)?;
     tables.push(maps_table(alloc, listing)?)?;
+    tables.push(struct_ops_table(alloc, listing, &texts.struct_ops)?)?;
     tables.push(helpers_table(alloc, listing)?)?;
     tables.push(externs_table(alloc, listing)?)?;
     tables.push(settings_table(alloc, listing)?)?;
@@ -102,15 +122,15 @@ fn tables_of<'a>(
     Ok(tables)
 }
 
-/// The page of an object; `texts` has the facts that aren't texts in it.
+/// The page of an object; `texts` has the parts that aren't texts in it.
 fn page_of<'a>(
     alloc: Global,
     file: &'a str,
     listing: &'a ObjectListing<'_>,
-    texts: &'a FactTexts,
+    texts: &'a PageTexts,
 ) -> Result<ListPage<'a>, AllocError> {
     let facts = facts_of(alloc, listing, texts)?;
-    let tables = tables_of(alloc, listing)?;
+    let tables = tables_of(alloc, listing, texts)?;
     Ok(ListPage {
         file,
         facts,
@@ -126,7 +146,7 @@ pub fn write_page(
     listing: &ObjectListing<'_>,
 ) -> Result<(), Stop> {
     let alloc = rt.alloc();
-    let texts = fact_texts(alloc, listing)?;
+    let texts = page_texts(alloc, listing)?;
     let page = page_of(alloc, file, listing, &texts)?;
     write_file(rt, path, |out| write_list_page(out, &page))
 }

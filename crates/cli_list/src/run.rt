@@ -4,6 +4,7 @@ use crate::json::write_json;
 use crate::layout::ListedLayout;
 use crate::listing::{ObjectContents, ObjectListing, layouts_of, listing_of, wanted_by};
 use crate::page::write_page;
+use crate::struct_ops::struct_ops_fault;
 use crate::text::write_listing;
 use cli_common::object_file::{parsed_object, read_object};
 use cli_common::refuse::Stop;
@@ -37,7 +38,9 @@ fn write_output(
     let alloc = rt.alloc();
     let mut out = BufWriter::new(alloc, rt.stdout())?;
     if words.json {
-        write_json(&mut out, words.file.as_str(), listing)?;
+        let fault = struct_ops_fault(alloc, listing)?;
+        let fault = fault.as_ref().map(|fault| fault.as_str());
+        write_json(&mut out, words.file.as_str(), listing, fault)?;
     } else {
         let palette = Palette::of(rt, words.color);
         write_listing(alloc, &mut out, palette, words.file.as_str(), listing)?;

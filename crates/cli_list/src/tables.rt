@@ -29,7 +29,7 @@ fn absent() -> PageCell<'static> {
 }
 
 /// A table without cells.
-fn table_of<'a>(
+pub fn table_of<'a>(
     alloc: Global,
     title: &'static str,
     count: usize,
@@ -287,7 +287,7 @@ pub fn helpers_table<'a>(
 }
 
 /// Yes or no.
-fn yes_or_no(is: bool) -> PageCell<'static> {
+pub fn yes_or_no(is: bool) -> PageCell<'static> {
     PageCell::Text(if is { "yes" } else { "no" })
 }
 

@@ -1,6 +1,7 @@
 //! The text output of `ebpf list`.
 
 use crate::listing::{ObjectListing, ShownBytes};
+use crate::struct_ops::{struct_ops_fault, struct_ops_table, struct_ops_texts};
 use crate::tables::{
     externs_table, helpers_table, maps_table, order_word, programs_table, records_table,
     settings_table, unreached_table,
@@ -122,6 +123,23 @@ fn write_table<W: Write>(
     Ok(cells.write(out)?)
 }
 
+/// Writes the table of the maps of struct_ops, or the reason why they can't be read.
+fn write_struct_ops<W: Write>(
+    alloc: Global,
+    out: &mut W,
+    palette: Palette,
+    listing: &ObjectListing<'_>,
+) -> Result<(), Stop> {
+    let programs = struct_ops_texts(alloc, listing)?;
+    if let Some(fault) = struct_ops_fault(alloc, listing)? {
+        let (start, end) = (palette.start(TextStyle::Heading), palette.end());
+        let fault = EscapedName(fault.as_str());
+        writeln!(out, "{start}STRUCT OPS not read:{end} {fault}")?;
+    }
+    let table = struct_ops_table(alloc, listing, &programs)?;
+    write_table(alloc, out, palette, &table)
+}
+
 /// Writes the contents of an object: the line of its file, and each table that isn't empty.
 pub fn write_listing<W: Write>(
     alloc: Global,
@@ -133,6 +151,7 @@ pub fn write_listing<W: Write>(
     write_file(out, file, listing)?;
     write_table(alloc, out, palette, &programs_table(alloc, listing)?)?;
     write_table(alloc, out, palette, &maps_table(alloc, listing)?)?;
+    write_struct_ops(alloc, out, palette, listing)?;
     write_table(alloc, out, palette, &helpers_table(alloc, listing)?)?;
     write_table(alloc, out, palette, &externs_table(alloc, listing)?)?;
     write_table(alloc, out, palette, &settings_table(alloc, listing)?)?;

@@ -6,5 +6,6 @@ returns c = record {
   externs = c.in_ok-externs.ensures;
   settings = c.in_ok-settings.ensures;
   map_uses = c.in_ok-map_uses.ensures;
+  struct_ops = c.in_ok-struct_ops.ensures;
   types = c.in_ok-types.ensures;
 }
