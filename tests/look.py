@@ -16,6 +16,7 @@ from pathlib import Path
 
 from check_rows import EXAMPLE, Rows
 from checked.objects import GONE, HAS_B, IS_THERE, LACKS_B, Code, address, call, object_of
+from checked.ops import object_of_ops
 from looked import page, sarif, schema_cases, terminal
 from rows.elf import EXIT
 
@@ -77,6 +78,11 @@ def hostile_object():
         maps[f"m{name}"] = 1
     lines = [(0, f"dir/{''.join(HOSTILE)}.c", 7, SOURCE)]
     return object_of(functions, maps=maps, lines=lines)
+
+
+def hostile_ops():
+    """An object with a map of struct_ops, its struct, a member and a program for each hostile name."""
+    return object_of_ops({".struct_ops": [(f"m{name}", f"t{name}", {f"i{name}": f"p{name}"}) for name in HOSTILE]})
 
 
 def expect_plain(rows, name, text):
@@ -285,7 +291,8 @@ def failing_output(rows):
 def lists(rows):
     """The page of `ebpf list` leaves its text as it is, and has what the text has."""
     rows.write("hostile.o", hostile_object())
-    for name in ["memdrop.o", "hostile.o"]:
+    rows.write("ops.o", hostile_ops())
+    for name in ["memdrop.o", "hostile.o", "ops.o"]:
         plain = rows.run("list", name).stdout
         rows.row(f"list --html of {name}", ["list", name, "--html", f"list-{name}.html"], 0, plain)
         text = (rows.folder / f"list-{name}.html").read_text()
@@ -293,6 +300,9 @@ def lists(rows):
         rows.expect(f"list --html of {name}: loads nothing", re.findall(r"<[^>]* (?:src|href)=|<script|<link|url\(|@import", text), [])
         heads = re.findall(r"^[A-Z][A-Z -]+ \d+$", plain, re.MULTILINE)
         rows.expect(f"list --html of {name}: tables", re.findall(r"<h2 id='table\d'>(.*?)</h2>", text), heads)
+    shown = html.unescape((rows.folder / "list-ops.o.html").read_text())
+    lines = [f"i{visible(name)}: p{visible(name)}" for name in HOSTILE]
+    rows.expect("list --html of ops.o: programs", [line for line in lines if f"<td>{line}</td>" not in shown], [])
     said = "ebpf: nowhere/page.html: cannot write: No such file or directory (os error 2)"
     rows.row("list: no folder for the page", ["list", "memdrop.o", "--html=nowhere/page.html"], 2, None, said)
 

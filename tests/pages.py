@@ -19,6 +19,7 @@ from pathlib import Path
 from checked.embedded import executable
 from checked.listing import FINE
 from checked.objects import Code, function, object_of
+from checked.ops import OPS
 from rows.elf import EXIT
 from shown import commands, forms
 from shown.blocks import blocks_of
@@ -48,7 +49,7 @@ CHECKED = ["examples/check/memdrop.o", "targets.o"]
 
 # Objects that together have each part that `ebpf list` lists.
 COUNTER = "tests/drivers/test_rows/data/counter.o"
-LISTED = [COUNTER, "tests/objects/kernel_parts_19.o", "unreached.o"]
+LISTED = [COUNTER, "tests/objects/kernel_parts_19.o", "unreached.o", "ops.o"]
 
 # An object that needs an id of a kernel's type, and the kernels of an example.
 CUT = "btf examples/check/memdrop.o --btf examples/check/btf --output least --allow-ids"
@@ -72,10 +73,11 @@ FORMS = [
 
 def files():
     """Returns the files that commands name and the repository lacks: an executable with two objects, an object with a
-    function that no program reaches, and one whose program has a target that no kernel has."""
+    function that no program reaches, one with maps of struct_ops, and one whose program has a target that no kernel has."""
     return {
         "tool": executable(object_of([FINE]), object_of([FINE, FINE])),
         "unreached.o": object_of([FINE, function("f", EXIT)]),
+        "ops.o": OPS,
         "targets.o": object_of([Code("fentry/no_such_function", "p", [EXIT])]),
     }
 

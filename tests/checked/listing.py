@@ -3,6 +3,7 @@ import json
 from pathlib import Path
 
 from checked.objects import GLOBAL, WEAK, Asks, Code, address, call, function, helper, move, object_of, program
+from checked.ops import OPS, object_of_ops
 from checked.page import shown_output
 from rows.btf import btf, datasec, integer, prototype, typedef, variable
 from rows.btf import function as function_type
@@ -137,6 +138,34 @@ def externs(rows):
     listed(rows, "an extern that isn't declared", undeclared, HEAD + programs((2, "-", "-", "kprobe", "kprobe/p", "p")))
 
 
+def struct_ops(rows):
+    """Maps of struct_ops: how they are attached and created, their programs, and the reason where they can't be read."""
+    programs_shown = programs((1, 1, 1, "struct_ops", "struct_ops/p0", "begin"), (1, 1, 1, "struct_ops", "struct_ops/p1", "end"))
+    shown = table(
+        "STRUCT OPS", 3,
+        "TYPE               SIZE  ATTACHED  CREATED  NAME   PROGRAMS",
+        "small_ops            24  map       yes      plain  init: begin, stop: end",
+        "no_ops                8  map       yes      empty  -",
+        "small_ops___newer     8  link      no       asked  stop: end",
+    )
+    head = HEAD.replace("2 types", "11 types")
+    told = listed(rows, "struct_ops", OPS, head + programs_shown + shown)
+    used = [{"member": "init", "program": "begin"}, {"member": "stop", "program": "end"}]
+    plain = {"name": "plain", "type": "small_ops", "size": 24, "is_link": False, "is_created": True, "programs": used}
+    asked = {"name": "asked", "type": "small_ops___newer", "size": 8, "is_link": True, "is_created": False, "programs": used[1:]}
+    rows.expect("struct_ops, JSON", (told["struct_ops"][0], told["struct_ops"][2]), (plain, asked))
+    rows.expect("struct_ops, JSON: no program", (told["struct_ops"][1]["programs"], told["struct_ops_error"]), ([], None))
+    maps = {".struct_ops": [("plain", "small_ops", {"init": "begin", "flags": None, "stop": "end"})]}
+    number = "the relocation at offset 0x8 of a section of struct_ops: the member is no pointer to a function"
+    for name, data, types, reason in [
+        ("without types", object_of_ops(maps, has_types=False), "no types", "the object has sections of struct_ops and no types"),
+        ("with a program at a number", object_of_ops(maps, extra=(8, "end")), "6 types", number),
+    ]:
+        out = HEAD.replace("2 types", types) + programs_shown + f"STRUCT OPS not read: {reason}\n"
+        told = listed(rows, f"struct_ops {name}", data, out)
+        rows.expect(f"struct_ops {name}, JSON", (told["struct_ops"], told["struct_ops_error"]), (None, reason))
+
+
 def records(rows):
     """Records, counted by type and kind."""
     asks = [Asks(MOVE, TYPE_SIZE, 2, "0"), Asks(MOVE, OFFSET, 2, "0:1"), Asks(MOVE, OFFSET, 2, "0:0"), Asks(MOVE, TYPE_SIZE, 1, "0")]
@@ -211,4 +240,4 @@ def compiled(rows):
         rows.expect(f"clang {version}: records", sum(each["count"] for each in told["records"]), 22)
 
 
-ROWS = [linked, sections, helpers, maps, externs, records, first_line, names, refused, compiled]
+ROWS = [linked, sections, helpers, maps, externs, struct_ops, records, first_line, names, refused, compiled]

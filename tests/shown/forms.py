@@ -93,15 +93,19 @@ def shape_of(lines, first="file"):
     """Returns the shape that lines show. A document begins with its version and a key for what it is about.
 
     A line has keys of the document (`KEY ..`), the keys of the objects in lists (`KEY, .. [KEY ..]`) or those of one
-    object (`KEY {KEY ..}`). It is indented where these are in objects of the line above. Parentheses hold remarks:
-    `only if known` and `, if some` of keys of the line's objects that may lack, `KEY: if some` of one of the document."""
-    shape = Shape({"": ["version", first]}, set())
+    object (`KEY {KEY ..}`). It is indented where these are in objects of the line above; a key that an earlier line has is
+    then `ABOVE.KEY`. Parentheses hold remarks: `only if known` and `, if some` of keys of the line's objects that may lack,
+    `KEY: if some` of one of the document."""
+    shape, above = Shape({"": ["version", first]}, set()), ""
     for line in lines:
         text = re.sub(r" *\([^)]*\)", "", line)
         held = re.fullmatch(r" *(\w+(?:, \w+)*) [\[{]([\w ]+)[\]}]", text)
         names = held[1].split(", ") if held else text.split()
         if not line.startswith(" "):
             shape.keys[""] += names
+            above = names[-1]
+        else:
+            names = [f"{above}.{name}" if name in shape.keys else name for name in names]
         if held:
             shape.keys.update(dict.fromkeys(names, held[2].split()))
         if held and ("only if known" in line or ", if some" in line):
@@ -111,21 +115,22 @@ def shape_of(lines, first="file"):
     return shape
 
 
-def objects_in(value, name=""):
-    """Yields the objects in a JSON value, each behind the key that has it."""
+def objects_in(value, name="", above=""):
+    """Yields the objects in a JSON value, each behind the key of the object that has it and its own key."""
     if isinstance(value, dict):
-        yield name, value
+        yield above, name, value
         for key, held in value.items():
-            yield from objects_in(held, key)
+            yield from objects_in(held, key, name)
     elif isinstance(value, list):
         for held in value:
-            yield from objects_in(held, name)
+            yield from objects_in(held, name, above)
 
 
 def differences(shape, documents):
     """Yields the objects of documents whose keys differ from the shape, and the keys that no document has."""
     lacking = {name: set(keys) for name, keys in shape.keys.items()}
-    for name, value in [found for document in documents for found in objects_in(document)]:
+    for above, own, value in [found for document in documents for found in objects_in(document)]:
+        name = f"{above}.{own}" if f"{above}.{own}" in shape.keys else own
         keys = shape.keys.get(name, [])
         wanted = [key for key in keys if key in value] if name in shape.partial else keys
         if list(value) != wanted:
