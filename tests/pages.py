@@ -16,6 +16,7 @@ import tempfile
 from collections import Counter
 from pathlib import Path
 
+from checked.arena import object_of_arena
 from checked.embedded import executable
 from checked.listing import FINE
 from checked.objects import Code, function, object_of
@@ -49,7 +50,7 @@ CHECKED = ["examples/check/memdrop.o", "targets.o"]
 
 # Objects that together have each part that `ebpf list` lists.
 COUNTER = "tests/drivers/test_rows/data/counter.o"
-LISTED = [COUNTER, "tests/objects/kernel_parts_19.o", "unreached.o", "ops.o"]
+LISTED = [COUNTER, "tests/objects/kernel_parts_19.o", "unreached.o", "arena.o", "ops.o"]
 
 # An object that needs an id of a kernel's type, and the kernels of an example.
 CUT = "btf examples/check/memdrop.o --btf examples/check/btf --output least --allow-ids"
@@ -73,10 +74,12 @@ FORMS = [
 
 def files():
     """Returns the files that commands name and the repository lacks: an executable with two objects, an object with a
-    function that no program reaches, one with maps of struct_ops, and one whose program has a target that no kernel has."""
+    function that no program reaches, one with an arena, one with maps of struct_ops, and one whose program has a target
+    that no kernel has."""
     return {
         "tool": executable(object_of([FINE]), object_of([FINE, FINE])),
         "unreached.o": object_of([FINE, function("f", EXIT)]),
+        "arena.o": object_of_arena(),
         "ops.o": OPS,
         "targets.o": object_of([Code("fentry/no_such_function", "p", [EXIT])]),
     }

@@ -2,6 +2,7 @@
 import json
 from pathlib import Path
 
+from checked.arena import object_of_arena
 from checked.objects import GLOBAL, WEAK, Asks, Code, address, call, function, helper, move, object_of, program
 from checked.ops import OPS, object_of_ops
 from checked.page import shown_output
@@ -138,6 +139,20 @@ def externs(rows):
     listed(rows, "an extern that isn't declared", undeclared, HEAD + programs((2, "-", "-", "kprobe", "kprobe/p", "p")))
 
 
+def arenas(rows):
+    """An arena: the size of its data, and the variables in it alone."""
+    shown = table(
+        "MAPS", 2,
+        "TYPE   KEY  VALUE  ENTRIES  FLAGS  DATA  PROGRAMS  NAME",
+        "array    4      8        1    0x0     8       0/1  .bss",
+        "arena    0      0        1    0x0    12       0/1  arena",
+    ) + table("ARENA VARIABLES", 2, "OFFSET  SIZE  NAME", "   0x0     4  first", "   0x4     8  second")
+    head = HEAD.replace("2 types", "8 types")
+    told = listed(rows, "an arena", object_of_arena(), head + programs((1, 1, 1, "xdp", "xdp", "p")) + shown)
+    second = {"name": "second", "offset": 4, "size": 8}
+    rows.expect("an arena, JSON", (told["maps"][1]["data"], told["arena_variables"][1:]), (12, [second]))
+
+
 def struct_ops(rows):
     """Maps of struct_ops: how they are attached and created, their programs, and the reason where they can't be read."""
     programs_shown = programs((1, 1, 1, "struct_ops", "struct_ops/p0", "begin"), (1, 1, 1, "struct_ops", "struct_ops/p1", "end"))
@@ -240,4 +255,4 @@ def compiled(rows):
         rows.expect(f"clang {version}: records", sum(each["count"] for each in told["records"]), 22)
 
 
-ROWS = [linked, sections, helpers, maps, externs, struct_ops, records, first_line, names, refused, compiled]
+ROWS = [linked, sections, helpers, maps, externs, arenas, struct_ops, records, first_line, names, refused, compiled]

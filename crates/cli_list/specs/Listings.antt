@@ -2,20 +2,21 @@
 -- of the object itself.
 use Rattle.std.specs.Prelude.{ℕ, Bool, true, false, List, map, Option, Some, None, slice_get, ◌≡◌}
 use Rattle.std.specs.Prelude.{MatchBool, ◌⊎◌, ◌-◌, ◌^◌, min, [], ◌∷◌, not, length, codes}
-use Rattle.std.specs.Prelude.{Result, Ok, Err, if◌then◌else◌}
+use Rattle.std.specs.Prelude.{Result, Ok, Err, is_some, if◌then◌else◌}
 use Rattle.std.specs.FinMap.{entries, get, FinMap}
 use Rattle.std.specs.FinMap as finite
 use Rattle.std.specs.List.{AllZip, filter, find, list_any, enumerate_from}
 use Rattle.std.specs.Map.{keys_of}
 use Rattle.std.specs.Ordering.{eq_by_cmp}
 use Rattle.std.specs.declared.cmp.Ordering.{Ordering}
-use Rattle.ebpf_base.specs.Faults.{first_in, first_of}
+use Rattle.ebpf_base.specs.Faults.{first_in, first_of, first_some}
 use Rattle.ebpf_base.specs.declared.endianness.Endianness.{Endianness}
 use Rattle.ebpf_btf.specs.Reading.{type_info_of}
 use Rattle.ebpf_btf.specs.TypeInfo.{TypeInfo}
 use Rattle.ebpf_btf.specs.declared.error.BtfError.{BtfError}
 use Rattle.ebpf_btf.specs.declared.types.BtfType.{BtfType}
 use Rattle.ebpf_btf.specs.declared.types.BtfType.TheVariants.{Func}
+use Rattle.ebpf_btf_maps.specs.Arenas.{named_arena}
 use Rattle.ebpf_elf.specs.Faults.{faults}
 use Rattle.ebpf_elf.specs.Names.{is_name}
 use Rattle.ebpf_elf.specs.Sections.{SectionOf, data_faults, data_of, section_name, sections}
@@ -24,6 +25,7 @@ use Rattle.ebpf_model.specs.declared.error.EbpfRelocationError.{EbpfRelocationEr
 use Rattle.ebpf_model.specs.declared.function.Function.{Function}
 use Rattle.ebpf_model.specs.declared.symbol.ExternDesc.{ExternDesc}
 use Rattle.ebpf_object.specs.WrittenSlots.{with_externs, externs_fault}
+use Rattle.ebpf_object.specs.Variables.{VariableValue, variable_value, variables}
 use Rattle.ebpf_object.specs.declared.object.Object.{Object}
 use Rattle.cli_common.specs.ObjectPrograms.{known_externs, program_row, program_rows}
 use Rattle.cli_common.specs.ObjectPrograms.{object_settings}
@@ -203,6 +205,11 @@ abbrev pub unreached_keys : Object → List ListedLayout → List FunctionKey
 unreached_keys o layouts =
     filter (λ key. not (is_reached layouts key)) (keys_of (entries o.functions))
 
+-- ---- the global variables of an object with an arena; none of others, whose list names no variable
+
+abbrev pub listed_variables : Object → List VariableValue
+listed_variables o = if is_some (first_some named_arena (entries o.maps)) then variables o else []
+
 -- ---- which programs use what: those of which some function that they reach does.
 
 -- the numbers of the programs whose layouts pass a test, from 0 on, rising
@@ -258,7 +265,8 @@ pub record AreObjectLayouts (before : Object) (w : ObjectContents) (after : Obje
       (AllZip IsOfOne w.programs.items made)
 
 -- what is told of an object with these layouts: which of its programs use which maps and helper
--- functions, the number of CO-RE records of each group, and the functions that no program reaches
+-- functions, the number of CO-RE records of each group, the functions that no program reaches, and
+-- the variables where it has an arena
 pub record IsListing (o : Object) (w : ObjectContents) (made : List ListedLayout)
     (l : ObjectListing)
     : Type 0 where
@@ -269,6 +277,7 @@ pub record IsListing (o : Object) (w : ObjectContents) (made : List ListedLayout
   pub helper_users : AreUsers (calls o) made l.helper_users
   pub records : AreCounts o l.records
   pub unreached : l.unreached.items ≡ unreached_keys o made
+  pub variables : map variable_value l.variables ≡ listed_variables o
 
 -- Of the parsed object of a file: all that is printed, where the layouts are those of its programs.
 -- But for its externs and the slots of its functions the object is as it was parsed, its maps, its

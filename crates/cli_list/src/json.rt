@@ -1,5 +1,6 @@
 //! What `ebpf list --json` prints.
 
+use crate::arena::arena_name;
 use crate::layout::ListedLayout;
 use crate::listing::{Extern, ObjectListing};
 use crate::tables::{extern_word, order_word, pinning_word};
@@ -79,6 +80,27 @@ fn write_map<W: Write>(
     json.member("data", map.data().len())?;
     write_inner(json, map)?;
     write_users(json, listing, listing.users_of_map(name))
+}
+
+/// Writes the variables in the arena.
+fn write_arena<W: Write>(
+    json: &mut JsonWriter<'_, W>,
+    listing: &ObjectListing<'_>,
+) -> io::Result<()> {
+    let arena = arena_name(listing);
+    json.array("arena_variables", |json| {
+        for variable in listing.variables.iter() {
+            if variable.map != arena {
+                continue;
+            }
+            json.object(|json| {
+                json.member("name", variable.name)?;
+                json.member("offset", variable.offset)?;
+                json.member("size", variable.size)
+            })?;
+        }
+        Ok(())
+    })
 }
 
 /// Writes a member of a map of struct_ops; nothing where no program stands there.
@@ -169,6 +191,7 @@ fn write_tables<W: Write>(
     json.objects("maps", listing.object.maps.iter(), |json, (name, map)| {
         write_map(json, listing, name.as_str(), map)
     })?;
+    write_arena(json, listing)?;
     write_struct_ops(json, listing, struct_ops_fault)?;
     json.objects(
         "helpers",

@@ -1,6 +1,7 @@
 //! `ebpf list`: what an object has.
 #![tactic(auto)]
 
+mod arena;
 mod json;
 mod layout;
 mod listing;

@@ -9,6 +9,7 @@ ghost use Rattle.cli_list.specs.StructOps.{maps_or_none};
 ghost use Rattle.ebpf_btf.specs.Reading.{type_info_of};
 ghost use Rattle.ebpf_object.specs.declared.object.Object.{Object};
 
+use crate::arena::listed_variables;
 use crate::layout::{ListedLayout, layouts_if, unreached, write_externs};
 use crate::records::{RecordCounts, counted_records, record_total};
 use crate::struct_ops::declared_struct_ops;
@@ -22,6 +23,7 @@ use ebpf_btf::{Btf, BtfError, BtfType, Endianness};
 use ebpf_elf::{ElfFile, ElfSection};
 use ebpf_model::ExternDesc;
 use ebpf_object::Object;
+use ebpf_object::variables::Variable;
 use ebpf_struct_ops::{StructOpsError, StructOpsVariable};
 use std::alloc::{AllocError, Global};
 use std::{fmt, str};
@@ -99,6 +101,8 @@ pub struct ObjectListing<'a> {
     pub records: RecordCounts,
     /// The functions that no program reaches.
     pub unreached: Vec<(usize, u64)>,
+    /// The global variables, if the object has an arena.
+    pub variables: Items<Variable<'a>>,
 }
 
 /// Whether the type of an id is a function.
@@ -251,6 +255,7 @@ pub fn listing_of<'a>(
     let helper_users = helper_users(alloc, object, made)?;
     let records = counted_records(alloc, object)?;
     let unreached = unreached(alloc, object, made)?;
+    let variables = listed_variables(alloc, object)?;
     Ok(ObjectListing {
         object,
         wanted,
@@ -259,6 +264,7 @@ pub fn listing_of<'a>(
         helper_users,
         records,
         unreached,
+        variables,
     })
 }
 

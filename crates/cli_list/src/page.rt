@@ -1,5 +1,6 @@
 //! The page of `ebpf list`.
 
+use crate::arena::arena_table;
 use crate::listing::ObjectListing;
 use crate::struct_ops::{struct_ops_fault, struct_ops_table, struct_ops_texts};
 use crate::tables::{
@@ -113,6 +114,7 @@ fn tables_of<'a>(
     let mut tables = Vec::new(alloc);
     tables.push(programs_table(alloc, listing)?)?;
     tables.push(maps_table(alloc, listing)?)?;
+    tables.push(arena_table(alloc, listing)?)?;
     tables.push(struct_ops_table(alloc, listing, &texts.struct_ops)?)?;
     tables.push(helpers_table(alloc, listing)?)?;
     tables.push(externs_table(alloc, listing)?)?;

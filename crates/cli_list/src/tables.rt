@@ -105,6 +105,12 @@ pub fn programs_table<'a>(
 struct MapColumns {
     has_pinned: bool,
     has_inner: bool,
+    has_data: bool,
+}
+
+/// Whether a map begins with data that aren't its value, as an arena does.
+fn has_data_beside_value(map: &Map) -> bool {
+    map.value_size() == 0 && !map.data().is_empty()
 }
 
 /// The optional columns of an object's maps.
@@ -112,6 +118,7 @@ fn map_columns(listing: &ObjectListing<'_>) -> MapColumns {
     let mut columns = MapColumns {
         has_pinned: false,
         has_inner: false,
+        has_data: false,
     };
     for (_, map) in listing.object.maps.iter() {
         if map.pinning() != PinningType::None {
@@ -119,6 +126,9 @@ fn map_columns(listing: &ObjectListing<'_>) -> MapColumns {
         }
         if map.inner_map().is_some() {
             columns.has_inner = true;
+        }
+        if has_data_beside_value(map) {
+            columns.has_data = true;
         }
     }
     columns
@@ -137,6 +147,9 @@ fn map_heads(alloc: Global, columns: MapColumns) -> Result<Vec<PageColumn>, Allo
     }
     if columns.has_inner {
         heads.push(word_column("INNER"))?;
+    }
+    if columns.has_data {
+        heads.push(number_column("DATA"))?;
     }
     heads.push(number_column("PROGRAMS"))?;
     heads.push(name_column("NAME"))?;
@@ -181,7 +194,15 @@ fn push_sizes(table: &mut PageTable<'_>, map: &Map) -> Result<(), AllocError> {
     Ok(())
 }
 
-/// Adds a map's pinning and what it holds, where there are columns of these.
+/// The number of bytes of a map's initial data.
+fn data_size(map: &Map) -> PageCell<'static> {
+    if map.data().is_empty() {
+        return absent();
+    }
+    PageCell::Number(map.data().len())
+}
+
+/// Adds a map's pinning, what it holds, and the size of its data, where there are columns of these.
 fn push_manner(
     table: &mut PageTable<'_>,
     columns: MapColumns,
@@ -194,6 +215,9 @@ fn push_manner(
     }
     if columns.has_inner {
         table.cells.push(inner_type(map))?;
+    }
+    if columns.has_data {
+        table.cells.push(data_size(map))?;
     }
     Ok(())
 }

@@ -1,5 +1,6 @@
 //! The text output of `ebpf list`.
 
+use crate::arena::arena_table;
 use crate::listing::{ObjectListing, ShownBytes};
 use crate::struct_ops::{struct_ops_fault, struct_ops_table, struct_ops_texts};
 use crate::tables::{
@@ -151,6 +152,7 @@ pub fn write_listing<W: Write>(
     write_file(out, file, listing)?;
     write_table(alloc, out, palette, &programs_table(alloc, listing)?)?;
     write_table(alloc, out, palette, &maps_table(alloc, listing)?)?;
+    write_table(alloc, out, palette, &arena_table(alloc, listing)?)?;
     write_struct_ops(alloc, out, palette, listing)?;
     write_table(alloc, out, palette, &helpers_table(alloc, listing)?)?;
     write_table(alloc, out, palette, &externs_table(alloc, listing)?)?;

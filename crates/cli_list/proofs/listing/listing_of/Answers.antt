@@ -16,6 +16,7 @@ returns c =
       helper_users = c.in_ok-helper_users.helper_users;
       records = c.in_ok-records.records;
       unreached = c.in_ok-unreached.unreached;
+      variables = c.in_ok-variables.variables;
     }) = record {
       object = refl;
       wanted = refl;
@@ -24,5 +25,6 @@ returns c =
       helper_users = subst (λ layouts. AreUsers (calls o) layouts c.in_ok-helper_users.helper_users) made c.in_ok-helper_users.ensures;
       records = c.in_ok-records.ensures;
       unreached = c.in_ok-unreached.ensures ∙ ap (unreached_keys o) made;
+      variables = c.in_ok-variables.ensures;
     } in
     record { tables = tables; listed = λ file parsed wanted layouts. listed file parsed o w c.args.layouts.now _ wanted layouts tables }
