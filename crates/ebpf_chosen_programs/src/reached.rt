@@ -44,6 +44,7 @@ pub fn reached_functions(
         symbols: &object.symbol_table,
         relocations: &object.relocations,
         text_sections: &text_sections,
+        callbacks: &object.exception_callbacks,
     };
     let functions = NumberedFunctions::new(alloc, &parts)?;
     reached_keys(alloc, &functions, programs)

@@ -12,6 +12,10 @@
 -- and the separate functions are in the same state, at corresponding slots (`IsLinked.behaviour`,
 -- and for states of any type the law `linked_behave_alike` of ebpf_reloc).
 --
+-- A program with an exception callback (`complete_programs` of ebpf_exceptions, after lenient
+-- parsing) refers to it behind its last slot. So the callback and what it reaches are among those
+-- functions, behind all that the slots reach.
+--
 -- The program's own function stands once more where a reference names it. Visits and states agree
 -- where each reference of the program and of the functions that it reaches stands on a pseudo call
 -- or on a wide load, as long as the separate run hasn't left its function, and neither machine

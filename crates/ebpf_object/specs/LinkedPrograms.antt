@@ -23,6 +23,7 @@ linkable_of o text_sections = record {
   symbols = o.symbol_table;
   relocations = o.relocations;
   text_sections = text_sections;
+  callbacks = o.exception_callbacks;
 }
 
 -- a program with its name

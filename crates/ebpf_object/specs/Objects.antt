@@ -1,6 +1,7 @@
 -- The object that the bytes of a file are. Its tables and the first fault of a file are those of
 -- what it has.
 use Rattle.std.specs.Prelude.{ℕ, List}
+use Rattle.std.specs.FinMap.{empty}
 use Rattle.ebpf_elf.specs.Headers.{ei_data}
 use Rattle.ebpf_object.specs.declared.object.Object.{Object}
 use Rattle.ebpf_parsing.specs.FileTypes.{types_of_file, externs_of, ext_of}
@@ -32,6 +33,7 @@ object_as mode bytes = record {
   symbol_table = symbol_table (file_symbols bytes);
   relocations = relocation_tables bytes;
   section_infos = section_infos bytes;
+  exception_callbacks = empty;
 }
 
 abbrev pub object_of : List ℕ → Object

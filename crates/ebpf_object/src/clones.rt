@@ -132,6 +132,7 @@ impl Clone for Object {
         let symbol_table = copy_indices(&self.symbol_table)?;
         let carried = copy_carried(self)?;
         let parts = copy_object_tables(self)?;
+        let exception_callbacks = copy_keys(&self.exception_callbacks)?;
         Ok(Object {
             endianness: self.endianness,
             license: carried.license,
@@ -145,6 +146,7 @@ impl Clone for Object {
             symbol_table,
             relocations: parts.relocations,
             section_infos: parts.section_infos,
+            exception_callbacks,
         })
     }
 }

@@ -90,6 +90,7 @@ impl Object {
             symbols: &self.symbol_table,
             relocations: &self.relocations,
             text_sections,
+            callbacks: &self.exception_callbacks,
         };
         let functions = number_functions(alloc, &parts)?;
         Ok(ProgramMaps {

@@ -53,6 +53,7 @@ impl Object {
             symbols: &self.symbol_table,
             relocations: &self.relocations,
             text_sections: &sections,
+            callbacks: &self.exception_callbacks,
         };
         ebpf_reloc::maps_without_descriptors(alloc, &parts, &self.maps, &named)
     }

@@ -43,6 +43,9 @@ pub struct Object {
     pub relocations: BySection<ByOffset<Relocation>>,
     /// The sections' indices by name.
     pub section_infos: ByName<SectionIndex>,
+    /// The keys of exception callbacks, by the keys of the functions that have one. A parsed object has none:
+    /// `complete_programs` of `ebpf_exceptions` finds them.
+    pub exception_callbacks: ByKey<(usize, u64)>,
 }
 
 impl Object {
@@ -119,6 +122,7 @@ impl Object {
             symbol_table: contents.symbol_table,
             relocations: parts.relocations,
             section_infos: parts.section_infos,
+            exception_callbacks: ByKey::new(alloc),
         })
     }
 

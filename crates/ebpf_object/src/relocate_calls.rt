@@ -111,6 +111,7 @@ impl Object {
             symbols: &self.symbol_table,
             relocations: &self.relocations,
             text_sections,
+            callbacks: &self.exception_callbacks,
         };
         relocate_calls(alloc, &programs, &parts)
     }
@@ -119,7 +120,8 @@ impl Object {
     /// functions, each once, in the order of their key paths, which are the least paths of slots to them on which
     /// no function occurs twice. Each reference holds the distance to its copy, and func info and line
     /// info move with their copies. `text_sections` has the indices of the sections whose symbols are functions.
-    /// Every program is linked from the functions as they stand before; functions that are no program's stay.
+    /// An exception callback counts as a reference behind the last slot of the program's function. Every program is linked
+    /// from the functions as they stand before; functions that are no program's stay.
     ///
     /// # Errors
     ///

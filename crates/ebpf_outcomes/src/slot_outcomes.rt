@@ -50,6 +50,7 @@ fn slots_of_maps(
         symbols: &object.symbol_table,
         relocations: &object.relocations,
         text_sections,
+        callbacks: &object.exception_callbacks,
     };
     map_slot_outcomes(alloc, &parts, maps.into_iter())
 }

@@ -1,11 +1,12 @@
 -- The calls of functions, found along their slots: each pseudo call is a reference.
-use Rattle.std.proofs.Common.{◌≡◌, ◌≤◌, ◌<◌, ◌+◌, ◌*◌, ℕ, List, [], ◌∷◌, length, drop, map, Bor, Option, Some, None, sym, ap, ◌∙◌, arith, ◌≢◌, Bool, true, false}
+use Rattle.std.proofs.Common.{◌≡◌, ◌≤◌, ◌<◌, ◌+◌, ◌*◌, ◌++◌, ℕ, List, [], ◌∷◌, length, drop, map, Bor, Option, Some, None, refl, sym, ap, ◌∙◌, arith, ◌≢◌, Bool, true, false}
 use Rattle.std.specs.Prelude.{slice_index_or, ℤ, slice_get, option_map, unwrap_or, if◌then◌else◌}
 use Rattle.std.specs.FinMap.{get, contains_key}
 use Rattle.ebpf_base.proofs.Lists.{rest_more, rest_none}
 use Rattle.ebpf_elf.specs.declared.relocation.ElfRelocation.{ElfRelocation}
 use Rattle.ebpf_linker.proofs.Visits.{CallsRefer}
 use Rattle.ebpf_linker.specs.Functions.{SlotReference, Nothing, Faulty, Names, or_empty}
+use Rattle.ebpf_linker.specs.declared.reference.Reference.{Reference}
 use Rattle.ebpf_linker.specs.declared.reference.Target.{Target}
 use Rattle.ebpf_model.specs.Symbols.{FunctionKey}
 use Rattle.ebpf_model.specs.Walks.{IsBefore}
@@ -24,22 +25,40 @@ use Rattle.ebpf_reloc.specs.declared.slot_target.SlotTarget.TheVariants.{Absent,
 
 module _ (leads : ℕ → bpf_insn → Option Target) (slots : List bpf_insn) where
   step_here : (i : ℕ) (slot : bpf_insn) → i < length slots → slot ≡ slice_index_or slots i slot
-      → calls_by leads i (drop i slots) ≡ with_call i (leads i slot) (calls_by leads (i + 1) (drop (i + 1) slots))
-  step_here i slot below here = ap (calls_by leads i) (rest_more slots i slot below here)
+      → calls_by leads None i (drop i slots) ≡ with_call i (leads i slot) (calls_by leads None (i + 1) (drop (i + 1) slots))
+  step_here i slot below here = ap (calls_by leads None i) (rest_more slots i slot below here)
 
   -- a slot that leads somewhere
   pub call_here : (i : ℕ) (slot : bpf_insn) (target : Target) → i < length slots → slot ≡ slice_index_or slots i slot → Some target ≡ leads i slot
-      → calls_by leads i (drop i slots) ≡ record { slot = i; target = target } ∷ calls_by leads (i + 1) (drop (i + 1) slots)
-  call_here i slot target below here is = step_here i slot below here ∙ ap (λ t. with_call i t (calls_by leads (i + 1) (drop (i + 1) slots))) (sym is)
+      → calls_by leads None i (drop i slots) ≡ record { slot = i; target = target } ∷ calls_by leads None (i + 1) (drop (i + 1) slots)
+  call_here i slot target below here is = step_here i slot below here ∙ ap (λ t. with_call i t (calls_by leads None (i + 1) (drop (i + 1) slots))) (sym is)
 
   -- a slot that leads nowhere
   pub no_call_here : (i : ℕ) (slot : bpf_insn) → i < length slots → slot ≡ slice_index_or slots i slot → None ≡ leads i slot
-      → calls_by leads i (drop i slots) ≡ calls_by leads (i + 1) (drop (i + 1) slots)
-  no_call_here i slot below here is = step_here i slot below here ∙ ap (λ t. with_call i t (calls_by leads (i + 1) (drop (i + 1) slots))) (sym is)
+      → calls_by leads None i (drop i slots) ≡ calls_by leads None (i + 1) (drop (i + 1) slots)
+  no_call_here i slot below here is = step_here i slot below here ∙ ap (λ t. with_call i t (calls_by leads None (i + 1) (drop (i + 1) slots))) (sym is)
 
   -- past the last slot
-  pub calls_end : (i : ℕ) → length slots ≤ i → calls_by leads i (drop i slots) ≡ []
-  calls_end i past = ap (calls_by leads i) (rest_none slots i past)
+  pub calls_end : (i : ℕ) → length slots ≤ i → calls_by leads None i (drop i slots) ≡ []
+  calls_end i past = ap (calls_by leads None i) (rest_none slots i past)
+
+-- the calls of slots, and then the last one
+module _ (leads : ℕ → bpf_insn → Option Target) (last : Option Target) where
+  added : (i : ℕ) (t : Option Target) (xs ys : List Reference) → with_call i t (xs ++ ys) ≡ with_call i t xs ++ ys
+  added i None xs ys = refl
+  added i (Some target) xs ys = refl
+
+  behind : (slots : List bpf_insn) (i : ℕ) → calls_by leads last i slots ≡ calls_by leads None i slots ++ with_call (i + length slots) last []
+  behind [] i = ap (λ k. with_call k last []) (omega arith)
+  behind (slot ∷ slots) i =
+      ap (with_call i (leads i slot)) (behind slots (i + 1))
+      ∙ added i (leads i slot) (calls_by leads None (i + 1) slots) (with_call (i + 1 + length slots) last [])
+      ∙ ap (λ k. with_call i (leads i slot) (calls_by leads None (i + 1) slots) ++ with_call k last []) (omega arith)
+
+  pub callback_behind : (slots : List bpf_insn) → calls_by leads None 0 slots ++ with_call (length slots) last [] ≡ calls_by leads last 0 slots
+  callback_behind slots =
+      let full : 0 + length slots ≡ length slots = omega arith in
+      sym (behind slots 0 ∙ ap (λ k. calls_by leads None 0 slots ++ with_call k last []) full)
 
 -- before a slot is before the next one
 pub next_slot : (walk : Walk) (start i : ℕ) → IsBefore walk (start + 8 * i) → IsBefore walk (start + 8 * (i + 1))

@@ -40,9 +40,9 @@ use Rattle.ebpf_model.specs.declared.function.Function.{Function}
 use Rattle.ebpf_parts.specs.declared.insn.bpf_insn.{bpf_insn}
 use Rattle.ebpf_reloc.specs.Linking.{code_copy, IsLinkMapAt}
 use Rattle.ebpf_reloc.specs.Numbers.{function_keys, function_list, key_in, function_name, with_function_names}
-use Rattle.ebpf_reloc.specs.PrivateContracts.{number_of_key, calls_by, with_call, numbered_target_by, numbered_target, numbered_target_at, calls_of, calls_from, named_copy}
+use Rattle.ebpf_reloc.specs.PrivateContracts.{number_of_key, calls_by, with_call, numbered_target_by, numbered_target, numbered_target_at, numbered_callback, calls_of, calls_from, named_copy}
 use Rattle.ebpf_reloc.specs.References.{content_of, function_name_or_empty, name_at, looked_up, slot_reference, reference_of, functions_of}
-use Rattle.ebpf_reloc.specs.SlotTargets.{LinkableValue, slot_target_of}
+use Rattle.ebpf_reloc.specs.SlotTargets.{LinkableValue, slot_target_of, callback_target}
 use Rattle.ebpf_reloc.specs.declared.link_map.LinkMap.{LinkMap}
 use Rattle.ebpf_reloc.specs.declared.slot_target.SlotTarget.{SlotTarget}
 use Rattle.ebpf_reloc.specs.declared.slot_target.SlotTarget.TheVariants.{Absent, Unsupported, At}
@@ -181,30 +181,47 @@ abbrev pub of_option : Option Target → SlotReference ℕ Fault
 of_option None = Nothing
 of_option (Some target) = of_target target
 
-module _ (leads : ℕ → bpf_insn → Option Target) where
-  abbrev pub led : ℕ → Option bpf_insn → SlotReference ℕ Fault
-  led i None = Nothing
-  led i (Some slot) = of_option (leads i slot)
+module _ (leads : ℕ → bpf_insn → Option Target) (last : Option Target) where
+  -- what slot i refers to, or what is behind the last of so many slots
+  abbrev pub led : ℕ → ℕ → Option bpf_insn → SlotReference ℕ Fault
+  led count i None = if i == count then of_option last else Nothing
+  led count i (Some slot) = of_option (leads i slot)
 
   -- no call stands on a slot before the first
-  none_before : (slots : List bpf_insn) (n x : ℕ) → x < n → referred (calls_by leads n slots) x ≡ Nothing
-  none_before [] n x below = refl
-  none_before (slot ∷ slots) n x below = step (leads n slot) (none_before slots (n + 1) x (omega arith))
-    where
-      step : (t : Option Target) → referred (calls_by leads (n + 1) slots) x ≡ Nothing → referred (with_call n t (calls_by leads (n + 1) slots)) x ≡ Nothing
-      step None rest = rest
-      step (Some target) rest =
-          let other : (n == x) ≡ false = grind (arith, nat_tests) in
-          rw other rest
+  none_if : (t : Option Target) (n x : ℕ) → x < n → (cs : List Reference) → referred cs x ≡ Nothing → referred (with_call n t cs) x ≡ Nothing
+  none_if None n x below cs rest = rest
+  none_if (Some target) n x below cs rest =
+      let other : (n == x) ≡ false = grind (arith, nat_tests) in
+      rw other rest
 
-  referred_from : (slots : List bpf_insn) (n i : ℕ) → referred (calls_by leads n slots) (n + i) ≡ led (n + i) (slice_get slots i)
-  referred_from [] n i = refl
+  none_before : (slots : List bpf_insn) (n x : ℕ) → x < n → referred (calls_by leads last n slots) x ≡ Nothing
+  none_before [] n x below = none_if last n x below [] refl
+  none_before (slot ∷ slots) n x below = none_if (leads n slot) n x below (calls_by leads last (n + 1) slots) (none_before slots (n + 1) x (omega arith))
+
+  nothing : (b : Bool) → ◌≡◌ {A = SlotReference ℕ Fault} Nothing (if b then Nothing else Nothing)
+  nothing true = refl
+  nothing false = refl
+
+  -- behind the last slot
+  referred_last : (t : Option Target) (n i : ℕ) → referred (with_call n t []) (n + i) ≡ (if n + i == n + 0 then of_option t else Nothing)
+  referred_last None n i = nothing (n + i == n + 0)
+  referred_last (Some target) n zero =
+      let same : (n == n + 0) ≡ true = grind (arith, nat_tests) in
+      let here : (n + 0 == n + 0) ≡ true = grind (arith, nat_tests) in
+      rw (same, here) refl
+  referred_last (Some target) n (suc i) =
+      let other : (n == n + suc i) ≡ false = grind (arith, nat_tests) in
+      let past : (n + suc i == n + 0) ≡ false = grind (arith, nat_tests) in
+      rw (other, past) refl
+
+  referred_from : (slots : List bpf_insn) (n i : ℕ) → referred (calls_by leads last n slots) (n + i) ≡ led (n + length slots) (n + i) (slice_get slots i)
+  referred_from [] n i = referred_last last n i
   referred_from (slot ∷ slots) n zero = step (leads n slot) refl
     where
       here : n ≡ n + 0
       here = omega arith
 
-      step : (t : Option Target) → leads n slot ≡ t → referred (with_call n t (calls_by leads (n + 1) slots)) (n + 0) ≡ of_option (leads (n + 0) slot)
+      step : (t : Option Target) → leads n slot ≡ t → referred (with_call n t (calls_by leads last (n + 1) slots)) (n + 0) ≡ of_option (leads (n + 0) slot)
       step None at = none_before slots (n + 1) (n + 0) (omega arith) ∙ ap of_option (sym at ∙ ap (λ k. leads k slot) here)
       step (Some target) at =
           let same : (n == n + 0) ≡ true = grind (arith, nat_tests) in
@@ -214,30 +231,41 @@ module _ (leads : ℕ → bpf_insn → Option Target) where
       on : n + 1 + i ≡ n + suc i
       on = omega arith
 
-      step : (t : Option Target) → referred (calls_by leads (n + 1) slots) (n + 1 + i) ≡ led (n + 1 + i) (slice_get slots i) → referred (with_call n t (calls_by leads (n + 1) slots)) (n + suc i) ≡ led (n + suc i) (slice_get slots i)
-      step None rest = subst (λ k. referred (calls_by leads (n + 1) slots) k ≡ led k (slice_get slots i)) on rest
+      full : n + 1 + length slots ≡ n + suc (length slots)
+      full = omega arith
+
+      moved : referred (calls_by leads last (n + 1) slots) (n + 1 + i) ≡ led (n + 1 + length slots) (n + 1 + i) (slice_get slots i)
+          → referred (calls_by leads last (n + 1) slots) (n + suc i) ≡ led (n + suc (length slots)) (n + suc i) (slice_get slots i)
+      moved rest =
+          subst (λ k. referred (calls_by leads last (n + 1) slots) k ≡ led (n + suc (length slots)) k (slice_get slots i)) on
+          (subst (λ c. referred (calls_by leads last (n + 1) slots) (n + 1 + i) ≡ led c (n + 1 + i) (slice_get slots i)) full rest)
+
+      step : (t : Option Target) → referred (calls_by leads last (n + 1) slots) (n + 1 + i) ≡ led (n + 1 + length slots) (n + 1 + i) (slice_get slots i) → referred (with_call n t (calls_by leads last (n + 1) slots)) (n + suc i) ≡ led (n + suc (length slots)) (n + suc i) (slice_get slots i)
+      step None rest = moved rest
       step (Some target) rest =
           let other : (n == n + suc i) ≡ false = grind (arith, nat_tests) in
-          rw other (subst (λ k. referred (calls_by leads (n + 1) slots) k ≡ led k (slice_get slots i)) on rest)
+          rw other (moved rest)
 
-  -- what slot i refers to
-  pub referred_at : (slots : List bpf_insn) (i : ℕ) → referred (calls_by leads 0 slots) i ≡ led i (slice_get slots i)
+  -- what slot i refers to, and the function behind its last slot
+  pub referred_at : (slots : List bpf_insn) (i : ℕ) → referred (calls_by leads last 0 slots) i ≡ led (length slots) i (slice_get slots i)
   referred_at slots i =
       let e : 0 + i ≡ i = omega arith in
-      subst (λ k. referred (calls_by leads 0 slots) k ≡ led k (slice_get slots i)) e (referred_from slots 0 i)
+      let full : 0 + length slots ≡ length slots = omega arith in
+      subst (λ c. referred (calls_by leads last 0 slots) i ≡ led c i (slice_get slots i)) full
+      (subst (λ k. referred (calls_by leads last 0 slots) k ≡ led (0 + length slots) k (slice_get slots i)) e (referred_from slots 0 i))
 
   later : (m n : ℕ) (cs : List Reference) → m ≤ n → Rises n cs → Rises m cs
   later m n [] le h = tt
   later m n (c ∷ cs) le h = (omega (arith, h.0), h.1)
 
+  rise_if : (t : Option Target) (n : ℕ) (cs : List Reference) → Rises (n + 1) cs → Rises n (with_call n t cs)
+  rise_if None n cs rest = later n (n + 1) cs (omega arith) rest
+  rise_if (Some target) n cs rest = (omega arith, rest)
+
   -- the calls rise
-  pub calls_rise : (slots : List bpf_insn) (n : ℕ) → Rises n (calls_by leads n slots)
-  calls_rise [] n = tt
-  calls_rise (slot ∷ slots) n = step (leads n slot) (calls_rise slots (n + 1))
-    where
-      step : (t : Option Target) → Rises (n + 1) (calls_by leads (n + 1) slots) → Rises n (with_call n t (calls_by leads (n + 1) slots))
-      step None rest = later n (n + 1) (calls_by leads (n + 1) slots) (omega arith) rest
-      step (Some target) rest = (omega arith, rest)
+  pub calls_rise : (slots : List bpf_insn) (n : ℕ) → Rises n (calls_by leads last n slots)
+  calls_rise [] n = rise_if last n [] tt
+  calls_rise (slot ∷ slots) n = rise_if (leads n slot) n (calls_by leads last (n + 1) slots) (calls_rise slots (n + 1))
 
 -- ---- the functions by number are the functions by key
 
@@ -263,8 +291,15 @@ module _ (parts : LinkableValue) where
       step None at has = rw (has, at, named) refl
       step (Some n) at has = rw (has, at, (number_names keys (section, address) n at).1) refl
 
-  same_slot : (m i : ℕ) (f : Function) → function_name fs m ≡ f.name → (s : Option bpf_insn) → slot_reference parts f i s ≡ renamed (key_in keys) (with_function_names fs) (led (numbered_target_at parts keys m f) i s)
-  same_slot m i f named None = refl
+  -- behind the last slot, or further on
+  same_behind : (m : ℕ) (name : List ℕ) → function_name fs m ≡ name → (slot_target : SlotTarget) (b : Bool)
+      → (if b then looked_up parts.functions name slot_target else Nothing) ≡ renamed (key_in keys) (with_function_names fs) (if b then of_option (numbered_target keys m slot_target) else Nothing)
+  same_behind m name named slot_target true = same_target m name named slot_target
+  same_behind m name named slot_target false = refl
+
+  same_slot : (m i : ℕ) (f : Function) → function_name fs m ≡ f.name → (s : Option bpf_insn)
+      → slot_reference parts f i s ≡ renamed (key_in keys) (with_function_names fs) (led (numbered_target_at parts keys m f) (numbered_callback parts keys m f) (length f.instructions) i s)
+  same_slot m i f named None = same_behind m f.name named (callback_target parts f) (i == length f.instructions)
   same_slot m i f named (Some slot) = same_target m f.name named (slot_target_of parts f i slot)
 
   -- the calls of function m
@@ -286,13 +321,14 @@ module _ (parts : LinkableValue) where
       step None at = tt
       step (Some n) at = (number_names keys (section, address) n at).0
 
-  calls_inside : (leads : ℕ → bpf_insn → Option Target) → ((i : ℕ) (s : bpf_insn) → IsInside (leads i s)) → (slots : List bpf_insn) (n : ℕ) → All (λ c. IsWithin (length keys) c.target) (calls_by leads n slots)
-  calls_inside leads all [] n = All-nil (λ c. IsWithin (length keys) c.target)
-  calls_inside leads all (s ∷ slots) n = step (leads n s) (all n s) (calls_inside leads all slots (n + 1))
-    where
-      step : (t : Option Target) → IsInside t → All (λ c. IsWithin (length keys) c.target) (calls_by leads (n + 1) slots) → All (λ c. IsWithin (length keys) c.target) (with_call n t (calls_by leads (n + 1) slots))
-      step None h rest = rest
-      step (Some target) h rest = All-cons (λ c. IsWithin (length keys) c.target) (record { slot = n; target = target }) (calls_by leads (n + 1) slots) h rest
+  inside_if : (t : Option Target) (n : ℕ) (cs : List Reference) → IsInside t → All (λ c. IsWithin (length keys) c.target) cs → All (λ c. IsWithin (length keys) c.target) (with_call n t cs)
+  inside_if None n cs h rest = rest
+  inside_if (Some target) n cs h rest = All-cons (λ c. IsWithin (length keys) c.target) (record { slot = n; target = target }) cs h rest
+
+  calls_inside : (leads : ℕ → bpf_insn → Option Target) (last : Option Target) → ((i : ℕ) (s : bpf_insn) → IsInside (leads i s)) → IsInside last → (slots : List bpf_insn) (n : ℕ)
+      → All (λ c. IsWithin (length keys) c.target) (calls_by leads last n slots)
+  calls_inside leads last all end [] n = inside_if last n [] end (All-nil (λ c. IsWithin (length keys) c.target))
+  calls_inside leads last all end (s ∷ slots) n = inside_if (leads n s) n (calls_by leads last (n + 1) slots) (all n s) (calls_inside leads last all end slots (n + 1))
 
   -- a reference leads to one of the functions
   names_inside : (cs : List Reference) (n i k : ℕ) → All (λ c. IsWithin n c.target) cs → referred cs i ≡ Names k → k < n
@@ -328,11 +364,11 @@ module _ (parts : LinkableValue) where
 
     calls_rise_at : (k : ℕ) (f : Option Function) → Rises 0 (or_none (option_map (λ f. calls_of parts keys k f) f))
     calls_rise_at k None = tt
-    calls_rise_at k (Some f) = calls_rise (numbered_target_at parts keys k f) f.instructions 0
+    calls_rise_at k (Some f) = calls_rise (numbered_target_at parts keys k f) (numbered_callback parts keys k f) f.instructions 0
 
     calls_inside_at : (k : ℕ) (f : Option Function) → All (λ c. IsWithin (length keys) c.target) (or_none (option_map (λ f. calls_of parts keys k f) f))
     calls_inside_at k None = All-nil (λ c. IsWithin (length keys) c.target)
-    calls_inside_at k (Some f) = calls_inside (numbered_target_at parts keys k f) (λ i s. inside k (slot_target_of parts f i s)) f.instructions 0
+    calls_inside_at k (Some f) = calls_inside (numbered_target_at parts keys k f) (numbered_callback parts keys k f) (λ i s. inside k (slot_target_of parts f i s)) (inside k (callback_target parts f)) f.instructions 0
 
     -- the calls rise, and lead to functions
     pub calls_sound : Sound (length keys) C
@@ -349,7 +385,7 @@ module _ (parts : LinkableValue) where
 
     reference_here : (m i : ℕ) (f : Option Function) → slice_get fs m ≡ f → reference_of parts f i ≡ renamed (key_in keys) (with_function_names fs) (referred (or_none (option_map (λ f. calls_of parts keys m f) f)) i)
     reference_here m i None at = refl
-    reference_here m i (Some f) at = same_slot m i f (ap function_name_or_empty at) (slice_get f.instructions i) ∙ ap (renamed (key_in keys) (with_function_names fs)) (sym (referred_at (numbered_target_at parts keys m f) f.instructions i))
+    reference_here m i (Some f) at = same_slot m i f (ap function_name_or_empty at) (slice_get f.instructions i) ∙ ap (renamed (key_in keys) (with_function_names fs)) (sym (referred_at (numbered_target_at parts keys m f) (numbered_callback parts keys m f) f.instructions i))
 
     -- the functions by number are the functions by key
     pub numbered : Numbers (functions_by_number B C) (functions_of parts) (λ m. m < length keys) (key_in keys) (with_function_names fs)

@@ -8,7 +8,7 @@ use Rattle.ebpf_linker.specs.Copies.{IsLaidOut}
 use Rattle.ebpf_model.specs.declared.function.Function.{Function}
 use Rattle.ebpf_reloc.specs.declared.link_map.CodeCopy.{CodeCopy}
 use Rattle.ebpf_reloc.specs.Numbers.{function_keys, key_in, function_name}
-use Rattle.ebpf_reloc.specs.SlotTargets.{LinkableValue, slot_target_of}
+use Rattle.ebpf_reloc.specs.SlotTargets.{LinkableValue, slot_target_of, callback_target}
 use Rattle.ebpf_model.specs.Symbols.{FunctionKey}
 use Rattle.std.specs.List.{position_from}
 use Rattle.std.specs.Ordering.{eq_by_cmp}
@@ -64,14 +64,28 @@ abbrev pub with_call : ℕ → Option Target → List Reference → List Referen
 with_call i None calls = calls
 with_call i (Some target) calls = record { slot = i; target = target } ∷ calls
 
--- the calls of slots that are numbered from i on, by where each leads
-abbrev pub calls_by : (ℕ → bpf_insn → Option Target) → ℕ → List bpf_insn → List Reference
-calls_by leads i [] = []
-calls_by leads i (slot ∷ slots) = with_call i (leads i slot) (calls_by leads (i + 1) slots)
+-- the calls of slots that are numbered from i on, by where each leads, and behind the last slot the
+-- call of a last target
+abbrev pub calls_by : (ℕ → bpf_insn → Option Target) → Option Target → ℕ → List bpf_insn
+    → List Reference
+calls_by leads last i [] = with_call i last []
+calls_by leads last i (slot ∷ slots) =
+    with_call i (leads i slot) (calls_by leads last (i + 1) slots)
 
--- the calls of the function with this number
+-- the calls of the slots of the function with this number
+abbrev pub calls_of_slots : LinkableValue → List FunctionKey → ℕ → Function → List Reference
+calls_of_slots parts keys caller f =
+    calls_by (numbered_target_at parts keys caller f) None 0 f.instructions
+
+-- the target of the exception callback of the function with this number
+abbrev pub numbered_callback : LinkableValue → List FunctionKey → ℕ → Function → Option Target
+numbered_callback parts keys caller f = numbered_target keys caller (callback_target parts f)
+
+-- the calls of the function with this number, and behind its last slot that of its callback
 abbrev pub calls_of : LinkableValue → List FunctionKey → ℕ → Function → List Reference
-calls_of parts keys caller f = calls_by (numbered_target_at parts keys caller f) 0 f.instructions
+calls_of parts keys caller f =
+    calls_by (numbered_target_at parts keys caller f) (numbered_callback parts keys caller f) 0
+    f.instructions
 
 -- the calls of functions that are numbered from n on
 abbrev pub calls_from : LinkableValue → List FunctionKey → ℕ → List Function → List (List Reference)

@@ -1,5 +1,11 @@
--- The functions of an object by their keys, and what their slots refer to.
-use Rattle.std.specs.Prelude.{ℕ, List, [], Option, Some, None, if◌then◌else◌, slice_get, option_map}
+-- The functions of an object by their keys, and what their slots refer to. A function with an
+-- exception callback has one more reference, to the callback, behind its last slot. So linking
+-- follows it last, and no slot holds it.
+--
+-- Example: P has two slots, slot 0 calls f, and P's exception callback is c. P's references are f at
+-- 0 and c at 2. So P is linked with f, what f reaches, c, and what else c reaches.
+use Rattle.std.specs.Prelude.{ℕ, ◌==◌, List, [], Option, Some, None, if◌then◌else◌, slice_get}
+use Rattle.std.specs.Prelude.{length, option_map}
 use Rattle.std.specs.FinMap.{FinMap, get, contains_key}
 use Rattle.ebpf_base.specs.Maps.{key_cmp}
 use Rattle.ebpf_linker.specs.Functions.{SlotReference, Nothing, Faulty, Names, FunctionContent}
@@ -15,7 +21,7 @@ use Rattle.ebpf_model.specs.declared.error.RelocationError.TheVariants.{InvalidL
 use Rattle.ebpf_model.specs.declared.function.Function.{Function}
 use Rattle.ebpf_reloc.specs.declared.slot_target.SlotTarget.{SlotTarget}
 use Rattle.ebpf_reloc.specs.declared.slot_target.SlotTarget.TheVariants.{Absent, Unsupported, At}
-use Rattle.ebpf_reloc.specs.SlotTargets.{LinkableValue, slot_target_of}
+use Rattle.ebpf_reloc.specs.SlotTargets.{LinkableValue, slot_target_of, callback_target}
 
 -- what is linked of a function
 abbrev pub content_of : Function → FunctionContent
@@ -51,11 +57,14 @@ abbrev pub slot_reference : LinkableValue
     → ℕ
     → Option bpf_insn
     → SlotReference FunctionKey RelocationError
-slot_reference parts f i None = Nothing
+slot_reference parts f i None =
+    if i == length f.instructions
+    then looked_up parts.functions f.name (callback_target parts f)
+    else Nothing
 slot_reference parts f i (Some slot) =
     looked_up parts.functions f.name (slot_target_of parts f i slot)
 
--- what slot i of a function refers to
+-- what slot i of a function refers to, or the function behind its last slot
 abbrev pub reference_of : LinkableValue
     → Option Function
     → ℕ

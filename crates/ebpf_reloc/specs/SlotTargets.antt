@@ -15,15 +15,17 @@ use Rattle.ebpf_reloc.specs.declared.linkable.Linkable.{Linkable}
 use Rattle.ebpf_reloc.specs.declared.slot_target.SlotTarget.{SlotTarget}
 use Rattle.ebpf_reloc.specs.declared.slot_target.SlotTarget.TheVariants.{Absent, Unsupported, At}
 use Rattle.ebpf_model.specs.declared.symbol.Symbol.{Symbol}
-use Rattle.ebpf_model.specs.Symbols.{is_extern, TextSections, text_sections_in}
+use Rattle.ebpf_model.specs.Symbols.{FunctionKey, is_extern, TextSections, text_sections_in}
 use Rattle.ebpf_model.specs.Walks.{found_at}
 
--- what is read of an object to tell what its slots refer to
+-- what is read of an object to tell what its slots and its functions refer to; `callbacks` has the
+-- key of a function's exception callback by the function's key
 pub record LinkableValue : Type 0 where
   pub functions : FinMap key_cmp Function
   pub symbols : FinMap nat_cmp Symbol
   pub relocations : FinMap nat_cmp (FinMap nat_cmp ElfRelocation)
   pub text_sections : TextSections
+  pub callbacks : FinMap key_cmp FunctionKey
 
 abbrev pub read : Linkable → LinkableValue
 read l = record {
@@ -31,6 +33,7 @@ read l = record {
   symbols = l.symbols.now;
   relocations = l.relocations.now;
   text_sections = text_sections_in l.text_sections.now;
+  callbacks = l.callbacks.now;
 }
 
 -- a whole number modulo 2 ^ 64
@@ -110,3 +113,11 @@ own_target f i slot =
 abbrev pub slot_target_of : LinkableValue → Function → ℕ → bpf_insn → SlotTarget
 slot_target_of parts f i slot =
     unwrap_or (relocated_target parts slot.imm (relocation_of parts f i)) (own_target f i slot)
+
+abbrev pub target_at : Option FunctionKey → SlotTarget
+target_at None = Absent
+target_at (Some key) = At key.0 key.1
+
+-- what a function refers to behind its last slot: its exception callback, if it has one
+abbrev pub callback_target : LinkableValue → Function → SlotTarget
+callback_target parts f = target_at (get parts.callbacks (f.section_index.0, f.address))

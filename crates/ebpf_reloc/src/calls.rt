@@ -1,8 +1,8 @@
 //! The calls of functions, which are found once before anything is linked.
 
-ghost use Rattle.std.specs.Prelude.{◌≡◌, ◌+◌, ◌*◌, length, map, IfOk, OnOk};
+ghost use Rattle.std.specs.Prelude.{◌≡◌, ◌+◌, ◌*◌, ◌++◌, [], length, map, IfOk, OnOk};
 ghost use Rattle.std.specs.FinMap.{get};
-ghost use Rattle.ebpf_reloc.specs.PrivateContracts.{numbered_target, calls_of, calls_from};
+ghost use Rattle.ebpf_reloc.specs.PrivateContracts.{numbered_target, calls_of, calls_of_slots, calls_from, with_call};
 ghost use Rattle.ebpf_model.specs.Walks.{walked_relocations, IsBefore};
 ghost use Rattle.ebpf_reloc.specs.SlotTargets.{slot_target_of, relocation_of, read};
 ghost use Rattle.std.specs.List.Sorted.{IsStrictlySortedBy};
@@ -10,7 +10,7 @@ ghost use Rattle.ebpf_base.specs.Maps.{key_cmp};
 
 use crate::linkable::Linkable;
 use crate::numbers::KeyNumbers;
-use crate::slot_target::{SlotTarget, own_target, relocated_target};
+use crate::slot_target::{SlotTarget, callback_target, own_target, relocated_target};
 use ebpf_linker::{Fault, Reference, Target};
 use ebpf_model::{Function, Walk};
 use ebpf_parts::Relocation;
@@ -60,9 +60,57 @@ fn count_calls(slots: &[bpf_insn]) -> usize {
     slots.iter().filter(|slot| slot.is_pseudo_call()).count()
 }
 
-/// The calls of the function with this number, in the order of its slots. The walk, which has not passed the function,
-/// goes on to its last slot.
+/// The calls of the slots of the function with this number, in order. The walk, which has not passed the function, goes
+/// on to its last slot.
 #[tactic(auto, using(crate::proofs::CallsRefer::call_here, crate::proofs::CallsRefer::no_call_here, crate::proofs::CallsRefer::calls_end, crate::proofs::CallsRefer::next_slot))]
+fn calls_of_slots(
+    alloc: Global,
+    parts: &Linkable<'_>,
+    numbers: &KeyNumbers<'_>,
+    walk: &mut Walk<'_>,
+    caller: usize,
+    function: &Function,
+) -> Result<Vec<Reference>, AllocError>
+    requires section_relocations { walked_relocations walk.old
+        ≡ get (read parts.now).relocations function.now.section_index.0 }
+    requires before { IsBefore walk.old function.now.section_offset }
+    ensures calls { IfOk result (λ calls.
+        calls.items ≡ calls_of_slots (read parts.now) numbers.now.keys.now caller function.now) }
+    ensures others { walk.new ≡ record walk.old { next = walk.new.next; ahead = walk.new.ahead } }
+    ensures before { OnOk result
+        (IsBefore walk.new
+        (function.now.section_offset + 8 * length function.now.instructions)) }
+{
+    let slots = function.instructions.as_slice();
+    let mut calls = Vec::with_capacity(alloc, count_calls(slots))?;
+    for slot in 0..slots.len() {
+        let relocation = walk.relocation_of(function, slot);
+        let slot_target = slot_target_of(parts, function, slot, slots[slot], relocation);
+        let Some(target) = numbered_target(numbers, caller, slot_target) else {
+            continue;
+        };
+        calls.push(Reference { slot, target })?;
+    }
+    Ok(calls)
+}
+
+/// Adds the call of a target, if there is one.
+fn add_call(
+    calls: &mut Vec<Reference>,
+    slot: usize,
+    target: Option<Target>,
+) -> Result<(), AllocError>
+    ensures { OnOk result (calls.new.items ≡ calls.old.items ++ with_call slot target []) }
+{
+    let Some(target) = target else {
+        return Ok(());
+    };
+    calls.push(Reference { slot, target })?;
+    Ok(())
+}
+
+/// The calls of the function with this number, in the order of its slots, and behind its last slot that of its exception
+/// callback. The walk, which has not passed the function, goes on to its last slot.
 fn calls_of(
     alloc: Global,
     parts: &Linkable<'_>,
@@ -81,16 +129,9 @@ fn calls_of(
         (IsBefore walk.new
         (function.now.section_offset + 8 * length function.now.instructions)) }
 {
-    let slots = function.instructions.as_slice();
-    let mut calls = Vec::with_capacity(alloc, count_calls(slots))?;
-    for slot in 0..slots.len() {
-        let relocation = walk.relocation_of(function, slot);
-        let slot_target = slot_target_of(parts, function, slot, slots[slot], relocation);
-        let Some(target) = numbered_target(numbers, caller, slot_target) else {
-            continue;
-        };
-        calls.push(Reference { slot, target })?;
-    }
+    let mut calls = calls_of_slots(alloc, parts, numbers, walk, caller, function)?;
+    let callback = numbered_target(numbers, caller, callback_target(parts, function));
+    add_call(&mut calls, function.instructions.len(), callback)?;
     Ok(calls)
 }
 

@@ -16,4 +16,6 @@ pub struct Linkable<'a> {
     pub relocations: &'a BySection<ByOffset<Relocation>>,
     /// The indexes of the sections that hold functions.
     pub text_sections: &'a HashSet<usize>,
+    /// The keys of exception callbacks, by the keys of the functions that have one.
+    pub callbacks: &'a ByKey<(usize, u64)>,
 }

@@ -2,7 +2,7 @@
 
 ghost use Rattle.std.specs.Prelude.{◌≡◌, ◌+◌, ◌*◌, ◌%◌, ◌^◌, pos, ◌+ℤ◌, ◌*ℤ◌};
 ghost use Rattle.ebpf_model.specs.Symbols.{text_sections_in};
-ghost use Rattle.ebpf_reloc.specs.SlotTargets.{modulo, is_usable, reference_address, symbol_target, relocated_target, own_target, read};
+ghost use Rattle.ebpf_reloc.specs.SlotTargets.{modulo, is_usable, reference_address, symbol_target, relocated_target, own_target, callback_target, read};
 
 use crate::linkable::Linkable;
 use ebpf_elf::SymbolKind;
@@ -115,4 +115,15 @@ pub fn own_target(function: &Function, slot: usize, instruction: bpf_insn) -> Sl
     }
     let address = moved_address(wrapped_offset(function, slot), distance(instruction.imm));
     SlotTarget::At(function.section_index.0, address)
+}
+
+/// What a function refers to behind its last slot: its exception callback.
+pub fn callback_target(parts: &Linkable<'_>, function: &Function) -> SlotTarget
+    ensures { result ≡ callback_target (read parts.now) function.now }
+{
+    let key = (function.section_index.0, function.address);
+    match parts.callbacks.get(key) {
+        Some(callback) => SlotTarget::At(callback.0, callback.1),
+        None => SlotTarget::Absent,
+    }
 }

@@ -120,6 +120,7 @@ pub fn empty_object(alloc: Global) -> Object {
         symbol_table: ByIndex::new(alloc),
         relocations: BySection::new(alloc),
         section_infos: ByName::new(alloc),
+        exception_callbacks: ByKey::new(alloc),
     }
 }
 

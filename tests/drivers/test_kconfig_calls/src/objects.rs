@@ -54,6 +54,7 @@ pub fn object_with(alloc: Global, types: Option<Btf>, symbols: ByIndex<Symbol>) 
         symbol_table: symbols,
         relocations: BySection::new(alloc),
         section_infos: ByName::new(alloc),
+        exception_callbacks: ByKey::new(alloc),
     }
 }
 

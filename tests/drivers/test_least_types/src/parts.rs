@@ -202,5 +202,6 @@ pub fn object_of(
         symbol_table: ByIndex::new(alloc),
         relocations: BySection::new(alloc),
         section_infos: sections(alloc)?,
+        exception_callbacks: ByKey::new(alloc),
     })
 }
