@@ -14,7 +14,7 @@ CRATES = TOP / "crates"
 PAGE = TOP / "docs/API.md"
 
 # The crates whose modules users name, in the order of the page.
-SHOWN = ["ebpf_object", "ebpf_limits", "ebpf_chosen_programs", "ebpf_kconfig", "ebpf_btf_maps", "ebpf_initial_slots", "ebpf_struct_ops", "ebpf_btf_load", "ebpf_load_info", "ebpf_least_types", "ebpf_outcomes", "ebpf_verdict", "ebpf_inspect"]
+SHOWN = ["ebpf_object", "ebpf_limits", "ebpf_chosen_programs", "ebpf_kconfig", "ebpf_btf_maps", "ebpf_exceptions", "ebpf_initial_slots", "ebpf_struct_ops", "ebpf_btf_load", "ebpf_load_info", "ebpf_least_types", "ebpf_outcomes", "ebpf_verdict", "ebpf_inspect"]
 
 HEAD = """# The API of the library
 

@@ -13,3 +13,4 @@ mod words;
 
 pub use error::KernelTypesError;
 pub use for_kernel::kernel_types;
+pub use symbols::{is_function_symbol, is_hidden, symbol_table};

@@ -3,6 +3,7 @@
 #![tactic(auto)]
 
 mod btf_maps;
+mod callbacks;
 mod chosen;
 mod explained;
 mod externs;
@@ -35,6 +36,7 @@ fn show_all(lines: &mut Lines, file: &[u8]) {
     externs::show_all(lines);
     settings::show_all(lines);
     btf_maps::show_all(lines);
+    callbacks::show_all(lines);
     initial_slots::show_all(lines);
     struct_ops::show_all(lines);
     chosen::show_all(lines);

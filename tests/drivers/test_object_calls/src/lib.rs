@@ -1,9 +1,11 @@
-//! Tests of calls over whole files: limits, arenas, the initial values of maps, variables, and what the programs say; each by what the call gives.
+//! Tests of calls over whole files: limits, arenas, exception callbacks, the initial values of maps, variables, and what the programs say; each by what the call gives.
 //! Nothing is promised here.
 #![tactic(auto)]
 
 #[cfg(test)]
 mod arenas;
+#[cfg(test)]
+mod callbacks;
 #[cfg(test)]
 mod chosen;
 #[cfg(test)]
