@@ -2,15 +2,17 @@
 
 ghost use Rattle.std.specs.Prelude.{◌≡◌, IfOk, OnOk, None};
 ghost use Rattle.ebpf_btf_maps.specs.Arenas.{completion_fault};
-ghost use Rattle.cli_common.specs.CompletedObjects.{IsCompleted, page_size, with_completed_maps};
+ghost use Rattle.cli_common.specs.CompletedObjects.{IsCompleted, page_size, with_callbacks, with_completed_maps};
+ghost use Rattle.ebpf_exceptions.specs.Callbacks.{callbacks_fault};
 ghost use Rattle.ebpf_object.specs.Prepared.{IsParsed};
 ghost use Rattle.ebpf_parts.specs.declared.parse_mode.ParseMode.TheVariants.{Lenient};
 
 use crate::embedded::{ObjectRange, embedded_objects};
 use crate::machines::{machine_name, other_machine};
 use crate::refusal::{FileRefusal, READING};
-use crate::refuse::{Stop, read_given, refuse_maps, refuse_parsing, refused};
+use crate::refuse::{Stop, read_given, refuse_callbacks, refuse_maps, refuse_parsing, refused};
 use ebpf_btf_maps::complete_maps;
+use ebpf_exceptions::complete_programs;
 use ebpf_object::Object;
 use ebpf_parts::{ParseError, ParseMode};
 use std::alloc::{AllocError, Global};
@@ -164,7 +166,7 @@ fn parsed_alone(rt: &HostRuntime, json: bool, path: &str, file: &[u8]) -> Result
 const PAGE_SIZE: u32 = 4096;
 
 /// Completes the maps of an object; a refusal is reported.
-fn complete(
+fn complete_own_maps(
     rt: &HostRuntime,
     json: bool,
     path: &str,
@@ -185,7 +187,47 @@ fn complete(
     }
 }
 
-/// The object of a file's bytes, read broadly, with its maps completed; one that can't be parsed is reported.
+/// Completes the programs of an object; a refusal is reported.
+fn complete_own_programs(
+    rt: &HostRuntime,
+    json: bool,
+    path: &str,
+    file: &[u8],
+    object: &mut Object,
+) -> Result<(), Stop>
+    ensures completed { OnOk result (object.new ≡ with_callbacks file.now object.old) }
+    ensures sound { OnOk result (callbacks_fault file.now object.old ≡ None) }
+{
+    match complete_programs(object, file) {
+        Ok(()) => Ok(()),
+        Err(error) => {
+            let stop = refuse_callbacks(rt, json, path, &error);
+            drop(error);
+            Err(stop)
+        }
+    }
+}
+
+/// Completes the maps of an object, and then its programs; a refusal is reported.
+fn complete(
+    rt: &HostRuntime,
+    json: bool,
+    path: &str,
+    file: &[u8],
+    object: &mut Object,
+) -> Result<(), Stop>
+    ensures completed { OnOk result
+        (object.new ≡ with_callbacks file.now (with_completed_maps file.now object.old)) }
+    ensures maps { OnOk result (completion_fault file.now page_size object.old ≡ None) }
+    ensures callbacks { OnOk result
+        (callbacks_fault file.now (with_completed_maps file.now object.old) ≡ None) }
+{
+    complete_own_maps(rt, json, path, file, object)?;
+    complete_own_programs(rt, json, path, file, object)
+}
+
+/// The object of a file's bytes, read broadly, with its maps and its programs completed; one that can't be parsed is
+/// reported.
 pub fn parsed_object(rt: &HostRuntime, json: bool, path: &str, file: &[u8]) -> Result<Object, Stop>
     ensures { IfOk result (IsCompleted file.now) }
 {

@@ -8,6 +8,7 @@ use crate::refusal::{FileRefusal, READING, RefusalLines, help_of, system_refusal
 use crate::variants::variant_of_parsing;
 use ebpf_base::Text;
 use ebpf_btf_maps::BtfMapError;
+use ebpf_exceptions::ExceptionError;
 use ebpf_object::Object;
 use ebpf_object::obj::ExplainedParse;
 use ebpf_parts::ParseError;
@@ -149,6 +150,46 @@ pub fn refuse_maps(rt: &HostRuntime, json: bool, path: &str, error: &BtfMapError
         return Stop::Memory;
     }
     match maps_refusal(rt.alloc(), error) {
+        Ok(refusal) => refused(rt, json, path, &refusal, 1),
+        Err(_) => Stop::Memory,
+    }
+}
+
+/// The help on an object whose exception callbacks can't be had.
+fn callbacks_help(error: &ExceptionError) -> Option<&'static str> {
+    match error {
+        ExceptionError::NotAFunction { .. } | ExceptionError::NotGlobal { .. } => {
+            Some("put the tag `exception_callback:` on a program")
+        }
+        ExceptionError::EmptyCallback { .. } => {
+            Some("write the name of the callback: `__exception_cb(name)`")
+        }
+        ExceptionError::UnknownCallback { .. } => {
+            Some("define the callback as a global function of `.text`")
+        }
+        ExceptionError::CallbackNotGlobal { .. } => {
+            Some("declare the callback neither `static` nor hidden")
+        }
+        ExceptionError::ElfError(_) | ExceptionError::OutOfMemory => None,
+    }
+}
+
+/// The refusal of an object whose exception callbacks can't be had.
+fn callbacks_refusal(alloc: Global, error: &ExceptionError) -> Result<FileRefusal, AllocError> {
+    Ok(FileRefusal {
+        stage: "parse",
+        variant: error.variant_name(),
+        text: format!(in alloc; "{error}")?,
+        help: help_of(alloc, callbacks_help(error))?,
+    })
+}
+
+/// Reports an error of completing programs.
+pub fn refuse_callbacks(rt: &HostRuntime, json: bool, path: &str, error: &ExceptionError) -> Stop {
+    if matches!(error, ExceptionError::OutOfMemory) {
+        return Stop::Memory;
+    }
+    match callbacks_refusal(rt.alloc(), error) {
         Ok(refusal) => refused(rt, json, path, &refusal, 1),
         Err(_) => Stop::Memory,
     }

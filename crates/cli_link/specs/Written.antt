@@ -1,10 +1,13 @@
 -- What `ebpf link --bytes` writes: the lines of `ebpf-link`, but for names as they are shown.
 use Rattle.std.specs.Prelude.{◌≡◌, ℕ, List, [], Option, Some, None}
 use Rattle.std.specs.Io.KnownBytes.{Appends}
+use Rattle.std.specs.FinMap.{empty}
 use Rattle.std.specs.List.{flat_map}
+use Rattle.cli_common.specs.CompletedObjects.{with_maps_of}
 use Rattle.cli_common.specs.DefaultPasses.{default_passes}
 use Rattle.cli_common.specs.SlotText.{program_text}
 use Rattle.ebpf_btf_maps.specs.Arenas.{arena_section}
+use Rattle.ebpf_exceptions.specs.Callbacks.{completed_callbacks}
 use Rattle.ebpf_object.specs.LinkedPrograms.{function_of_named_program}
 use Rattle.ebpf_kconfig.specs.KconfigMaps.{passes_made}
 use Rattle.ebpf_ksyms.specs.Sources.{Source, Text}
@@ -59,8 +62,8 @@ pub record WritesFinished (steps : Chosen) (lines : Source) (parsed : Object)
   pub text : Appends before now (shown_programs object names)
 
 -- The same of the object of a file, in lenient parsing, with its maps completed and its kconfig
--- externs defined by the values of a kernel. Where the file has no kconfig externs and no variables
--- in an arena, the headline holds of the file.
+-- externs defined by the values of a kernel. Where the file has no kconfig externs, no variables in
+-- an arena and no exception callbacks, the headline holds of the file.
 pub record HasWritten (file : List ℕ) (kernel : Kernel) (names : List (List ℕ))
     (before now : Option (List ℕ))
     : Type 0 where
@@ -70,5 +73,6 @@ pub record HasWritten (file : List ℕ) (kernel : Kernel) (names : List (List �
       (Text kernel.symbols.items) opened names before now
   pub headline : externs_of (object_as Lenient file) ≡ []
       → arena_section file ≡ None
+      → completed_callbacks file (with_maps_of file) ≡ empty
       → Headline (default_passes kernel.types opened.maps) (Text kernel.symbols.items) Lenient file
       written.object

@@ -5,7 +5,7 @@ use Rattle.std.specs.FinMap.{FinMap, empty, entries, get, get-empty}
 use Rattle.std.specs.List.{flat_map}
 use Rattle.std.specs.Option.{option_and_then, option_map_or}
 use Rattle.std.specs.Ordering.{nat_cmp}
-use Rattle.cli_common.specs.CompletedObjects.{IsCompleted, page_size, with_completed_maps}
+use Rattle.cli_common.specs.CompletedObjects.{IsCompleted, page_size, with_callbacks, with_maps_of}
 use Rattle.ebpf_btf_maps.proofs.Completed.{maps_stay}
 use Rattle.ebpf_base.proofs.Lists.{rest_more}
 use Rattle.ebpf_base.proofs.Mapped.{map_values-identity, map_values-same_at, put_all-flat_map}
@@ -18,7 +18,7 @@ use Rattle.ebpf_btf.specs.declared.kind.BtfKind.TheVariants as kinds
 use Rattle.ebpf_kconfig.specs.KconfigExterns.{externs_in, kconfig_externs, kconfig_section, section_rows, weak_symbols}
 use Rattle.ebpf_kconfig.specs.KconfigMaps.{ExternsByName, KconfigValues, defined_at, defined_symbol, extern_offsets, group_externs, kconfig_offsets, symbols_defined, with_kconfig_map}
 use Rattle.ebpf_kconfig.specs.declared.externs.KconfigExtern.{KconfigExtern}
-use Rattle.ebpf_model.specs.Symbols.{is_extern}
+use Rattle.ebpf_model.specs.Symbols.{FunctionKey, is_extern}
 use Rattle.ebpf_model.specs.declared.symbol.Symbol.{Symbol}
 use Rattle.ebpf_object.specs.Objects.{object_as}
 use Rattle.ebpf_object.specs.declared.object.Object.{Object}
@@ -105,15 +105,19 @@ defined values externs o after others maps symbols =
 pub opened : (file : List ℕ) (kernel : Kernel) (o after : Object) → IsCompleted file o → after ≡ with_kconfig kernel o → IsDefined file kernel after
 opened file kernel o after completed defined =
     let object : Object = object_as Lenient file in
-    let with_maps : Object = with_completed_maps file object in
-    let is : after ≡ with_kconfig kernel with_maps = subst (λ (x : Object). after ≡ with_kconfig kernel x) completed.is defined in
+    let complete : Object = with_callbacks file (with_maps_of file) in
+    let is : after ≡ with_kconfig kernel complete = subst (λ (x : Object). after ≡ with_kconfig kernel x) completed.is defined in
     record {
       parsed = record { sound = completed.sound; is = refl };
       complete = completed.complete;
+      callbacks = completed.callbacks;
       defined = is;
-      same = λ none no_section. record {
+      same = λ none no_section no_callbacks. record {
         sound = completed.sound;
-        is = is ∙ sym (without_externs kernel with_maps none) ∙ ap (λ (m : FinMap text_cmp Map). record object { maps = m }) (maps_stay file page_size object.maps no_section);
+        is = is
+            ∙ sym (without_externs kernel complete none)
+            ∙ ap (λ (m : FinMap key_cmp FunctionKey). record (with_maps_of file) { exception_callbacks = m }) no_callbacks
+            ∙ ap (λ (m : FinMap text_cmp Map). record object { maps = m }) (maps_stay file page_size object.maps no_section);
       };
     }
 

@@ -24,5 +24,5 @@ returns-in-Ok-write_named_programs-clause-done g c file defined =
         headline = λ file parsed. c.in-Ok.ensures.headline Lenient file parsed;
         text = c.in-Ok-write_named_programs.ensures;
       };
-      headline = λ none no_section. c.in-Ok.ensures.headline Lenient file (defined.same none no_section);
+      headline = λ none no_section no_callbacks. c.in-Ok.ensures.headline Lenient file (defined.same none no_section no_callbacks);
     }
