@@ -1,5 +1,5 @@
 -- Tags, and objects without one.
-use Rattle.std.proofs.Common.{◌≡◌, ℕ, List, [], drop, length, Option, Some, None, refl, sym, ap, ◌∙◌, subst, true, false}
+use Rattle.std.proofs.Common.{◌≡◌, ℕ, List, drop, length, Option, Some, None, sym, ap, ◌∙◌, subst, true, false}
 use Rattle.std.specs.FinMap.{empty}
 use Rattle.std.specs.Option.{option_copied, option_map_or}
 use Rattle.std.specs.Prelude.{MatchOption, if◌then◌else◌}

@@ -11,9 +11,8 @@
 use Rattle.std.specs.FinMap.{FinMap, get, insert, contains_key, entries, empty}
 use Rattle.std.specs.List.{flat_map, starts_with}
 use Rattle.std.specs.Option.{option_and_then, option_map_or}
-use Rattle.std.specs.Ordering.{nat_eq}
 use Rattle.std.specs.Prelude.{Bool, true, false, ℕ, ◌==◌, ◌&&◌, ◌||◌, not, List, [], ◌∷◌, codes, drop}
-use Rattle.std.specs.Prelude.{length, fold, slice_get, Option, Some, None, option_map, unwrap_or}
+use Rattle.std.specs.Prelude.{length, nat_eq, fold, slice_get, Option, Some, None, option_map, unwrap_or}
 use Rattle.std.specs.Prelude.{Result, Ok, Err, if◌then◌else◌}
 use Rattle.std.specs.Result.{result_ok}
 use Rattle.ebpf_base.specs.Faults.{fault_of, first_in, first_some, if_ok, or_else}
@@ -240,6 +239,12 @@ found_fault file programs ts =
     or_else (first_some (tag_fault programs (functions_of_text file)) ts)
     (programs_fault (text_of file) (functions_of_text file) (first_tags ts) (entries programs))
 
+-- the fault of the file first
+abbrev pub read_fault : List ℕ → FinMap text_cmp Program → List CallbackTag
+    → Option ExceptionError
+read_fault file programs ts =
+    or_else (option_map ElfError (first_in (faults file))) (found_fault file programs ts)
+
 -- an object without tags has no callbacks, and its file is not read
 abbrev pub callbacks_with : List ℕ → FinMap text_cmp Program → List CallbackTag
     → FinMap key_cmp FunctionKey
@@ -248,10 +253,7 @@ callbacks_with file programs ts =
 
 abbrev pub fault_with : List ℕ → FinMap text_cmp Program → List CallbackTag
     → Option ExceptionError
-fault_with file programs ts =
-    if length ts == 0
-    then None
-    else or_else (option_map ElfError (first_in (faults file))) (found_fault file programs ts)
+fault_with file programs ts = if length ts == 0 then None else read_fault file programs ts
 
 -- the exception callbacks of an object whose file has these bytes, by the keys of the programs'
 -- functions

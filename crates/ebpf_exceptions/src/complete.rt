@@ -2,7 +2,7 @@
 
 ghost use Rattle.std.specs.Prelude.{◌≡◌, IfOk, OnOk, OnErr};
 ghost use Rattle.ebpf_base.specs.Faults.{Refuses};
-ghost use Rattle.ebpf_exceptions.specs.Callbacks.{callbacks_by, callbacks_fault, callbacks_with, completed_callbacks, fault_with, found_fault, is_exception_memory};
+ghost use Rattle.ebpf_exceptions.specs.Callbacks.{callbacks_by, callbacks_fault, callbacks_with, completed_callbacks, fault_with, found_fault, is_exception_memory, read_fault};
 
 use crate::callbacks::{callbacks_among, check_tags};
 use crate::error::ExceptionError;
@@ -33,6 +33,24 @@ fn callbacks_by(
     callbacks_among(alloc, text.unwrap_or(0), &functions, &first, programs)
 }
 
+/// The callbacks that tags state, in the bytes of a file.
+fn callbacks_in(
+    alloc: Global,
+    file: &[u8],
+    programs: &ByName<Program>,
+    tags: &[CallbackTag],
+) -> Result<ByKey<(usize, u64)>, ExceptionError>
+    ensures callbacks { IfOk result (λ found.
+        found ≡ callbacks_by file.now programs.now tags.now) }
+    ensures fault { Refuses is_exception_memory result
+        (read_fault file.now programs.now tags.now) }
+{
+    match ElfFile::parse(file) {
+        Ok(file) => callbacks_by(alloc, &file, programs, tags),
+        Err(error) => Err(ExceptionError::ElfError(error)),
+    }
+}
+
 /// The callbacks that tags state, in the bytes of a file, which are read if there is a tag.
 fn callbacks_with(
     alloc: Global,
@@ -48,10 +66,7 @@ fn callbacks_with(
     if tags.len() == 0 {
         return Ok(ByKey::new(alloc));
     }
-    match ElfFile::parse(file) {
-        Ok(file) => callbacks_by(alloc, &file, programs, tags),
-        Err(error) => Err(ExceptionError::ElfError(error)),
-    }
+    callbacks_in(alloc, file, programs, tags)
 }
 
 /// The exception callbacks of an object, in the bytes of its file.
