@@ -26,7 +26,11 @@ AWAITED = {
     "crates/ebpf_core_candidates/specs/TypeMatches.antt",
     "crates/ebpf_core_candidates/src/type_match.rt",
     "crates/ebpf_core_relo/specs/PrivateContracts.antt",
+    "crates/ebpf_exceptions/specs/Callbacks.antt",
+    "crates/ebpf_exceptions/src/tags.rt",
     "crates/ebpf_load_info/specs/PrivateContracts.antt",
+    "crates/ebpf_outcomes/specs/PassOutcomes.antt",
+    "crates/ebpf_reloc/specs/References.antt",
 }
 CLAUSE = re.compile(r"( *)((?:ensures|requires|ghost)\*?(?: [\w*]+:?)?(?: =)?) \{ (.*) \}(;|,|)$")
 

@@ -205,7 +205,7 @@ abbrev pub unreached_keys : Object → List ListedLayout → List FunctionKey
 unreached_keys o layouts =
     filter (λ key. not (is_reached layouts key)) (keys_of (entries o.functions))
 
--- ---- the global variables of an object with an arena; none of others, whose list names no variable
+-- ---- the global variables of an object with an arena; none of others, whose list names none
 
 abbrev pub listed_variables : Object → List VariableValue
 listed_variables o = if is_some (first_some named_arena (entries o.maps)) then variables o else []

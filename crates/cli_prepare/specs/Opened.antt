@@ -12,8 +12,8 @@ use Rattle.cli_prepare.specs.KernelValues.{externs_of, with_kconfig}
 use Rattle.cli_prepare.specs.declared.kernel.Kernel.{Kernel}
 use Rattle.cli_prepare.specs.declared.opened.Opened.{Opened}
 
--- The object of a file, in lenient parsing, with its maps completed, with the exception callbacks of
--- its programs, and with its kconfig externs defined by the values of a kernel: it has the map
+-- The object of a file, in lenient parsing, with its maps completed, with the exception callbacks
+-- of its programs, and with its kconfig externs defined by the values of a kernel: it has the map
 -- `.kconfig`, and its symbols of these externs are in that map. An object without such externs,
 -- variables in an arena and exception callbacks is the parsed one.
 pub record IsDefined (file : List ℕ) (kernel : Kernel) (o : Object) : Type 0 where
